@@ -1,0 +1,57 @@
+-- What any writer of texts answers and leaves in its room, by its three ways: refused before 7, too short, written. And the copy, byte by byte.
+-- Assumes nothing.
+use mathlib.Core.Path.{_≡_, refl, sym, ap, _∙_}
+use mathlib.Core.Bool.{Bool, true, false}
+use mathlib.Core.List.{List, [], _∷_, _++_}
+use Prim.Native.Nat.{ℕ, zero, suc, _≤_, _<_}
+use native.Mathlib.Nat.{le-of-suc-le-suc, not-suc-le-zero}
+use native.Mathlib.Omega.{arith}
+use lib.Dec.{eqb, leb}
+use lib.ListN.{length, take, drop, getD, set}
+use lib.Seq.{take-at, drop-at}
+use borrow.Author.Tests.{ne-eqb, le-leb, lt-leb, eqb-false}
+use Rattle.square.specs.declared.Answer.{Answer}
+use Rattle.square.specs.Answer.{accepted, refused, tooShort, overwrite, writeAnswer, writeBytes}
+use Rattle.square.specs.Promises.{RefusedWritesNothing, WritesItsText, AcceptedWritesItsText}
+
+-- an answer and the room at exit are those of a writer
+pub record Written (check : ℕ) (text out : List ℕ) (r : Answer) (exit : List ℕ) : Type 0 where
+  pub answer : r ≡ writeAnswer check text (length out)
+  pub bytes : exit ≡ writeBytes check text out
+
+pub write-refused : (check : ℕ) (text out : List ℕ) → (check ≡ 0 → ⊥) → Written check text out (refused check) out
+unfolding writeAnswer writeBytes
+write-refused check text out h = record { answer = simp (ne-eqb _ _ h); bytes = simp (ne-eqb _ _ h) }
+
+pub write-short : (text out : List ℕ) → length out < length text → Written 0 text out (tooShort (length text)) out
+unfolding writeAnswer writeBytes
+write-short text out h = record { answer = simp (lt-leb _ _ h); bytes = simp (lt-leb _ _ h) }
+
+pub write-fits : (text out : List ℕ) → length text ≤ length out → Written 0 text out (accepted (length text)) (overwrite text out)
+unfolding writeAnswer writeBytes
+write-fits text out h = record { answer = simp (le-leb _ _ h); bytes = simp (le-leb _ _ h) }
+
+-- a turn's store takes the copy of i bytes to the copy of one more
+pub store : (src dst : List ℕ) (i : ℕ) → i < length src → i < length dst → set (take i src ++ drop i dst) i (getD src i 0) ≡ take (suc i) src ++ drop (suc i) dst
+store [] dst i h k = absurd (not-suc-le-zero h)
+store (x ∷ xs) [] i h k = absurd (not-suc-le-zero k)
+store (x ∷ xs) (y ∷ ys) zero h k = refl
+store (x ∷ xs) (y ∷ ys) (suc i) h k = ap (λ (l : List ℕ). x ∷ l) (store xs ys i (le-of-suc-le-suc h) (le-of-suc-le-suc k))
+
+pub refused-writes-nothing : RefusedWritesNothing
+unfolding writeAnswer writeBytes
+refused-writes-nothing check text out h = go (eqb check 0) (leb (length text) (length out)) refl refl
+  where
+    go : (a b : Bool) → eqb check 0 ≡ a → leb (length text) (length out) ≡ b → writeBytes check text out ≡ out
+    go true true e f = absurd (h (simp (e, f)))
+    go true false e f = simp (e, f)
+    go false b e f = simp e
+
+pub accepted-writes-its-text : AcceptedWritesItsText
+unfolding writeAnswer writeBytes
+accepted-writes-its-text check text out h = go (eqb check 0) (leb (length text) (length out)) refl refl
+  where
+    go : (a b : Bool) → eqb check 0 ≡ a → leb (length text) (length out) ≡ b → WritesItsText check text out
+    go true true e f = record { long = simp (e, f); front = simp (e, f) (take-at text (drop (length text) out) (length text) refl); behind = simp (e, f) (drop-at text (drop (length text) out) (length text) refl) }
+    go true false e f = absurd (omega (arith, simp (e, f) at h))
+    go false b e f = absurd (eqb-false check 0 e (simp e at h))

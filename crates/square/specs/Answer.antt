@@ -1,0 +1,53 @@
+-- Answers, as document 01, "Answer numbers", has them: a number of its table and a value. And what any writer of texts answers and leaves in its room.
+-- Assumes nothing.
+use Prim.Native.Nat.{ℕ}
+use mathlib.Core.Bool.{Bool, cond, _&&_}
+use mathlib.Core.List.{List, _++_}
+use lib.Dec.{eqb, leb}
+use lib.ListN.{length, drop}
+use Rattle.square.specs.declared.Answer.{Answer}
+
+-- 1: `InvalidFen`
+abbrev pub invalidFen : ℕ
+invalidFen = 1
+
+-- 2: `InvalidSquare`
+abbrev pub invalidSquare : ℕ
+invalidSquare = 2
+
+-- 5: a record number, square, rank, file, colour, rights number or in-check byte out of range
+abbrev pub outOfRange : ℕ
+outOfRange = 5
+
+-- 7: output too short
+abbrev pub outputTooShort : ℕ
+outputTooShort = 7
+
+-- 0 and the answer
+abbrev pub accepted : ℕ → Answer
+accepted v = record { number = 0; value = v }
+
+-- a number other than 0 and 7, with the value 0
+abbrev pub refused : ℕ → Answer
+refused n = record { number = n; value = 0 }
+
+-- 7 and the length needed
+abbrev pub tooShort : ℕ → Answer
+tooShort n = record { number = outputTooShort; value = n }
+
+-- the value where the test holds, and 5 where it does not
+abbrev pub inRangeOr5 : Bool → ℕ → Answer
+inRangeOr5 ok v = cond ok (accepted v) (refused outOfRange)
+
+-- a writer whose checks before 7 gave `check` (0: all passed) and whose text is `text`: that refusal; 7 with the length of the text where the
+-- room is shorter; else 0 with that length
+unfoldable pub writeAnswer : ℕ → List ℕ → ℕ → Answer
+writeAnswer check text room = cond (eqb check 0) (cond (leb (length text) room) (accepted (length text)) (tooShort (length text))) (refused check)
+
+-- the text over the front of the room
+abbrev pub overwrite : List ℕ → List ℕ → List ℕ
+overwrite text out = text ++ drop (length text) out
+
+-- refused calls write nothing; a writer changes exactly the bytes of its text
+unfoldable pub writeBytes : ℕ → List ℕ → List ℕ → List ℕ
+writeBytes check text out = cond (eqb check 0 && leb (length text) (length out)) (overwrite text out) out

@@ -1,0 +1,5 @@
+pub mod Answer
+pub mod Determined
+pub mod Square
+pub mod Piece
+pub mod Promises

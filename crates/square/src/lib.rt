@@ -1,0 +1,180 @@
+// Answers, squares, colours and pieces as document 01 numbers them, after square.rs, rank.rs, file.rs, color.rs and piece.rs.
+ghost use mathlib.Core.Path.{_≡_};
+ghost use lib.ListN.{length};
+ghost use Rattle.square.specs.Answer.{accepted, refused, writeAnswer, writeBytes};
+ghost use Rattle.square.specs.Square.{makeSquare, rankOf, fileOf, backRank, squareNamed, readSquare, squareText, squareCheck};
+ghost use Rattle.square.specs.Piece.{pieceOf, letterOf};
+
+// What a call answers: its number in document 01's table, and the value that comes with it.
+#[repr(C)]
+pub struct Answer {
+    pub number: u64,
+    pub value: u64,
+}
+
+pub const ACCEPTED: u64 = 0;
+
+pub const INVALID_FEN: u64 = 1;
+
+pub const INVALID_SQUARE: u64 = 2;
+
+pub const OUT_OF_RANGE: u64 = 5;
+
+pub const OUTPUT_TOO_SHORT: u64 = 7;
+
+pub fn accepted(value: u64) -> Answer
+    ensures { λ r. ⌜ r ≡ accepted value ⌝ }
+{
+    Answer {
+        number: ACCEPTED,
+        value,
+    }
+}
+
+pub fn accepted_byte(value: u8) -> Answer
+    ensures { λ r. ⌜ r ≡ accepted value ⌝ }
+{
+    accepted(value as u64)
+}
+
+pub fn refused(number: u64) -> Answer
+    ensures { λ r. ⌜ r ≡ refused number ⌝ }
+{
+    Answer { number, value: 0 }
+}
+
+// Copies a text to the front of `out`, or answers 7 with the text's length and writes nothing.
+pub fn write_text(text: &[u8], out: &mut [u8]) -> Answer
+    ensures answer { λ r. ⌜ r ≡ writeAnswer 0 (now (text .entry)) (length (now (out .entry))) ⌝ }
+    ensures bytes { λ r. ⌜ now (out .exit) ≡ writeBytes 0 (now (text .entry)) (now (out .entry)) ⌝ }
+{
+    let needed = text.len();
+    if out.len() < needed {
+        return Answer {
+            number: OUTPUT_TOO_SHORT,
+            value: needed as u64,
+        };
+    }
+    let mut i: usize = 0;
+    while i < needed {
+        out[i] = text[i];
+        i += 1;
+    }
+    accepted(needed as u64)
+}
+
+pub fn make_square(rank: u8, file: u8) -> Answer
+    ensures { λ r. ⌜ r ≡ makeSquare rank file ⌝ }
+{
+    if 8 <= rank {
+        return refused(OUT_OF_RANGE);
+    }
+    if 8 <= file {
+        return refused(OUT_OF_RANGE);
+    }
+    accepted_byte(rank * 8 + file)
+}
+
+pub fn get_rank(square: u8) -> Answer
+    ensures { λ r. ⌜ r ≡ rankOf square ⌝ }
+{
+    if 64 <= square {
+        return refused(OUT_OF_RANGE);
+    }
+    accepted_byte(square / 8)
+}
+
+pub fn get_file(square: u8) -> Answer
+    ensures { λ r. ⌜ r ≡ fileOf square ⌝ }
+{
+    if 64 <= square {
+        return refused(OUT_OF_RANGE);
+    }
+    accepted_byte(square % 8)
+}
+
+pub fn to_my_backrank(color: u8) -> Answer
+    ensures { λ r. ⌜ r ≡ backRank color ⌝ }
+{
+    if 2 <= color {
+        return refused(OUT_OF_RANGE);
+    }
+    accepted_byte(color * 7)
+}
+
+// The square that the file letter `a` and the rank digit `b` name.
+pub fn from_bytes(a: u8, b: u8) -> Answer
+    ensures { λ r. ⌜ r ≡ squareNamed a b ⌝ }
+{
+    match a {
+        b'a'..=b'h' => match b {
+            b'1'..=b'8' => accepted_byte((b - b'1') * 8 + (a - b'a')),
+            _ => refused(INVALID_SQUARE),
+        },
+        _ => refused(INVALID_SQUARE),
+    }
+}
+
+// The square that the first two bytes of a text name; the rest is dropped.
+pub fn from_str(text: &[u8]) -> Answer
+    ensures { λ r. ⌜ r ≡ readSquare (now (text .entry)) ⌝ }
+{
+    if text.len() < 2 {
+        return refused(INVALID_SQUARE);
+    }
+    from_bytes(text[0], text[1])
+}
+
+// Writes a square's two bytes to the front of `out`. Checks 5, then 7.
+pub fn to_string(square: u8, out: &mut [u8]) -> Answer
+    ensures answer { λ r. ⌜ r ≡ writeAnswer (squareCheck square) (squareText square) (length (now (out .entry))) ⌝ }
+    ensures bytes { λ r. ⌜ now (out .exit) ≡ writeBytes (squareCheck square) (squareText square) (now (out .entry)) ⌝ }
+{
+    if 64 <= square {
+        return refused(OUT_OF_RANGE);
+    }
+    let text = [b'a' + square % 8, b'1' + square / 8];
+    write_text(&text, out)
+}
+
+// The piece code of a FEN letter, 0 for any other byte.
+pub fn piece_of_letter(b: u8) -> u8
+    ensures { λ r. ⌜ r ≡ pieceOf b ⌝ }
+{
+    match b {
+        b'P' => 1,
+        b'N' => 2,
+        b'B' => 3,
+        b'R' => 4,
+        b'Q' => 5,
+        b'K' => 6,
+        b'p' => 7,
+        b'n' => 8,
+        b'b' => 9,
+        b'r' => 10,
+        b'q' => 11,
+        b'k' => 12,
+        _ => 0,
+    }
+}
+
+// The FEN letter of a piece code of 1 to 12, 0 for any other number.
+pub fn letter_of_piece(piece: u8) -> u8
+    ensures { λ r. ⌜ r ≡ letterOf piece ⌝ }
+{
+    match piece {
+        1 => b'P',
+        2 => b'N',
+        3 => b'B',
+        4 => b'R',
+        5 => b'Q',
+        6 => b'K',
+        7 => b'p',
+        8 => b'n',
+        9 => b'b',
+        10 => b'r',
+        11 => b'q',
+        12 => b'k',
+        _ => 0,
+    }
+}
