@@ -1,0 +1,2 @@
+pub mod CastleRights
+pub mod Promises

@@ -1,0 +1,19 @@
+-- What this crate promises of castling rights, each as a statement that can be read by itself.
+-- Assumes nothing.
+use Prim.Native.Nat.{ℕ}
+use mathlib.Core.List.{List}
+use Rattle.square.specs.Answer.{writeAnswer, writeBytes}
+use Rattle.square.specs.Determined.{Determined, Is}
+use Rattle.castle_rights.specs.CastleRights.{fromIndex, hasKing, hasQueen, squareRights, removeRights, addRights, rookRights, lettersText, lettersCheck}
+
+-- the contract of each public function determines its answer and each lent byte
+pub record CastleRightsDetermined : Type 0 where
+  pub from-index : (i : ℕ) → Determined (Is (fromIndex i))
+  pub has-kingside : (r : ℕ) → Determined (Is (hasKing r))
+  pub has-queenside : (r : ℕ) → Determined (Is (hasQueen r))
+  pub square-to-castle-rights : (colour square : ℕ) → Determined (Is (squareRights colour square))
+  pub remove : (r removed : ℕ) → Determined (Is (removeRights r removed))
+  pub add : (r added : ℕ) → Determined (Is (addRights r added))
+  pub to-string : (r colour room : ℕ) → Determined (Is (writeAnswer (lettersCheck r colour) (lettersText r colour) room))
+  pub to-string-bytes : (r colour : ℕ) (out : List ℕ) → Determined (Is (writeBytes (lettersCheck r colour) (lettersText r colour) out))
+  pub rook-square-to-castle-rights : (square : ℕ) → Determined (Is (rookRights square))
