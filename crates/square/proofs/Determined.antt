@@ -1,6 +1,6 @@
 -- A contract that says what the result equals permits one result. Every crate's statements `..Determined` are proved by this law.
 -- Assumes nothing.
-use mathlib.Core.Path.{_≡_, sym, _∙_}
+use mathlib.Core.Path.{sym, _∙_}
 use Rattle.square.specs.Determined.{Determined, Is}
 use Rattle.square.specs.Promises.{SquareDetermined}
 

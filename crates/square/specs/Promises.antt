@@ -2,9 +2,8 @@
 -- Assumes nothing.
 use Prim.Native.Nat.{ℕ, _<_}
 use mathlib.Core.Path.{_≡_}
-use mathlib.Core.List.{List, _++_}
+use mathlib.Core.List.{List}
 use lib.ListN.{length, take, drop}
-use Rattle.square.specs.declared.Answer.{Answer}
 use Rattle.square.specs.Answer.{accepted, refused, writeAnswer, writeBytes}
 use Rattle.square.specs.Square.{makeSquare, rankOf, fileOf, backRank, squareNamed, readSquare, squareText, squareCheck}
 use Rattle.square.specs.Piece.{pieceOf, letterOf}

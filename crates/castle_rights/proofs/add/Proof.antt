@@ -1,36 +1,26 @@
 use borrow.Author.Needs.{needs}
-use borrow.Author.Tests.{lt-ltb, le-ltb, eq-eqb, ne-eqb}
-use mathlib.Core.Path.{_≡_, _∙_, ap}
+use borrow.Author.Tests.{lt-ltb, le-ltb}
+use mathlib.Core.Path.{_∙_, ap}
 use Rattle.square.specs.Answer.{accepted}
 use Rattle.castle_rights.proofs.Bits.{or-adds}
 use Rattle.castle_rights.proofs.add.Statement.{statement}
 use Rattle.castle_rights.proofs.add.Tie as tie
-use Rattle.castle_rights.proofs.add.Reads as reads
-use Rattle.castle_rights.proofs.add.Lts as lts
-use Rattle.square.proofs.accepted_byte.Reads as accepted-byte-reads
-use Rattle.square.proofs.refused.Reads as refused-reads
 
--- src/lib.rt:60:9
 refused-requires : tie.Need-refused-requires
 refused-requires c κs = search needs
 
--- src/lib.rt:60:9
 returns : tie.Need-returns
 returns c = c .refused .ensures ∙ simp (le-ltb _ _ (c .before .if1 .taken))
 
--- src/lib.rt:63:9
 refused-requires-2 : tie.Need-refused-requires-2
 refused-requires-2 c κs = search needs
 
--- src/lib.rt:63:9
 returns-2 : tie.Need-returns-2
 returns-2 c = c .refused2 .ensures ∙ simp (lt-ltb _ _ (c .before .before .if1 .left), le-ltb _ _ (c .before .if2 .taken))
 
--- src/lib.rt:65:5
 accepted-byte-requires : tie.Need-accepted-byte-requires
 accepted-byte-requires c κs = search needs
 
--- src/lib.rt:56:1
 returns-3 : tie.Need-returns-3
 returns-3 c = c .accepted-byte .ensures ∙ simp (lt-ltb _ _ (c .before .before .if1 .left), lt-ltb _ _ (c .before .if2 .left)) (ap accepted (or-adds _ _ (c .before .before .if1 .left) (c .before .if2 .left)))
 

@@ -1,26 +1,18 @@
 use borrow.Author.Needs.{needs}
-use borrow.Author.Tests.{lt-ltb, le-ltb, eq-eqb, ne-eqb}
-use mathlib.Core.Path.{_≡_, _∙_, ap}
+use borrow.Author.Tests.{lt-ltb, le-ltb}
+use mathlib.Core.Path.{_∙_}
 use Rattle.castle_rights.proofs.from_index.Statement.{statement}
 use Rattle.castle_rights.proofs.from_index.Tie as tie
-use Rattle.castle_rights.proofs.from_index.Reads as reads
-use Rattle.castle_rights.proofs.from_index.Lts as lts
-use Rattle.square.proofs.accepted_byte.Reads as accepted-byte-reads
-use Rattle.square.proofs.refused.Reads as refused-reads
 
--- src/lib.rt:72:9
 refused-requires : tie.Need-refused-requires
 refused-requires c κs = search needs
 
--- src/lib.rt:72:9
 returns : tie.Need-returns
 returns c = c .refused .ensures ∙ simp (le-ltb _ _ (c .before .if1 .taken))
 
--- src/lib.rt:74:5
 accepted-byte-requires : tie.Need-accepted-byte-requires
 accepted-byte-requires c κs = search needs
 
--- src/lib.rt:68:1
 returns-2 : tie.Need-returns-2
 returns-2 c = c .accepted-byte .ensures ∙ simp (lt-ltb _ _ (c .before .if1 .left))
 

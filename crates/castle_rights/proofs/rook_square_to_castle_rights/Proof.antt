@@ -1,42 +1,30 @@
 use borrow.Author.Needs.{needs}
-use borrow.Author.Tests.{lt-ltb, le-ltb, eq-eqb, ne-eqb}
-use mathlib.Core.Path.{_≡_, _∙_, ap}
+use borrow.Author.Tests.{lt-ltb, le-ltb, ne-eqb}
+use mathlib.Core.Path.{_∙_}
 use Rattle.castle_rights.proofs.rook_square_to_castle_rights.Statement.{statement}
 use Rattle.castle_rights.proofs.rook_square_to_castle_rights.Tie as tie
-use Rattle.castle_rights.proofs.rook_square_to_castle_rights.Reads as reads
-use Rattle.castle_rights.proofs.rook_square_to_castle_rights.Lts as lts
-use Rattle.square.proofs.accepted.Reads as accepted-reads
-use Rattle.square.proofs.refused.Reads as refused-reads
 
--- src/lib.rt:114:9
 refused-requires : tie.Need-refused-requires
 refused-requires c κs = search needs
 
--- src/lib.rt:114:9
 returns : tie.Need-returns
 returns c = c .refused .ensures ∙ simp (le-ltb _ _ (c .before .if1 .taken))
 
--- src/lib.rt:118:14
 accepted-requires : tie.Need-accepted-requires
 accepted-requires c κs = search needs
 
--- src/lib.rt:119:14
 accepted-requires-2 : tie.Need-accepted-requires-2
 accepted-requires-2 c κs = search needs
 
--- src/lib.rt:120:14
 refused-requires-2 : tie.Need-refused-requires-2
 refused-requires-2 c κs = search needs
 
--- src/lib.rt:110:1
 returns-2 : tie.Need-returns-2
 returns-2 c = c .accepted .ensures ∙ simp (lt-ltb _ _ (c .before .before .if1 .left), c .before .match .keys1)
 
--- src/lib.rt:110:1
 returns-3 : tie.Need-returns-3
 returns-3 c = c .accepted2 .ensures ∙ simp (lt-ltb _ _ (c .before .before .if1 .left), c .before .match .keys2)
 
--- src/lib.rt:110:1
 returns-4 : tie.Need-returns-4
 returns-4 c = c .refused2 .ensures ∙ simp (lt-ltb _ _ (c .before .before .if1 .left), ne-eqb _ _ (c .before .match .rest .0 .1), ne-eqb _ _ (c .before .match .rest .1))
 

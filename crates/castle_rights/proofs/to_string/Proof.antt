@@ -1,47 +1,36 @@
 use borrow.Author.Needs.{needs}
 use borrow.Author.Tests.{lt-ltb, le-ltb, eq-eqb, ne-eqb}
-use mathlib.Core.Path.{_≡_, _∙_, ap}
+use mathlib.Core.Path.{_≡_, _∙_}
 use native.Mathlib.Omega.{arith}
-use Rattle.square.proofs.Writes.{Written, write-refused}
+use Rattle.square.proofs.Writes.{write-refused}
 use Rattle.castle_rights.specs.CastleRights.{lettersOf, lettersText, lettersCheck}
 use Rattle.castle_rights.proofs.to_string.Statement.{statement}
 use Rattle.castle_rights.proofs.to_string.Tie as tie
-use Rattle.castle_rights.proofs.to_string.Reads as reads
-use Rattle.castle_rights.proofs.to_string.Lts as lts
-use Rattle.castle_rights.proofs.write_letters.Reads as write-letters-reads
-use Rattle.square.proofs.refused.Reads as refused-reads
 
--- src/lib.rt:98:9
 refused-requires : tie.Need-refused-requires
 refused-requires c κs = search needs
 
--- src/lib.rt:98:9
 returns : tie.Need-returns
 returns c = let a = c .before .before .before .args in
     let k : lettersCheck (a .rights) (a .color) ≡ 5 = simp (le-ltb _ _ (c .before .if1 .taken)) in
     let w = write-refused 5 (lettersText (a .rights) (a .color)) (a .out .now) (λ e. omega arith) in
     rw k (c .refused .ensures ∙ w .answer, w .bytes)
 
--- src/lib.rt:101:9
 refused-requires-2 : tie.Need-refused-requires-2
 refused-requires-2 c κs = search needs
 
--- src/lib.rt:101:9
 returns-2 : tie.Need-returns-2
 returns-2 c = let a = c .before .before .before .before .args in
     let k : lettersCheck (a .rights) (a .color) ≡ 5 = simp (lt-ltb _ _ (c .before .before .if1 .left), le-ltb _ _ (c .before .if2 .taken)) in
     let w = write-refused 5 (lettersText (a .rights) (a .color)) (a .out .now) (λ e. omega arith) in
     rw k (c .refused2 .ensures ∙ w .answer, w .bytes)
 
--- src/lib.rt:104:9
 write-letters-requires : tie.Need-write-letters-requires
 write-letters-requires c κs = search needs
 
--- src/lib.rt:104:9
 same-length : tie.Need-same-length
 same-length c = search needs
 
--- src/lib.rt:104:9
 returns-3 : tie.Need-returns-3
 unfolding lettersText
 returns-3 c = let a = c .before .before .before .before .before .before .before .before .args in
@@ -49,15 +38,12 @@ returns-3 c = let a = c .before .before .before .before .before .before .before 
     let k : lettersCheck (a .rights) (a .color) ≡ 0 = simp (lt-ltb _ _ (c .before .before .before .before .before .before .if1 .left), lt-ltb _ _ (c .before .before .before .before .before .if2 .left)) in
     rw (h, k) (c .before .before .write-letters .ensures .0, c .before .before .write-letters .ensures .1)
 
--- src/lib.rt:106:5
 write-letters-requires-2 : tie.Need-write-letters-requires-2
 write-letters-requires-2 c κs = search needs
 
--- src/lib.rt:93:1
 same-length-2 : tie.Need-same-length-2
 same-length-2 c = search needs
 
--- src/lib.rt:93:1
 returns-4 : tie.Need-returns-4
 unfolding lettersText
 returns-4 c = let a = c .before .before .before .before .before .before .before .before .args in

@@ -1,101 +1,77 @@
 use borrow.Author.Needs.{needs}
-use borrow.Author.Tests.{lt-ltb, le-ltb, eq-eqb, ne-eqb}
-use mathlib.Core.Path.{_≡_, _∙_, ap}
-use mathlib.Core.List.{List, [], _∷_}
+use mathlib.Core.Path.{_≡_, ap}
+use mathlib.Core.List.{[], _∷_}
 use native.Mathlib.Omega.{arith}
 use Rattle.castle_rights.specs.CastleRights.{lettersOf}
 use Rattle.castle_rights.proofs.write_letters.Statement.{statement}
 use Rattle.castle_rights.proofs.write_letters.Tie as tie
-use Rattle.castle_rights.proofs.write_letters.Reads as reads
-use Rattle.castle_rights.proofs.write_letters.Lts as lts
-use Rattle.square.proofs.write_text.Reads as write-text-reads
 
--- src/lib.rt:85:33
 array-share-prefix-both : tie.Need-array-share-prefix-both
 array-share-prefix-both c = search needs
 
--- src/lib.rt:85:33
 slice-aggregate-write-text : tie.Need-slice-aggregate-write-text
 slice-aggregate-write-text c = search needs
 
--- src/lib.rt:85:14
 write-text-requires : tie.Need-write-text-requires
 write-text-requires c κs = search needs
 
--- src/lib.rt:86:33
 sub-write-text : tie.Need-sub-write-text
 sub-write-text c = search needs
 
--- src/lib.rt:86:33
 part-write-text-start : tie.Need-part-write-text-start
 part-write-text-start c = search needs
 
--- src/lib.rt:86:33
 part-write-text-end : tie.Need-part-write-text-end
 part-write-text-end c = search needs
 
--- src/lib.rt:86:14
 write-text-requires-2 : tie.Need-write-text-requires-2
 write-text-requires-2 c κs = search needs
 
--- src/lib.rt:87:33
 slice-aggregate-write-text-2 : tie.Need-slice-aggregate-write-text-2
 slice-aggregate-write-text-2 c = search needs
 
--- src/lib.rt:87:14
 write-text-requires-3 : tie.Need-write-text-requires-3
 write-text-requires-3 c κs = search needs
 
--- src/lib.rt:88:33
 array-share-prefix-both-2 : tie.Need-array-share-prefix-both-2
 array-share-prefix-both-2 c = search needs
 
--- src/lib.rt:88:33
 slice-aggregate-write-text-3 : tie.Need-slice-aggregate-write-text-3
 slice-aggregate-write-text-3 c = search needs
 
--- src/lib.rt:88:14
 write-text-requires-4 : tie.Need-write-text-requires-4
 write-text-requires-4 c κs = search needs
 
--- src/lib.rt:78:1
 same-length : tie.Need-same-length
 same-length c = search needs
 
--- src/lib.rt:78:1
 returns : tie.Need-returns
 unfolding lettersOf
 returns c = let a = c .before .before .before .before .before .before .before .args in
     let h : lettersOf (a .king) (a .queen) (a .rights) ≡ (a .king ∷ []) = ap (lettersOf (a .king) (a .queen)) (c .before .before .before .before .before .match .keys1) in
     rw h (c .before .before .write-text .ensures .0, c .before .before .write-text .ensures .1)
 
--- src/lib.rt:78:1
 same-length-2 : tie.Need-same-length-2
 same-length-2 c = search needs
 
--- src/lib.rt:78:1
 returns-2 : tie.Need-returns-2
 unfolding lettersOf
 returns-2 c = let a = c .before .before .before .before .before .before .before .before .args in
     let h : lettersOf (a .king) (a .queen) (a .rights) ≡ (a .queen ∷ []) = ap (lettersOf (a .king) (a .queen)) (c .before .before .before .before .before .before .match .keys2) in
     rw h (c .before .before .write-text2 .ensures .0, c .before .before .write-text2 .ensures .1)
 
--- src/lib.rt:78:1
 same-length-3 : tie.Need-same-length-3
 same-length-3 c = search needs
 
--- src/lib.rt:78:1
 returns-3 : tie.Need-returns-3
 unfolding lettersOf
 returns-3 c = let a = c .before .before .before .before .before .before .before .args in
     let h : lettersOf (a .king) (a .queen) (a .rights) ≡ (a .king ∷ a .queen ∷ []) = ap (lettersOf (a .king) (a .queen)) (c .before .before .before .before .before .match .keys3) in
     rw h (c .before .before .write-text3 .ensures .0, c .before .before .write-text3 .ensures .1)
 
--- src/lib.rt:78:1
 same-length-4 : tie.Need-same-length-4
 same-length-4 c = search needs
 
--- src/lib.rt:78:1
 returns-4 : tie.Need-returns-4
 unfolding lettersOf
 returns-4 c = let a = c .before .before .before .before .before .before .before .args in

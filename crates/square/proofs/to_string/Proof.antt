@@ -1,49 +1,36 @@
 use borrow.Author.Needs.{needs}
-use borrow.Author.Tests.{lt-ltb, le-ltb, le-leb, lt-leb}
-use mathlib.Core.Path.{_≡_, _∙_, sym, ap}
-use mathlib.Core.Path.{refl}
+use borrow.Author.Tests.{lt-ltb, le-ltb}
+use mathlib.Core.Path.{_≡_, _∙_}
 use native.Mathlib.Omega.{arith}
 use Rattle.square.specs.Square.{squareText, squareCheck}
-use Rattle.square.proofs.Writes.{Written, write-refused, write-short, write-fits}
-use Rattle.square.proofs.Writes.{Written, write-refused, write-short, write-fits}
+use Rattle.square.proofs.Writes.{write-refused}
+use Rattle.square.proofs.Writes.{write-refused}
 use Rattle.square.proofs.to_string.Statement.{statement}
 use Rattle.square.proofs.to_string.Tie as tie
-use Rattle.square.proofs.to_string.Reads as reads
-use Rattle.square.proofs.to_string.Lts as lts
-use Rattle.square.proofs.refused.Reads as refused-reads
-use Rattle.square.proofs.write_text.Reads as write-text-reads
 
--- src/lib.rt:124:9
 refused-requires : tie.Need-refused-requires
 refused-requires c κs = search needs
 
--- src/lib.rt:124:9
 returns : tie.Need-returns
 returns c = let h : squareCheck (c .before .before .before .args .square) ≡ 5 = simp (le-ltb _ _ (c .before .if1 .taken)) in
     let w = write-refused 5 (squareText (c .before .before .before .args .square)) (c .before .before .before .args .out .now) (λ e. omega arith) in
     rw h (c .refused .ensures ∙ w .answer, w .bytes)
 
--- src/lib.rt:126:17
 add-t6 : tie.Need-add-t6
 add-t6 c = search needs
 
--- src/lib.rt:126:36
 add-t8 : tie.Need-add-t8
 add-t8 c = search needs
 
--- src/lib.rt:127:16
 slice-aggregate-write-text : tie.Need-slice-aggregate-write-text
 slice-aggregate-write-text c = search needs
 
--- src/lib.rt:127:5
 write-text-requires : tie.Need-write-text-requires
 write-text-requires c κs = search needs
 
--- src/lib.rt:119:1
 same-length : tie.Need-same-length
 same-length c = search needs
 
--- src/lib.rt:119:1
 returns-2 : tie.Need-returns-2
 returns-2 c = let h : squareCheck (c .before .before .before .before .before .before .before .args .square) ≡ 0 = simp (lt-ltb _ _ (c .before .before .before .before .before .if1 .left)) in rw h (c .before .before .write-text .ensures .0, c .before .before .write-text .ensures .1)
 

@@ -1,6 +1,5 @@
 use borrow.Author.Needs.{needs}
-use borrow.Author.Tests.{lt-ltb, le-ltb, le-leb, lt-leb}
-use mathlib.Core.Path.{_≡_, _∙_, sym, ap}
+use mathlib.Core.Path.{_≡_, _∙_, ap}
 use Prim.Native.Nat.{ℕ, _-_, _≤_, _<_, zero-le}
 use mathlib.Core.List.{List, _++_}
 use mathlib.Core.Path.{refl}
@@ -9,14 +8,11 @@ use native.Mathlib.Numerals.{add-one}
 use native.Mathlib.Omega.{arith}
 use lib.ListN.{length, take, drop, getD, set, length-set}
 use lib.Seq.{take-length}
-use Rattle.square.proofs.Writes.{Written, write-short, write-fits, store}
-use Rattle.square.proofs.Writes.{Written, write-short, write-fits, store}
-use Rattle.square.proofs.Writes.{Written, write-short, write-fits, store}
+use Rattle.square.proofs.Writes.{write-short, write-fits, store}
+use Rattle.square.proofs.Writes.{write-short, write-fits, store}
+use Rattle.square.proofs.Writes.{write-short, write-fits, store}
 use Rattle.square.proofs.write_text.Statement.{statement}
 use Rattle.square.proofs.write_text.Tie as tie
-use Rattle.square.proofs.write_text.Reads as reads
-use Rattle.square.proofs.write_text.Lts as lts
-use Rattle.square.proofs.accepted.Reads as accepted-reads
 
 abbrev Inv-loop : tie.InvT-loop
 Inv-loop text out₀ needed i₀ out i = (i ≤ length text) × (length out ≡ length out₀) × (out ≡ take i text ++ drop i out₀)
@@ -24,31 +20,24 @@ Inv-loop text out₀ needed i₀ out i = (i ≤ length text) × (length out ≡ 
 abbrev μ-loop : tie.MeasureT-loop
 μ-loop text out₀ needed i₀ out i = needed - i
 
--- src/lib.rt:43:9
 returns : tie.Need-returns Inv-loop μ-loop
 returns c = let w = write-short (c .before .before .before .args .text .now) (c .before .before .before .args .out .now) (c .if1 .taken) in (w .answer, w .bytes)
 
--- src/lib.rt:49:5
 loop-holds : tie.Need-loop-holds Inv-loop μ-loop
 loop-holds c = (zero-le, refl, refl)
 
--- src/lib.rt:50:18
 shared-slice-read-out : tie.Need-shared-slice-read-out Inv-loop μ-loop
 shared-slice-read-out c = omega arith
 
--- src/lib.rt:50:9
 slice-write-out : tie.Need-slice-write-out Inv-loop μ-loop
 slice-write-out c = omega arith
 
--- src/lib.rt:51:9
 add-i : tie.Need-add-i Inv-loop μ-loop
 add-i c = search needs
 
--- src/lib.rt:49:5
 loop-less : tie.Need-loop-less Inv-loop μ-loop
 loop-less c = search needs
 
--- src/lib.rt:49:5
 loop-again : tie.Need-loop-again Inv-loop μ-loop
 loop-again c =
     let text = c .before .before .before .before .before .before .args .text .now in
@@ -61,15 +50,12 @@ loop-again c =
       ap (λ (l : List ℕ). set l i (getD text i 0)) (c .before .before .loop .inv .2) ∙ rw (add-one i) (store text out i h k),
     )
 
--- src/lib.rt:53:5
 accepted-requires : tie.Need-accepted-requires Inv-loop μ-loop
 accepted-requires c κs = search needs
 
--- src/lib.rt:37:1
 same-length : tie.Need-same-length Inv-loop μ-loop
 same-length c = c .before .before .loop .inv .1
 
--- src/lib.rt:37:1
 returns-2 : tie.Need-returns-2 Inv-loop μ-loop
 returns-2 c =
     let text = c .before .before .before .before .before .before .args .text .now in

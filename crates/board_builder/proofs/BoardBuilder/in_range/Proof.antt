@@ -1,0 +1,48 @@
+use borrow.Author.Needs.{needs}
+use borrow.Author.Tests.{le-leb, lt-leb, eq-eqb}
+use mathlib.Core.Path.{_≡_, _∙_, ap}
+use Rattle.board_builder.specs.BoardBuilder.{inRange}
+use Prim.Native.Nat.{ℕ}
+use lib.Dec.{leb}
+use lib.ListN.{length}
+use Rattle.board_builder.proofs.Maxima.{largest-at-most}
+use Rattle.board_builder.proofs.Maxima.{largest-at-most}
+use Rattle.board_builder.proofs.BoardBuilder.in_range.Statement.{statement}
+use Rattle.board_builder.proofs.BoardBuilder.in_range.Tie as tie
+
+returns : tie.Need-returns
+unfolding inRange
+returns c = 
+    let long : length (c .before .before .before .args .self .pieces) ≡ 64 = search needs in
+    simp (eq-eqb _ _ long, lt-leb _ _ (c .if1 .taken))
+
+returns-2 : tie.Need-returns-2
+unfolding inRange
+returns-2 c = 
+    let long : length (c .before .before .before .before .before .args .self .pieces) ≡ 64 = search needs in
+    simp (eq-eqb _ _ long, le-leb _ _ (c .before .before .if1 .left), lt-leb _ _ (c .if2 .taken))
+
+returns-3 : tie.Need-returns-3
+unfolding inRange
+returns-3 c = 
+    let long : length (c .before .before .before .before .before .before .before .args .self .pieces) ≡ 64 = search needs in
+    simp (eq-eqb _ _ long, le-leb _ _ (c .before .before .before .before .if1 .left), le-leb _ _ (c .before .before .if2 .left), lt-leb _ _ (c .if3 .taken))
+
+returns-4 : tie.Need-returns-4
+unfolding inRange
+returns-4 c = 
+    let long : length (c .before .before .before .before .before .before .before .before .before .args .self .pieces) ≡ 64 = search needs in
+    simp (eq-eqb _ _ long, le-leb _ _ (c .before .before .before .before .before .before .if1 .left), le-leb _ _ (c .before .before .before .before .if2 .left), le-leb _ _ (c .before .before .if3 .left), lt-leb _ _ (c .if4 .taken))
+
+largest-requires : tie.Need-largest-requires
+largest-requires c κs = search needs
+
+returns-5 : tie.Need-returns-5
+unfolding inRange
+returns-5 c = 
+    let long : length (c .before .before .before .before .before .before .before .before .before .before .args .self .pieces) ≡ 64 = search needs in
+    simp (eq-eqb _ _ long, le-leb _ _ (c .before .before .before .before .before .before .before .if1 .left), le-leb _ _ (c .before .before .before .before .before .if2 .left), le-leb _ _ (c .before .before .before .if3 .left), le-leb _ _ (c .before .if4 .left)) (ap (λ (m : ℕ). leb m 12) (c .largest .ensures) ∙ largest-at-most 12 (c .before .before .before .before .before .before .before .before .before .before .args .self .pieces))
+
+pub in-range-spec : {M : Type 1} → statement M
+in-range-spec =
+    tie.close (tie.spec returns returns-2 returns-3 returns-4 largest-requires returns-5)

@@ -1,0 +1,48 @@
+use borrow.Author.Needs.{needs}
+use borrow.Author.Tests.{le-leb, lt-leb, not-true, not-false}
+use mathlib.Core.Path.{_≡_, _∙_, sym}
+use mathlib.Core.Bool.{true, false}
+use Rattle.board_builder.specs.BoardBuilder.{inRange}
+use Rattle.board_builder.proofs.Stepping.{step-record, step-refused, step-made}
+use Rattle.board_builder.proofs.Stepping.{step-record, step-refused, step-made}
+use Rattle.board_builder.proofs.BoardBuilder.side_to_move.Statement.{statement}
+use Rattle.board_builder.proofs.BoardBuilder.side_to_move.Tie as tie
+
+in-range-requires : tie.Need-in-range-requires
+in-range-requires c κs = search needs
+
+stepped-requires : tie.Need-stepped-requires
+stepped-requires c κs = search needs
+
+returns : tie.Need-returns
+returns c = 
+    let bad : inRange (c .before .before .before .args .self) ≡ false = sym (c .before .before .in-range .ensures) ∙ not-true (c .before .before .in-range .result) (c .before .if1 .taken) in
+    c .stepped .ensures ∙ step-record _ _ _ bad
+
+stepped-requires-2 : tie.Need-stepped-requires-2
+stepped-requires-2 c κs = search needs
+
+returns-2 : tie.Need-returns-2
+returns-2 c = 
+    let good : inRange (c .before .before .before .before .args .self) ≡ true = sym (c .before .before .before .in-range .ensures) ∙ not-false (c .before .before .before .in-range .result) (c .before .before .if1 .left) in
+    c .stepped2 .ensures ∙ step-refused _ _ _ good (simp (lt-leb _ _ (c .before .if2 .taken)))
+
+stepped-requires-3 : tie.Need-stepped-requires-3
+stepped-requires-3 c κs = search needs
+
+returns-3 : tie.Need-returns-3
+returns-3 c = 
+    let good : inRange (c .before .before .before .before .args .self) ≡ true = sym (c .before .before .before .in-range .ensures) ∙ not-false (c .before .before .before .in-range .result) (c .before .before .if1 .left) in
+    c .stepped3 .ensures ∙ step-made _ _ _ good (simp (le-leb _ _ (c .before .if2 .left)))
+
+pub side-to-move-spec : {M : Type 1} → statement M
+side-to-move-spec =
+    tie.close
+    (tie.spec
+    in-range-requires
+    stepped-requires
+    returns
+    stepped-requires-2
+    returns-2
+    stepped-requires-3
+    returns-3)

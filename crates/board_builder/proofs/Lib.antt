@@ -1,0 +1,5 @@
+pub mod Maxima
+pub mod Ranges
+pub mod Stepping
+pub mod Numbers
+pub mod Determined

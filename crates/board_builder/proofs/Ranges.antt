@@ -1,0 +1,83 @@
+-- What a record in range says of each of its numbers, for the crates above.
+-- Assumes nothing.
+use mathlib.Core.Path.{_≡_, refl}
+use mathlib.Core.Bool.{Bool, true, false, _&&_, false≢true}
+use mathlib.Core.List.{List, [], _∷_}
+use Prim.Native.Nat.{ℕ, zero, suc, _≤_}
+use lib.Dec.{eqb, leb}
+use lib.ListN.{length, take, drop, set}
+use borrow.Author.Tests.{leb-true, eqb-true, eq-eqb, le-leb}
+use Rattle.board_builder.specs.declared.BoardBuilder.{BoardBuilder}
+use Rattle.board_builder.specs.BoardBuilder.{squares, allAtMost, inRange}
+
+pub both-left : (a b : Bool) → a && b ≡ true → a ≡ true
+both-left true b e = refl
+both-left false b e = e
+
+pub both-right : (a b : Bool) → a && b ≡ true → b ≡ true
+both-right true b e = e
+both-right false b e = absurd (false≢true e)
+
+pub record InRange (b : BoardBuilder) : Type 0 where
+  pub long : length (b .pieces) ≡ squares
+  pub side : b .«side_to_move» ≤ 1
+  pub white : b .«white_castle_rights» ≤ 3
+  pub black : b .«black_castle_rights» ≤ 3
+  pub file : b .«en_passant» ≤ 8
+  pub codes : allAtMost 12 (b .pieces) ≡ true
+
+pub in-range : (b : BoardBuilder) → inRange b ≡ true → InRange b
+unfolding inRange
+in-range b e =
+    let codes = allAtMost 12 (b .pieces) in
+    let file = leb (b .«en_passant») 8 in
+    let black = leb (b .«black_castle_rights») 3 in
+    let white = leb (b .«white_castle_rights») 3 in
+    let side = leb (b .«side_to_move») 1 in
+    let long = eqb (length (b .pieces)) squares in
+    let e1 = both-right long (side && (white && (black && (file && codes)))) e in
+    let e2 = both-right side (white && (black && (file && codes))) e1 in
+    let e3 = both-right white (black && (file && codes)) e2 in
+    let e4 = both-right black (file && codes) e3 in
+    record {
+      long = eqb-true _ _ (both-left long (side && (white && (black && (file && codes)))) e);
+      side = leb-true _ _ (both-left side (white && (black && (file && codes))) e1);
+      white = leb-true _ _ (both-left white (black && (file && codes)) e2);
+      black = leb-true _ _ (both-left black (file && codes) e3);
+      file = leb-true _ _ (both-left file codes e4);
+      codes = both-right file codes e4;
+    }
+
+pub range-holds : (b : BoardBuilder) → InRange b → inRange b ≡ true
+unfolding inRange
+range-holds b r = simp (eq-eqb _ _ (r .long), le-leb _ _ (r .side), le-leb _ _ (r .white), le-leb _ _ (r .black), le-leb _ _ (r .file)) (r .codes)
+
+-- the first number is at most n, and so are the rest
+pub most-head : (n x : ℕ) (xs : List ℕ) → allAtMost n (x ∷ xs) ≡ true → x ≤ n
+unfolding allAtMost
+most-head n x xs e = leb-true x n (both-left (leb x n) (allAtMost n xs) e)
+
+pub most-tail : (n x : ℕ) (xs : List ℕ) → allAtMost n (x ∷ xs) ≡ true → allAtMost n xs ≡ true
+unfolding allAtMost
+most-tail n x xs e = both-right (leb x n) (allAtMost n xs) e
+
+pub most-cons : (n x : ℕ) (xs : List ℕ) → x ≤ n → allAtMost n xs ≡ true → allAtMost n (x ∷ xs) ≡ true
+unfolding allAtMost
+most-cons n x xs h e = simp (le-leb _ _ h) e
+
+-- so are those of a part, and after a store
+pub most-drop : (m n : ℕ) (xs : List ℕ) → allAtMost n xs ≡ true → allAtMost n (drop m xs) ≡ true
+most-drop zero n xs e = e
+most-drop (suc m) n [] e = e
+most-drop (suc m) n (x ∷ xs) e = most-drop m n xs (most-tail n x xs e)
+
+pub most-take : (m n : ℕ) (xs : List ℕ) → allAtMost n xs ≡ true → allAtMost n (take m xs) ≡ true
+unfolding allAtMost
+most-take zero n xs e = refl
+most-take (suc m) n [] e = e
+most-take (suc m) n (x ∷ xs) e = most-cons n x (take m xs) (most-head n x xs e) (most-take m n xs (most-tail n x xs e))
+
+pub most-set : (n : ℕ) (xs : List ℕ) (i v : ℕ) → v ≤ n → allAtMost n xs ≡ true → allAtMost n (set xs i v) ≡ true
+most-set n [] i v h e = e
+most-set n (x ∷ xs) zero v h e = most-cons n v xs h (most-tail n x xs e)
+most-set n (x ∷ xs) (suc i) v h e = most-cons n x (set xs i v) (most-head n x xs e) (most-set n xs i v h (most-tail n x xs e))

@@ -1,0 +1,4 @@
+pub mod BoardBuilder
+pub mod Steps
+pub mod Getters
+pub mod Promises

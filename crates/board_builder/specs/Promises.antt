@@ -1,0 +1,55 @@
+-- What this crate promises of the board record and its builder, each as a statement that can be read by itself.
+-- Assumes nothing.
+use Prim.Native.Nat.{ℕ}
+use mathlib.Core.Path.{_≡_}
+use mathlib.Core.Bool.{Bool, true, false, _&&_}
+use lib.ListN.{length}
+use Rattle.square.specs.Answer.{outOfRange}
+use Rattle.square.specs.Determined.{Determined, Is}
+use Rattle.board_builder.specs.declared.BoardBuilder.{BoardBuilder}
+use Rattle.board_builder.specs.declared.Stepped.{Stepped}
+use Rattle.board_builder.specs.BoardBuilder.{board, numbers, recordSize, inRange, emptyBoard, initialBoard}
+use Rattle.board_builder.specs.Steps.{stepped, step, setPiece, clearSquare, setSide, setRights, setEnPassant}
+use Rattle.board_builder.specs.Getters.{pieceOn, sideOf, rightsOf, enPassantSquare}
+
+-- a step hands its record back with 5, or answers 0 with a record in range
+pub record KeepsRange (old : BoardBuilder) (r : Stepped) : Type 0 where
+  pub refused : (r .number ≡ 0 → ⊥) → r ≡ stepped outOfRange old
+  pub made : r .number ≡ 0 → (inRange old ≡ true) × (inRange (r .board) ≡ true)
+
+-- .. whichever step it is
+pub record StepsKeepRange (b : BoardBuilder) : Type 0 where
+  pub piece : (square code : ℕ) → KeepsRange b (setPiece b square code)
+  pub clear-square : (square : ℕ) → KeepsRange b (clearSquare b square)
+  pub side-to-move : (colour : ℕ) → KeepsRange b (setSide b colour)
+  pub castle-rights : (colour rights : ℕ) → KeepsRange b (setRights b colour rights)
+  pub en-passant : (file : ℕ) → KeepsRange b (setEnPassant b file)
+
+abbrev pub EveryStepKeepsRange : Type 0
+EveryStepKeepsRange = (b : BoardBuilder) → StepsKeepRange b
+
+-- a step given any number out of range, its record's too, hands its record back with 5
+abbrev pub OutOfRangeHandsBack : Type 0
+OutOfRangeHandsBack = (ok : Bool) (new old : BoardBuilder) → inRange old && ok ≡ false → step ok new old ≡ stepped outOfRange old
+
+-- a record in range has 68 numbers, and these are the record
+abbrev pub SixtyEightNumbers : Type 0
+SixtyEightNumbers = (b : BoardBuilder) → inRange b ≡ true → length (numbers b) ≡ recordSize
+
+abbrev pub NumbersAreTheRecord : Type 0
+NumbersAreTheRecord = (a b : BoardBuilder) → inRange a ≡ true → inRange b ≡ true → numbers a ≡ numbers b → a ≡ b
+
+-- the contract of each public function determines its answer
+pub record BoardBuilderDetermined (b : BoardBuilder) : Type 0 where
+  pub new : Determined (Is emptyBoard)
+  pub default : Determined (Is initialBoard)
+  pub in-range : Determined (Is (inRange b))
+  pub get-piece : (square : ℕ) → Determined (Is (pieceOn b square))
+  pub get-side-to-move : Determined (Is (sideOf b))
+  pub get-castle-rights : (colour : ℕ) → Determined (Is (rightsOf b colour))
+  pub get-en-passant : Determined (Is (enPassantSquare b))
+  pub piece : (square code : ℕ) → Determined (Is (setPiece b square code))
+  pub clear-square : (square : ℕ) → Determined (Is (clearSquare b square))
+  pub side-to-move : (colour : ℕ) → Determined (Is (setSide b colour))
+  pub castle-rights : (colour rights : ℕ) → Determined (Is (setRights b colour rights))
+  pub en-passant : (file : ℕ) → Determined (Is (setEnPassant b file))

@@ -1,0 +1,232 @@
+// The board record and its builder, after board_builder.rs: 64 piece codes, the side to move, each side's castling rights, the en passant file.
+// A step given a number out of range, its record's too, hands its record back with 5.
+mod initial;
+
+use initial::INITIAL;
+use square::ACCEPTED;
+use square::Answer;
+use square::OUT_OF_RANGE;
+ghost use mathlib.Core.Path.{_≡_};
+ghost use Prim.Native.Nat.{max};
+ghost use Rattle.board_builder.specs.BoardBuilder.{largest, inRange, emptyBoard, initialBoard};
+ghost use Rattle.board_builder.specs.Steps.{stepped, setPiece, clearSquare, setSide, setRights, setEnPassant};
+ghost use Rattle.board_builder.specs.Getters.{pieceOn, sideOf, rightsOf, enPassantSquare};
+
+#[repr(C)]
+pub struct BoardBuilder {
+    pub pieces: [u8; 64],
+    pub side_to_move: u8,
+    pub white_castle_rights: u8,
+    pub black_castle_rights: u8,
+    pub en_passant: u8,
+}
+
+// An answer number, and the record after the step.
+#[repr(C)]
+pub struct Stepped {
+    pub number: u64,
+    pub board: BoardBuilder,
+}
+
+fn larger(a: u8, b: u8) -> u8
+    ensures { λ r. ⌜ r ≡ max a b ⌝ }
+{
+    if a < b { b } else { a }
+}
+
+// The largest piece code: one maximum over all squares, with no branch, is the fastest range test.
+fn largest(pieces: [u8; 64]) -> u8
+    ensures { λ r. ⌜ r ≡ largest pieces ⌝ }
+{
+    let mut most: u8 = 0;
+    let mut i: usize = 0;
+    while i < 64 {
+        most = larger(most, pieces[i]);
+        i += 1;
+    }
+    most
+}
+
+impl BoardBuilder {
+    pub fn new() -> Self
+        ensures { λ r. ⌜ r ≡ emptyBoard ⌝ }
+    {
+        BoardBuilder {
+            pieces: [0u8; 64],
+            side_to_move: 0,
+            white_castle_rights: 0,
+            black_castle_rights: 0,
+            en_passant: 0,
+        }
+    }
+
+    // The initial position.
+    pub fn default() -> Self
+        ensures { λ r. ⌜ r ≡ initialBoard ⌝ }
+    {
+        BoardBuilder {
+            pieces: INITIAL,
+            side_to_move: 0,
+            white_castle_rights: 3,
+            black_castle_rights: 3,
+            en_passant: 0,
+        }
+    }
+
+    pub fn in_range(self) -> bool
+        ensures { λ r. ⌜ r ≡ inRange self ⌝ }
+    {
+        let pieces = self.pieces;
+        if 1 < self.side_to_move {
+            return false;
+        }
+        if 3 < self.white_castle_rights {
+            return false;
+        }
+        if 3 < self.black_castle_rights {
+            return false;
+        }
+        if 8 < self.en_passant {
+            return false;
+        }
+        largest(pieces) <= 12
+    }
+
+    // The piece code on a square, 0 for none.
+    pub fn get_piece(self, square: u8) -> Answer
+        ensures { λ r. ⌜ r ≡ pieceOn self square ⌝ }
+    {
+        if !self.in_range() {
+            return square::refused(OUT_OF_RANGE);
+        }
+        if 63 < square {
+            return square::refused(OUT_OF_RANGE);
+        }
+        square::accepted_byte(self.pieces[square as usize])
+    }
+
+    pub fn get_side_to_move(self) -> Answer
+        ensures { λ r. ⌜ r ≡ sideOf self ⌝ }
+    {
+        if !self.in_range() {
+            return square::refused(OUT_OF_RANGE);
+        }
+        square::accepted_byte(self.side_to_move)
+    }
+
+    pub fn get_castle_rights(self, color: u8) -> Answer
+        ensures { λ r. ⌜ r ≡ rightsOf self color ⌝ }
+    {
+        if !self.in_range() {
+            return square::refused(OUT_OF_RANGE);
+        }
+        match color {
+            0 => square::accepted_byte(self.white_castle_rights),
+            1 => square::accepted_byte(self.black_castle_rights),
+            _ => square::refused(OUT_OF_RANGE),
+        }
+    }
+
+    // The en passant square, on rank 6 with white to move and rank 3 with black; 0 for none, since a1 is no such square.
+    pub fn get_en_passant(self) -> Answer
+        ensures { λ r. ⌜ r ≡ enPassantSquare self ⌝ }
+    {
+        if !self.in_range() {
+            return square::refused(OUT_OF_RANGE);
+        }
+        let file = self.en_passant;
+        if file == 0 {
+            return square::accepted(0);
+        }
+        if self.side_to_move == 0 {
+            return square::accepted_byte(5 * 8 + (file - 1));
+        }
+        square::accepted_byte(2 * 8 + (file - 1))
+    }
+
+    fn stepped(self, number: u64) -> Stepped
+        ensures { λ r. ⌜ r ≡ stepped number self ⌝ }
+    {
+        Stepped { number, board: self }
+    }
+
+    pub fn side_to_move(mut self, color: u8) -> Stepped
+        ensures { λ r. ⌜ r ≡ setSide self color ⌝ }
+    {
+        if !self.in_range() {
+            return self.stepped(OUT_OF_RANGE);
+        }
+        if 1 < color {
+            return self.stepped(OUT_OF_RANGE);
+        }
+        self.side_to_move = color;
+        self.stepped(ACCEPTED)
+    }
+
+    pub fn castle_rights(mut self, color: u8, rights: u8) -> Stepped
+        ensures { λ r. ⌜ r ≡ setRights self color rights ⌝ }
+    {
+        if !self.in_range() {
+            return self.stepped(OUT_OF_RANGE);
+        }
+        if 3 < rights {
+            return self.stepped(OUT_OF_RANGE);
+        }
+        if 1 < color {
+            return self.stepped(OUT_OF_RANGE);
+        }
+        if color == 0 {
+            self.white_castle_rights = rights;
+            return self.stepped(ACCEPTED);
+        }
+        self.black_castle_rights = rights;
+        self.stepped(ACCEPTED)
+    }
+
+    // Sets a man of code 1 to 12 on a square, over what stood there.
+    pub fn piece(mut self, square: u8, code: u8) -> Stepped
+        ensures { λ r. ⌜ r ≡ setPiece self square code ⌝ }
+    {
+        if !self.in_range() {
+            return self.stepped(OUT_OF_RANGE);
+        }
+        if 63 < square {
+            return self.stepped(OUT_OF_RANGE);
+        }
+        if code == 0 {
+            return self.stepped(OUT_OF_RANGE);
+        }
+        if 12 < code {
+            return self.stepped(OUT_OF_RANGE);
+        }
+        self.pieces[square as usize] = code;
+        self.stepped(ACCEPTED)
+    }
+
+    pub fn clear_square(mut self, square: u8) -> Stepped
+        ensures { λ r. ⌜ r ≡ clearSquare self square ⌝ }
+    {
+        if !self.in_range() {
+            return self.stepped(OUT_OF_RANGE);
+        }
+        if 63 < square {
+            return self.stepped(OUT_OF_RANGE);
+        }
+        self.pieces[square as usize] = 0;
+        self.stepped(ACCEPTED)
+    }
+
+    // Sets the en passant file, 1 to 8 for a to h, or clears it with 0.
+    pub fn en_passant(mut self, file: u8) -> Stepped
+        ensures { λ r. ⌜ r ≡ setEnPassant self file ⌝ }
+    {
+        if !self.in_range() {
+            return self.stepped(OUT_OF_RANGE);
+        }
+        if 8 < file {
+            return self.stepped(OUT_OF_RANGE);
+        }
+        self.en_passant = file;
+        self.stepped(ACCEPTED)
+    }
+}
