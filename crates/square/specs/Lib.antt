@@ -1,4 +1,5 @@
 pub mod Answer
+pub mod Ascii
 pub mod Determined
 pub mod Square
 pub mod Piece

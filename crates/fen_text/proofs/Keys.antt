@@ -1,0 +1,155 @@
+-- One key: the writer tells records apart, and the reader accepts only records in range; so two accepted texts have one key exactly if they read
+-- to one record.
+-- Assumes nothing.
+use mathlib.Core.Path.{_≡_, refl, sym, ap, _∙_}
+use mathlib.Core.Bool.{Bool, true, false, cond, _&&_, _||_}
+use mathlib.Core.List.{List, [], _∷_}
+use Prim.Native.Nat.{ℕ, _+_, _-_, _%_, _≤_, _<_}
+use native.Mathlib.Omega.{arith}
+use lib.Dec.{eqb, ltb, lit≤}
+use lib.ListN.{length, take, set, length-set, length-replicate, replicate}
+use borrow.Author.Tests.{ltb-true}
+use Rattle.square.specs.declared.Answer.{Answer}
+use Rattle.square.specs.Square.{squareOf, between, readSquare}
+use Rattle.square.specs.Piece.{pieceOf}
+use Rattle.castle_rights.specs.CastleRights.{rights}
+use Rattle.square.proofs.Writes.{accepted-writes-its-text}
+use Rattle.board_builder.specs.declared.BoardBuilder.{BoardBuilder}
+use Rattle.board_builder.specs.BoardBuilder.{squares, allAtMost, inRange}
+use Rattle.board_builder.proofs.Ranges.{both-left, both-right, InRange, range-holds, most-set}
+use Rattle.fen_text.specs.declared.Fen.{Fen}
+use Rattle.fen_text.specs.Token.{occurs, tokens}
+use Rattle.fen_text.specs.Placement.{Placement, start, down, skip, fill, spoil, placeCode, placeByte, placeAll}
+use Rattle.fen_text.specs.Read.{sideOf, rightsOf, fileRead, enPassantOf, noFen, fenOf, assembled, ofTokens, readFen}
+use Rattle.fen_text.specs.Write.{fenText}
+use Rattle.fen_text.specs.Promises.{OneKey, ReadsInRange, RefusedIsZero, KeysTellRecords, KeyOfKey}
+use Rattle.fen_text.proofs.Cases.{cond-both}
+use Rattle.fen_text.proofs.ReadBack.{read-back}
+
+board-of : (a b : BoardBuilder) → fenOf a ≡ fenOf b → a ≡ b
+board-of a b e = ap (λ (f : Fen). f .board) e
+
+pub one-key : OneKey
+one-key a b r s e = board-of a b (sym (read-back a r) ∙ ap readFen e ∙ read-back b s)
+
+-- ---- what is read is in range: 64 squares, each with a code of at most 12
+record Sound (p : Placement) : Type 0 where
+  long : length (p .pieces) ≡ squares
+  codes : allAtMost 12 (p .pieces) ≡ true
+
+piece-most : (b : ℕ) → pieceOf b ≤ 12
+unfolding pieceOf
+piece-most b =
+    most (eqb b 80) (lit≤ tt)
+    (most (eqb b 78) (lit≤ tt)
+    (most (eqb b 66) (lit≤ tt)
+    (most (eqb b 82) (lit≤ tt)
+    (most (eqb b 81) (lit≤ tt)
+    (most (eqb b 75) (lit≤ tt)
+    (most (eqb b 112) (lit≤ tt)
+    (most (eqb b 110) (lit≤ tt)
+    (most (eqb b 98) (lit≤ tt)
+    (most (eqb b 114) (lit≤ tt)
+    (most (eqb b 113) (lit≤ tt)
+    (most (eqb b 107) (lit≤ tt) (lit≤ tt))))))))))))
+  where
+    most : (t : Bool) {x y : ℕ} → x ≤ 12 → y ≤ 12 → cond t x y ≤ 12
+    most t h k = cond-both (λ (n : ℕ). n ≤ 12) t h k
+
+code-sound : (p : Placement) (code : ℕ) → code ≤ 12 → Sound p → Sound (placeCode code p)
+code-sound p code h s =
+    cond-both Sound (eqb code 0) {x = spoil p} {y = fill code p}
+    (record { long = s .long; codes = s .codes })
+    (record {
+      long = length-set (p .pieces) (squareOf (p .rank) (p .file)) code ∙ s .long;
+      codes = most-set 12 (p .pieces) (squareOf (p .rank) (p .file)) code h (s .codes);
+    })
+
+byte-sound : (p : Placement) (b : ℕ) → Sound p → Sound (placeByte p b)
+unfolding placeByte
+byte-sound p b s =
+    cond-both Sound (eqb b 47) {x = down p} {y = cond (between 49 56 b) (skip (b - 48) p) (placeCode (pieceOf b) p)}
+    (record { long = s .long; codes = s .codes })
+    (cond-both Sound (between 49 56 b) {x = skip (b - 48) p} {y = placeCode (pieceOf b) p}
+    (record { long = s .long; codes = s .codes })
+    (code-sound p (pieceOf b) (piece-most b) s))
+
+all-sound : (p : Placement) (bs : List ℕ) → Sound p → Sound (placeAll p bs)
+unfolding placeAll
+all-sound p [] s = s
+all-sound p (b ∷ bs) s = all-sound (placeByte p b) bs (byte-sound p b s)
+
+start-sound : Sound start
+unfolding allAtMost
+start-sound = record { long = refl; codes = refl }
+
+rights-most : (k q : ℕ) (t : List ℕ) → rightsOf k q t ≤ 3
+unfolding rightsOf
+rights-most k q t = go (occurs k t) (occurs q t)
+  where
+    go : (a b : Bool) → rights (cond a 1 0) (cond b 1 0) ≤ 3
+    go true true = lit≤ tt
+    go true false = lit≤ tt
+    go false true = lit≤ tt
+    go false false = lit≤ tt
+
+file-most : (a : Answer) → fileRead a ≤ 8
+file-most a = cond-both (λ (n : ℕ). n ≤ 8) (eqb (a .number) 0) {x = a .value % 8 + 1} {y = 0} (omega arith) (omega arith)
+
+-- an answer of 0 is a record in range, any other is the refusal
+record Told (f : Fen) : Type 0 where
+  given : f .number ≡ 0 → inRange (f .board) ≡ true
+  taken : (f .number ≡ 0 → ⊥) → f ≡ noFen
+
+told-none : Told noFen
+told-none = record { given = λ e. absurd (omega arith); taken = λ n. refl }
+
+assembled-told : (p : Placement) (side : ℕ) (castling ep : List ℕ) → Sound p → Told (assembled p side castling ep)
+unfolding assembled
+assembled-told p side castling ep s = go (p .good && ltb side 2) refl
+  where
+    go : (t : Bool) → p .good && ltb side 2 ≡ t → Told (assembled p side castling ep)
+    go false e = simp e told-none
+    go true e =
+        let low : side < 2 = ltb-true side 2 (both-right (p .good) (ltb side 2) e) in
+        simp e (record {
+          given = λ z. range-holds _ (record {
+            long = s .long;
+            side = omega arith;
+            white = rights-most 75 81 castling;
+            black = rights-most 107 113 castling;
+            file = file-most (readSquare ep);
+            codes = s .codes;
+          });
+          taken = λ n. absurd (n refl);
+        })
+
+tokens-told : (ts : List (List ℕ)) → Told (ofTokens ts)
+unfolding ofTokens
+tokens-told [] = told-none
+tokens-told (a ∷ []) = told-none
+tokens-told (a ∷ b ∷ []) = told-none
+tokens-told (a ∷ b ∷ c ∷ []) = told-none
+tokens-told (a ∷ b ∷ c ∷ d ∷ ts) = assembled-told (placeAll start a) (sideOf b) c d (all-sound start a start-sound)
+
+read-told : (s : List ℕ) → Told (readFen s)
+unfolding readFen
+read-told s = tokens-told (tokens s)
+
+pub reads-in-range : ReadsInRange
+reads-in-range s e = read-told s .given e
+
+pub refused-is-zero : RefusedIsZero
+refused-is-zero s n = read-told s .taken n
+
+-- ---- keys
+pub keys-tell-records : KeysTellRecords
+keys-tell-records s t e f = record {
+  one-record = λ k. one-key (readFen s .board) (readFen t .board) (reads-in-range s e) (reads-in-range t f) k;
+  one-key = λ k. ap fenText k;
+}
+
+pub key-of-key : KeyOfKey
+key-of-key s e =
+    let back : readFen (fenText (readFen s .board)) ≡ fenOf (readFen s .board) = read-back (readFen s .board) (reads-in-range s e) in
+    (ap (λ (f : Fen). f .number) back, ap (λ (f : Fen). fenText (f .board)) back)

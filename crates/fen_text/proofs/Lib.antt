@@ -1,0 +1,8 @@
+pub mod Cases
+pub mod Tokens
+pub mod Lengths
+pub mod Placed
+pub mod ReadBack
+pub mod Keys
+pub mod Hollow
+pub mod Rows

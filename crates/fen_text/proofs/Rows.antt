@@ -1,0 +1,24 @@
+-- The paper's FEN rows and the initial position, each computed.
+-- Assumes nothing.
+use mathlib.Core.Path.{_≡_, refl}
+use Rattle.square.specs.Ascii.{ascii}
+use Rattle.square.specs.Square.{readSquare}
+use Rattle.square.specs.Piece.{pieceOf, letterOf}
+use Rattle.castle_rights.specs.CastleRights.{lettersOf, lettersText}
+use Rattle.fen_text.specs.Token.{occurs, onto, joined, tokens}
+use Rattle.fen_text.specs.Placement.{placeByte, placeAll}
+use Rattle.fen_text.specs.Read.{sideOf, rightsOf, assembled, ofTokens, readFen}
+use Rattle.fen_text.specs.Write.{digitText, runText, slashText, ranksText, rightsText, enPassantText, tailText, fenText}
+use Rattle.fen_text.specs.Rows.{FenRows}
+
+pub fen-rows : FenRows
+unfolding ascii readSquare pieceOf letterOf lettersOf lettersText occurs onto joined tokens placeByte placeAll sideOf rightsOf assembled ofTokens readFen digitText runText slashText ranksText rightsText enPassantText tailText fenText
+fen-rows = record {
+  empty-placement = (refl, refl);
+  three-tokens = refl;
+  nine = refl;
+  en-passant-rank = (refl, refl);
+  bad-en-passant = (refl, refl);
+  initial-read = refl;
+  initial-written = refl;
+}
