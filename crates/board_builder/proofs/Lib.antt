@@ -1,4 +1,3 @@
-pub mod Maxima
 pub mod Ranges
 pub mod Stepping
 pub mod Numbers

@@ -3,10 +3,12 @@
 use mathlib.Core.Path.{_≡_, refl}
 use mathlib.Core.Bool.{Bool, true, false, _&&_, false≢true}
 use mathlib.Core.List.{List, [], _∷_}
-use Prim.Native.Nat.{ℕ, zero, suc, _≤_}
+use Prim.Native.Nat.{ℕ, zero, suc, _+_, _≤_, _<_}
+use native.Mathlib.Numerals.{add-one}
 use lib.Dec.{eqb, leb}
-use lib.ListN.{length, take, drop, set}
-use borrow.Author.Tests.{leb-true, eqb-true, eq-eqb, le-leb}
+use lib.ListN.{length, getD, take, drop, set, drop-of-length-le}
+use lib.Seq.{drop-cons}
+use borrow.Author.Tests.{leb-true, eqb-true, eq-eqb, le-leb, lt-leb}
 use Rattle.board_builder.specs.declared.BoardBuilder.{BoardBuilder}
 use Rattle.board_builder.specs.BoardBuilder.{squares, allAtMost, inRange}
 
@@ -81,3 +83,16 @@ pub most-set : (n : ℕ) (xs : List ℕ) (i v : ℕ) → v ≤ n → allAtMost n
 most-set n [] i v h e = e
 most-set n (x ∷ xs) zero v h e = most-cons n v xs h (most-tail n x xs e)
 most-set n (x ∷ xs) (suc i) v h e = most-cons n x (set xs i v) (most-head n x xs e) (most-set n xs i v h (most-tail n x xs e))
+
+-- a turn of a loop over the list, its early end, and its end
+pub most-turn : (n : ℕ) (s : List ℕ) (i : ℕ) → i < length s → getD s i 0 ≤ n → allAtMost n (drop i s) ≡ allAtMost n (drop (i + 1) s)
+unfolding allAtMost
+most-turn n s i h k = rw (add-one i, drop-cons s i 0 h) (simp (le-leb _ _ k))
+
+pub most-over : (n : ℕ) (s : List ℕ) (i : ℕ) → i < length s → n < getD s i 0 → allAtMost n (drop i s) ≡ false
+unfolding allAtMost
+most-over n s i h k = rw (drop-cons s i 0 h) (simp (lt-leb _ _ k))
+
+pub most-end : (n : ℕ) (s : List ℕ) (i : ℕ) → length s ≤ i → allAtMost n (drop i s) ≡ true
+unfolding allAtMost
+most-end n s i h = rw (drop-of-length-le s h)

@@ -1,6 +1,6 @@
 -- The board record (document 01, "Numbers of the record, the move and the log"): 64 squares, side, white rights, black rights, en passant.
 -- Assumes nothing.
-use Prim.Native.Nat.{ℕ, max}
+use Prim.Native.Nat.{ℕ}
 use mathlib.Core.Bool.{Bool, true, _&&_}
 use mathlib.Core.List.{List, [], _∷_, _++_}
 use lib.Dec.{leb, eqb}
@@ -27,11 +27,6 @@ recordSize = 68
 unfoldable pub allAtMost : ℕ → List ℕ → Bool
 allAtMost n [] = true
 allAtMost n (x ∷ xs) = leb x n && allAtMost n xs
-
--- the largest number of a list, 0 of none
-unfoldable pub largest : List ℕ → ℕ
-largest [] = 0
-largest (x ∷ xs) = max x (largest xs)
 
 -- 64 squares of 0 to 12, side 0 or 1, rights 0 to 3, en passant 0 to 8
 unfoldable pub inRange : BoardBuilder → Bool

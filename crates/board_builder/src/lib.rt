@@ -7,8 +7,7 @@ use square::ACCEPTED;
 use square::Answer;
 use square::OUT_OF_RANGE;
 ghost use mathlib.Core.Path.{_≡_};
-ghost use Prim.Native.Nat.{max};
-ghost use Rattle.board_builder.specs.BoardBuilder.{largest, inRange, emptyBoard, initialBoard};
+ghost use Rattle.board_builder.specs.BoardBuilder.{allAtMost, inRange, emptyBoard, initialBoard};
 ghost use Rattle.board_builder.specs.Steps.{stepped, setPiece, clearSquare, setSide, setRights, setEnPassant};
 ghost use Rattle.board_builder.specs.Getters.{pieceOn, sideOf, rightsOf, enPassantSquare};
 
@@ -28,23 +27,18 @@ pub struct Stepped {
     pub board: BoardBuilder,
 }
 
-fn larger(a: u8, b: u8) -> u8
-    ensures { λ r. ⌜ r ≡ max a b ⌝ }
+// Whether each square holds 0 or a piece code.
+fn codes_in_range(pieces: [u8; 64]) -> bool
+    ensures { λ r. ⌜ r ≡ allAtMost 12 pieces ⌝ }
 {
-    if a < b { b } else { a }
-}
-
-// The largest piece code: one maximum over all squares, with no branch, is the fastest range test.
-fn largest(pieces: [u8; 64]) -> u8
-    ensures { λ r. ⌜ r ≡ largest pieces ⌝ }
-{
-    let mut most: u8 = 0;
     let mut i: usize = 0;
     while i < 64 {
-        most = larger(most, pieces[i]);
+        if 12 < pieces[i] {
+            return false;
+        }
         i += 1;
     }
-    most
+    true
 }
 
 impl BoardBuilder {
@@ -89,7 +83,7 @@ impl BoardBuilder {
         if 8 < self.en_passant {
             return false;
         }
-        largest(pieces) <= 12
+        codes_in_range(pieces)
     }
 
     // The piece code on a square, 0 for none.

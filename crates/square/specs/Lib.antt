@@ -3,4 +3,5 @@ pub mod Ascii
 pub mod Determined
 pub mod Square
 pub mod Piece
+pub mod Pushed
 pub mod Promises

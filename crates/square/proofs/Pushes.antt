@@ -1,0 +1,31 @@
+-- Laws of a text that is put together in an array: nothing, one byte, one part after the other, the whole from an empty array.
+-- Assumes nothing.
+use mathlib.Core.Path.{_≡_, refl, sym, ap, _∙_}
+use mathlib.Core.List.{List, [], _∷_, _++_, append-assoc, append-nil}
+use Prim.Native.Nat.{ℕ, _+_, _<_, _≤_}
+use native.Mathlib.Nat.{add-zero}
+use native.Mathlib.Numerals.{add-one}
+use native.Mathlib.Omega.{arith}
+use lib.ListN.{length, take, set, length-append}
+use lib.Seq.{take-suc-set}
+use Rattle.square.specs.Pushed.{Pushed}
+
+pub push-none : {old : List ℕ} {n : ℕ} → Pushed old n [] old n
+push-none {old} {n} = record { count = sym (add-zero n); bytes = sym (append-nil (take n old)) }
+
+pub push-one : (old : List ℕ) (n b : ℕ) → n < length old → Pushed old n (b ∷ []) (set old n b) (n + 1)
+push-one old n b h = record { count = refl; bytes = rw (add-one n) (take-suc-set old n b h) }
+
+pub push-both : {old new newer : List ℕ} {n r s : ℕ} {p q : List ℕ} → Pushed old n p new r → Pushed new r q newer s → Pushed old n (p ++ q) newer s
+push-both {old} {new} {newer} {n} {r} {s} {p} {q} a b = record {
+  count = omega (arith, length-append p q, a .count, b .count);
+  bytes = b .bytes ∙ ap (λ (l : List ℕ). l ++ q) (a .bytes) ∙ append-assoc (take n old) p q;
+}
+
+-- the same text in other words
+pub push-as : {old new : List ℕ} {n r : ℕ} {p q : List ℕ} → p ≡ q → Pushed old n p new r → Pushed old n q new r
+push-as e a = rw e at a
+
+-- from an empty array: the text is all there is
+pub push-whole : {old new text : List ℕ} {r : ℕ} → Pushed old 0 text new r → (r ≡ length text) × (take r new ≡ text)
+push-whole a = (a .count ∙ omega arith, a .bytes)
