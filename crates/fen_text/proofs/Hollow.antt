@@ -10,13 +10,12 @@ use lib.ListN.{length, take, drop, replicate}
 use lib.Seq.{take-at}
 use Rattle.square.specs.declared.Answer.{Answer}
 use Rattle.square.specs.Answer.{accepted, overwrite, writeAnswer, writeBytes}
-use Rattle.square.proofs.Writes.{Written, write-fits}
-use Rattle.board_builder.specs.declared.BoardBuilder.{BoardBuilder}
+use Rattle.square.proofs.Writes.{write-fits}
 use Rattle.board_builder.specs.BoardBuilder.{allAtMost, inRange, emptyBoard, initialBoard}
 use Rattle.fen_text.specs.declared.Fen.{Fen}
-use Rattle.fen_text.specs.Read.{fenOf, readFen}
+use Rattle.fen_text.specs.Read.{fenOf}
 use Rattle.fen_text.specs.Write.{fenText, fenCheck}
-use Rattle.fen_text.specs.Promises.{Writer, BackAgain, ReadsBack, FenReadsBack, OneConstantTextFails, AlwaysRefusingFails}
+use Rattle.fen_text.specs.Promises.{FenReadsBack, OneConstantTextFails, AlwaysRefusingFails}
 use Rattle.fen_text.proofs.Lengths.{fen-long}
 use Rattle.fen_text.proofs.ReadBack.{read-back}
 

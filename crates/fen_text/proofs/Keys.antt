@@ -2,25 +2,24 @@
 -- to one record.
 -- Assumes nothing.
 use mathlib.Core.Path.{_≡_, refl, sym, ap, _∙_}
-use mathlib.Core.Bool.{Bool, true, false, cond, _&&_, _||_}
+use mathlib.Core.Bool.{Bool, true, false, cond, _&&_}
 use mathlib.Core.List.{List, [], _∷_}
 use Prim.Native.Nat.{ℕ, _+_, _-_, _%_, _≤_, _<_}
 use native.Mathlib.Omega.{arith}
 use lib.Dec.{eqb, ltb, lit≤}
-use lib.ListN.{length, take, set, length-set, length-replicate, replicate}
+use lib.ListN.{length, length-set}
 use borrow.Author.Tests.{ltb-true}
 use Rattle.square.specs.declared.Answer.{Answer}
 use Rattle.square.specs.Square.{squareOf, between, readSquare}
 use Rattle.square.specs.Piece.{pieceOf}
 use Rattle.castle_rights.specs.CastleRights.{rights}
-use Rattle.square.proofs.Writes.{accepted-writes-its-text}
 use Rattle.board_builder.specs.declared.BoardBuilder.{BoardBuilder}
 use Rattle.board_builder.specs.BoardBuilder.{squares, allAtMost, inRange}
-use Rattle.board_builder.proofs.Ranges.{both-left, both-right, InRange, range-holds, most-set}
+use Rattle.board_builder.proofs.Ranges.{both-right, range-holds, most-set}
 use Rattle.fen_text.specs.declared.Fen.{Fen}
 use Rattle.fen_text.specs.Token.{occurs, tokens}
 use Rattle.fen_text.specs.Placement.{Placement, start, down, skip, fill, spoil, placeCode, placeByte, placeAll}
-use Rattle.fen_text.specs.Read.{sideOf, rightsOf, fileRead, enPassantOf, noFen, fenOf, assembled, ofTokens, readFen}
+use Rattle.fen_text.specs.Read.{sideOf, rightsOf, fileRead, noFen, fenOf, assembled, ofTokens, readFen}
 use Rattle.fen_text.specs.Write.{fenText}
 use Rattle.fen_text.specs.Promises.{OneKey, ReadsInRange, RefusedIsZero, KeysTellRecords, KeyOfKey}
 use Rattle.fen_text.proofs.Cases.{cond-both}
@@ -37,7 +36,7 @@ record Sound (p : Placement) : Type 0 where
   long : length (p .pieces) ≡ squares
   codes : allAtMost 12 (p .pieces) ≡ true
 
-piece-most : (b : ℕ) → pieceOf b ≤ 12
+pub piece-most : (b : ℕ) → pieceOf b ≤ 12
 unfolding pieceOf
 piece-most b =
     most (eqb b 80) (lit≤ tt)

@@ -1,7 +1,6 @@
 -- How long a FEN is: 25 bytes at least and 85 at most, for each record in range.
 -- Assumes nothing.
 use mathlib.Core.Path.{_≡_, refl, _∙_}
-use mathlib.Core.Bool.{true, cond}
 use mathlib.Core.List.{List, [], _∷_}
 use Prim.Native.Nat.{ℕ, zero, suc, _+_, _*_, _≤_, _<_}
 use native.Mathlib.Nat.{add-zero}
@@ -12,7 +11,6 @@ use Rattle.square.specs.Square.{squareText}
 use Rattle.square.proofs.Below.{belows}
 use Rattle.castle_rights.specs.CastleRights.{lettersOf, lettersText}
 use Rattle.board_builder.specs.declared.BoardBuilder.{BoardBuilder}
-use Rattle.board_builder.specs.BoardBuilder.{inRange}
 use Rattle.board_builder.specs.Getters.{enPassantAt}
 use Rattle.board_builder.proofs.Ranges.{InRange, in-range}
 use Rattle.fen_text.specs.Write.{digitText, runText, rowOf, slashText, ranksText, rightsText, enPassantText, tailText, fenText}

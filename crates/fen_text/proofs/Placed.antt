@@ -7,8 +7,8 @@ use Prim.Native.Nat.{ℕ, zero, suc, _+_, _*_, _%_, _≤_, _<_}
 use native.Mathlib.Nat.{le-of-eq, le-of-suc-le-suc, add-sub-cancel-left}
 use native.Mathlib.Omega.{arith}
 use lib.Dec.{eqb, leb, eqb·suc-zero, eqb→eq, leb→le, lit<}
-use borrow.Author.Tests.{lt-ltb, le-leb, lt-leb, ne-eqb}
-use lib.ListN.{length, take, drop, replicate, length-append, length-take, length-drop, length-replicate, replicate-append-replicate, take-append-drop, drop-of-length-le}
+use borrow.Author.Tests.{le-leb, lt-leb, ne-eqb}
+use lib.ListN.{length, drop, replicate, length-append, length-take, length-drop, length-replicate, replicate-append-replicate, take-append-drop, drop-of-length-le}
 use lib.Seq.{append-snoc, set-at, drop-drop}
 use Rattle.square.specs.Piece.{pieceOf, letterOf}
 use Rattle.square.proofs.Below.{below}
@@ -21,7 +21,7 @@ use Rattle.fen_text.specs.Write.{digitText, runText, rowOf, slashText, r
 abbrev pub at : ℕ → ℕ → List ℕ → Placement
 at rank file pieces = placement pieces rank file true
 
-place-append : (p : Placement) (xs ys : List ℕ) → placeAll p (xs ++ ys) ≡ placeAll (placeAll p xs) ys
+pub place-append : (p : Placement) (xs ys : List ℕ) → placeAll p (xs ++ ys) ≡ placeAll (placeAll p xs) ys
 unfolding placeAll
 place-append p [] ys = refl
 place-append p (x ∷ xs) ys = place-append (placeByte p x) xs ys

@@ -6,7 +6,6 @@ use mathlib.Core.List.{List, [], _∷_, _++_}
 use Prim.Native.Nat.{ℕ, zero, suc, _+_, _≤_, _<_}
 use native.Mathlib.Omega.{arith}
 use lib.Dec.{T, eqb, eqb·suc-zero, eqb→eq}
-use lib.ListN.{length}
 use borrow.Author.Tests.{lt-ltb, ne-eqb}
 use Rattle.square.specs.Piece.{letterOf}
 use Rattle.square.specs.Square.{readSquare}

@@ -1,6 +1,6 @@
 -- The paper's FEN rows and the initial position, each computed.
 -- Assumes nothing.
-use mathlib.Core.Path.{_≡_, refl}
+use mathlib.Core.Path.{refl}
 use Rattle.square.specs.Ascii.{ascii}
 use Rattle.square.specs.Square.{readSquare}
 use Rattle.square.specs.Piece.{pieceOf, letterOf}

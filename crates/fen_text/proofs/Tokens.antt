@@ -1,26 +1,19 @@
 -- Laws of the tokens' definitions, by the shapes of a list that the code tells apart: its length and its first bytes.
 -- Assumes nothing.
-use mathlib.Core.Path.{_≡_, refl, ap, _∙_}
-use mathlib.Core.Bool.{Bool, true, false, cond, _||_}
+use mathlib.Core.Path.{_≡_, refl, ap}
+use mathlib.Core.Bool.{Bool, true, false}
 use mathlib.Core.List.{List, [], _∷_}
 use Prim.Native.Nat.{ℕ, suc, _+_, _%_, _≤_, _<_}
+use native.Mathlib.Nat.{add-zero}
+use native.Mathlib.Numerals.{add-one}
 use native.Mathlib.Omega.{arith}
-use lib.Dec.{eqb, ltb, leb·suc-suc, leb·zero}
+use lib.Dec.{eqb}
 use borrow.Author.Tests.{eq-eqb, ne-eqb}
-use lib.ListN.{length, getD, take, drop}
-use Rattle.fen_text.specs.Token.{placeAfter, placeOf, occurs, onto, joined, tokens}
-use Rattle.fen_text.specs.Read.{sideByte, sideOf}
-
--- a byte occurs where its place is within the list
-found-step : (t : Bool) (k n : ℕ) (o : Bool) → ltb k n ≡ o → ltb (placeAfter t k) (suc n) ≡ t || o
-unfolding placeAfter
-found-step true k n o e = leb·suc-suc 0 n ∙ leb·zero n
-found-step false k n o e = leb·suc-suc (suc k) n ∙ e
-
-pub found : (b : ℕ) (s : List ℕ) → ltb (placeOf b s) (length s) ≡ occurs b s
-unfolding placeOf occurs
-found b [] = refl
-found b (x ∷ s) = found-step (eqb x b) (placeOf b s) (length s) (occurs b s) (found b s)
+use lib.ListN.{length, getD, take, drop, drop-of-length-le}
+use lib.Seq.{drop-cons}
+use Rattle.square.specs.declared.Answer.{Answer}
+use Rattle.fen_text.specs.Token.{placeAfter, placeOf, onto, joined, tokens}
+use Rattle.fen_text.specs.Read.{sideByte, sideOf, fileRead}
 
 pub side-other : (s : List ℕ) → (length s ≡ 1 → ⊥) → sideOf s ≡ 2
 unfolding sideOf
@@ -33,6 +26,29 @@ unfolding sideOf
 side-one [] e = absurd (omega arith)
 side-one (b ∷ []) e = refl
 side-one (b ∷ c ∷ s) e = absurd (omega arith)
+
+-- the place of a byte, looked for from the front: found, passed over, not there, not yet begun
+pub place-hit : (b : ℕ) (s : List ℕ) (i : ℕ) → i < length s → getD s i 0 ≡ b → i + placeOf b (drop i s) ≡ i
+unfolding placeOf placeAfter
+place-hit b s i h e = simp (drop-cons s i 0 h, eq-eqb _ _ e, add-zero)
+
+pub place-miss : (b : ℕ) (s : List ℕ) (i : ℕ) → i < length s → (getD s i 0 ≡ b → ⊥) → i + placeOf b (drop i s) ≡ i + 1 + placeOf b (drop (i + 1) s)
+unfolding placeOf placeAfter
+place-miss b s i h n = simp (add-one, drop-cons s i 0 h, ne-eqb _ _ n) (omega arith)
+
+pub place-end : (b : ℕ) (s : List ℕ) (i : ℕ) → length s ≤ i → i + placeOf b (drop i s) ≡ i
+unfolding placeOf
+place-end b s i h = simp (drop-of-length-le s h, add-zero)
+
+pub place-start : (b : ℕ) (s : List ℕ) → placeOf b s ≡ 0 + placeOf b s
+place-start b s = omega arith
+
+-- the file of a square that was read, and of none
+pub file-given : (a : Answer) → a .number ≡ 0 → fileRead a ≡ a .value % 8 + 1
+file-given a e = simp (eq-eqb _ _ e)
+
+pub file-none : (a : Answer) → (a .number ≡ 0 → ⊥) → fileRead a ≡ 0
+file-none a n = simp (ne-eqb _ _ n)
 
 -- no space: one token. A space: a token, and the tokens past it
 token-step : (t : Bool) (x k n : ℕ) (s : List ℕ) (ts : List (List ℕ)) → (n ≤ k → ts ≡ s ∷ []) → suc n ≤ placeAfter t k → joined t x ts ≡ (x ∷ s) ∷ []

@@ -1,9 +1,7 @@
 -- The FEN rows of document 01's table, "Positions and texts to try", and the initial position of 001's test.
 -- Assumes nothing.
-use Prim.Native.Nat.{ℕ}
 use Prim.Native.String.{String}
 use mathlib.Core.Path.{_≡_}
-use mathlib.Core.List.{List}
 use Rattle.square.specs.Ascii.{ascii}
 use Rattle.board_builder.specs.BoardBuilder.{initialBoard}
 use Rattle.fen_text.specs.Read.{readFen, noFen, fenOf}

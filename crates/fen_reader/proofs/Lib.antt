@@ -1,0 +1,4 @@
+pub mod Classes
+pub mod Placing
+pub mod Reading
+pub mod Seen

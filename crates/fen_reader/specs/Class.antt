@@ -1,0 +1,58 @@
+-- How the reader walks a placement: a class for each byte, and what a class does to the square to fill next. For its inner functions; the public
+-- contract does not speak of this.
+-- Assumes nothing.
+use Prim.Native.Nat.{ℕ, _+_, _-_, _%_, _≤_, _<_}
+use mathlib.Core.Path.{_≡_}
+use mathlib.Core.Bool.{true, cond}
+use mathlib.Core.List.{List, [], _∷_}
+use lib.Dec.{eqb, ltb}
+use lib.ListN.{length, getD, take, drop, set}
+use Rattle.square.specs.Ascii.{ascii}
+use Rattle.square.specs.Square.{between}
+use Rattle.square.specs.Piece.{pieceOf}
+use Rattle.fen_text.specs.Token.{placeOf}
+use Rattle.fen_text.specs.Placement.{Placement, placement, start, placeAll}
+use Rattle.fen_text.specs.Read.{rightsOf}
+use Rattle.fen_reader.specs.declared.placement.Walked.{Walked}
+use Rattle.fen_reader.specs.declared.token.Sides.{Sides}
+
+-- 32 for a slash, 16 more than a digit's number, a piece's code, 0 for any other byte
+unfoldable pub classOf : ℕ → ℕ
+classOf b = cond (eqb b 47) 32 (cond (between 49 56 b) (b - 32) (pieceOf b))
+
+-- the bytes that have a class, and a table in which the classes of some bytes are noted
+abbrev pub signs : List ℕ
+signs = ascii "/12345678PNBRQKpnbrqk"
+
+unfoldable pub noteAll : List ℕ → List ℕ → List ℕ
+noteAll [] table = table
+noteAll (b ∷ bs) table = noteAll bs (set table b (classOf b))
+
+-- a piece is set down, or what stands there stays
+abbrev pub pieceAfter : ℕ → ℕ → ℕ
+pieceAfter class old = cond (ltb class 16) class old
+
+abbrev pub stepOf : ℕ → ℕ
+stepOf class = cond (ltb class 16) 1 (class - 16)
+
+abbrev pub fileAfter : ℕ → ℕ → ℕ
+fileAfter file class = cond (eqb class 32) 0 ((file + stepOf class) % 8)
+
+abbrev pub rankAfter : ℕ → ℕ → ℕ
+rankAfter rank class = cond (eqb class 32) ((rank + 7) % 8) rank
+
+-- the pieces of a placement that is good; the square to fill next does not count any more
+abbrev pub placed : List ℕ → Placement
+placed pieces = placement pieces 0 0 true
+
+-- the bytes before the end are a placement of these pieces with no space in it, and the byte at the end, if there is one, is none of a placement
+pub record Stopped (s : List ℕ) (r : Walked) : Type 0 where
+  pub within : r .end ≤ length s
+  pub space : placeOf 32 s ≡ r .end + placeOf 32 (drop (r .end) s)
+  pub pieces : placeAll start (take (r .end) s) .pieces ≡ r .pieces
+  pub good : placeAll start (take (r .end) s) .good ≡ true
+  pub stop : r .end < length s → classOf (getD s (r .end) 0) ≡ 0
+
+-- both sides' rights
+abbrev pub sidesOf : List ℕ → Sides
+sidesOf t = record { white = rightsOf 75 81 t; black = rightsOf 107 113 t }

@@ -1,0 +1,127 @@
+// The placement, read in one pass: a decision over the byte, the square to fill next.
+ghost use mathlib.Core.Path.{_≡_};
+ghost use Prim.Native.Nat.{_<_};
+ghost use lib.ListN.{set};
+ghost use Rattle.fen_reader.specs.Class.{classOf, noteAll, signs, pieceAfter, stepOf, fileAfter, rankAfter, Stopped};
+
+// A byte's class: a piece's code, DIGIT and how many files it adds, SLASH, or REFUSED.
+const REFUSED: u8 = 0;
+const DIGIT: u8 = 16;
+const SLASH: u8 = 32;
+
+fn class_of(b: u8) -> u8
+    ensures { λ r. ⌜ r ≡ classOf b ⌝ }
+{
+    match b {
+        b'1'..=b'8' => DIGIT + (b - b'0'),
+        b'/' => SLASH,
+        b'P' => 1,
+        b'N' => 2,
+        b'B' => 3,
+        b'R' => 4,
+        b'Q' => 5,
+        b'K' => 6,
+        b'p' => 7,
+        b'n' => 8,
+        b'b' => 9,
+        b'r' => 10,
+        b'q' => 11,
+        b'k' => 12,
+        _ => REFUSED,
+    }
+}
+
+fn note(classes: &mut [u8; 256], b: u8)
+    ensures { λ _. ⌜ now (classes .exit) ≡ set (now (classes .entry)) b (classOf b) ⌝ }
+{
+    classes[b as usize] = class_of(b);
+}
+
+// Notes the class of each byte that has one. The bytes are constants, so the compiler decides here and the loop over a text only looks up.
+fn note_all(classes: &mut [u8; 256])
+    ensures { λ _. ⌜ now (classes .exit) ≡ noteAll signs (now (classes .entry)) ⌝ }
+{
+    note(classes, b'/');
+    note(classes, b'1');
+    note(classes, b'2');
+    note(classes, b'3');
+    note(classes, b'4');
+    note(classes, b'5');
+    note(classes, b'6');
+    note(classes, b'7');
+    note(classes, b'8');
+    note(classes, b'P');
+    note(classes, b'N');
+    note(classes, b'B');
+    note(classes, b'R');
+    note(classes, b'Q');
+    note(classes, b'K');
+    note(classes, b'p');
+    note(classes, b'n');
+    note(classes, b'b');
+    note(classes, b'r');
+    note(classes, b'q');
+    note(classes, b'k');
+}
+
+fn piece_after(class: u8, old: u8) -> u8
+    ensures { λ r. ⌜ r ≡ pieceAfter class old ⌝ }
+{
+    if class < DIGIT { class } else { old }
+}
+
+fn step_of(class: u8) -> u8
+    ensures { λ r. ⌜ r ≡ stepOf class ⌝ }
+{
+    if class < DIGIT { 1 } else { class - DIGIT }
+}
+
+fn wide(x: u8) -> usize
+    ensures { λ r. ⌜ r ≡ x ⌝ }
+{
+    x as usize
+}
+
+fn file_after(file: usize, class: u8) -> usize
+    requires { ⌜ file < 8 ⌝ }
+    ensures { λ r. ⌜ r ≡ fileAfter file class ⌝ }
+{
+    let next = (file + wide(step_of(class))) % 8;
+    if class == SLASH { 0 } else { next }
+}
+
+fn rank_after(rank: usize, class: u8) -> usize
+    requires { ⌜ rank < 8 ⌝ }
+    ensures { λ r. ⌜ r ≡ rankAfter rank class ⌝ }
+{
+    if class == SLASH { (rank + 7) % 8 } else { rank }
+}
+
+// The pieces placed before the first byte that is none of a placement, and that byte's place.
+pub struct Walked {
+    pub pieces: [u8; 64],
+    pub end: usize,
+}
+
+pub(crate) fn place(text: &[u8]) -> Walked
+    ensures { λ r. ⌜ Stopped (now (text .entry)) r ⌝ }
+{
+    let mut classes = [0u8; 256];
+    note_all(&mut classes);
+    let mut pieces = [0u8; 64];
+    let mut rank: usize = 7;
+    let mut file: usize = 0;
+    let mut i: usize = 0;
+    while i < text.len() {
+        let class = classes[wide(text[i])];
+        if class == REFUSED {
+            return Walked { pieces, end: i };
+        }
+        let at = rank * 8 + file;
+        pieces[at] = piece_after(class, pieces[at]);
+        file = file_after(file, class);
+        rank = rank_after(rank, class);
+        i += 1;
+    }
+    Walked { pieces, end: i }
+}
