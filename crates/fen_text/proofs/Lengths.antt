@@ -18,9 +18,9 @@ use Rattle.fen_text.specs.Promises.{TwentyFiveToEightyFive}
 use Rattle.fen_text.proofs.Cases.{cond-both}
 
 -- a number of bytes from low to high
-record Long (lo hi : ℕ) (s : List ℕ) : Type 0 where
-  low : lo ≤ length s
-  high : length s ≤ hi
+pub record Long (lo hi : ℕ) (s : List ℕ) : Type 0 where
+  pub low : lo ≤ length s
+  pub high : length s ≤ hi
 
 digit-most : (n : ℕ) → length (digitText n) ≤ 1
 unfolding digitText
@@ -66,7 +66,7 @@ more-ranks : (k : ℕ) (pieces : List ℕ) → length (ranksText (suc (suc k)) p
 unfolding ranksText slashText
 more-ranks k pieces = length-append (runText 0 (rowOf (suc k) pieces)) (47 ∷ ranksText (suc k) pieces)
 
-ranks-long : (k : ℕ) (pieces : List ℕ) → length pieces ≡ 64 → k < 8 → Long (1 + 2 * k) (8 + 9 * k) (ranksText (suc k) pieces)
+pub ranks-long : (k : ℕ) (pieces : List ℕ) → length pieces ≡ 64 → k < 8 → Long (1 + 2 * k) (8 + 9 * k) (ranksText (suc k) pieces)
 ranks-long zero pieces e h =
     let r = rank-long 0 pieces e h in
     let l = one-rank pieces in
@@ -78,14 +78,14 @@ ranks-long (suc k) pieces e h =
     record { low = omega arith; high = omega arith }
 
 -- sixteen pairs of rights, each computed
-rights-long : (w b : ℕ) → w < 4 → b < 4 → Long 1 4 (rightsText w b)
+pub rights-long : (w b : ℕ) → w < 4 → b < 4 → Long 1 4 (rightsText w b)
 unfolding rightsText lettersText lettersOf
 rights-long w b h k = record {
   low = leb→le 1 (length (rightsText w b)) (belows (λ (w b : ℕ). leb 1 (length (rightsText w b))) 4 4 tt w b h k);
   high = leb→le (length (rightsText w b)) 4 (belows (λ (w b : ℕ). leb (length (rightsText w b)) 4) 4 4 tt w b h k);
 }
 
-en-passant-long : (side file : ℕ) → Long 1 2 (enPassantText side file)
+pub en-passant-long : (side file : ℕ) → Long 1 2 (enPassantText side file)
 unfolding enPassantText
 en-passant-long side file =
     cond-both (Long 1 2) (eqb file 0) {x = 45 ∷ []} {y = squareText (enPassantAt side file)}

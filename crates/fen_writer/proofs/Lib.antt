@@ -1,0 +1,5 @@
+pub mod Puts
+pub mod Letters
+pub mod Rows
+pub mod Ranks
+pub mod Parts

@@ -1,0 +1,23 @@
+// The FEN writer, after board_builder.rs: a record's text, written into a lent room.
+mod text;
+
+use board_builder::BoardBuilder;
+use square::Answer;
+use square::OUT_OF_RANGE;
+ghost use mathlib.Core.Path.{_≡_};
+ghost use lib.ListN.{length};
+ghost use Rattle.square.specs.Answer.{writeAnswer, writeBytes};
+ghost use Rattle.fen_text.specs.Write.{fenText, fenCheck};
+
+// Writes the record's FEN to the front of `out`. Checks 5, then 7.
+pub fn write_fen(board: BoardBuilder, out: &mut [u8]) -> Answer
+    ensures answer { λ r. ⌜ r ≡ writeAnswer (fenCheck board) (fenText board) (length (now (out .entry))) ⌝ }
+    ensures bytes { λ r. ⌜ now (out .exit) ≡ writeBytes (fenCheck board) (fenText board) (now (out .entry)) ⌝ }
+{
+    if !board.in_range() {
+        return square::refused(OUT_OF_RANGE);
+    }
+    let mut bytes = [0u8; 85];
+    let length = text::fen_text(&mut bytes, board);
+    square::write_text(&bytes[..length], out)
+}
