@@ -7,9 +7,9 @@ use Prim.Native.Nat.{ℕ, zero, suc, _≤_, _<_}
 use native.Mathlib.Nat.{le-of-suc-le-suc, not-suc-le-zero}
 use native.Mathlib.Omega.{arith}
 use lib.Dec.{eqb, leb}
-use lib.ListN.{length, take, drop, getD, set}
+use lib.ListN.{length, take, drop, getD, set, length-append, length-drop}
 use lib.Seq.{take-at, drop-at}
-use borrow.Author.Tests.{ne-eqb, le-leb, lt-leb, eqb-false}
+use borrow.Author.Tests.{ne-eqb, le-leb, lt-leb, eqb-false, leb-true}
 use Rattle.square.specs.declared.Answer.{Answer}
 use Rattle.square.specs.Answer.{accepted, refused, tooShort, overwrite, writeAnswer, writeBytes}
 use Rattle.square.specs.Promises.{RefusedWritesNothing, WritesItsText, AcceptedWritesItsText}
@@ -55,3 +55,13 @@ accepted-writes-its-text check text out h = go (eqb check 0) (leb (length text) 
     go true true e f = record { long = simp (e, f); front = simp (e, f) (take-at text (drop (length text) out) (length text) refl); behind = simp (e, f) (drop-at text (drop (length text) out) (length text) refl) }
     go true false e f = absurd (omega (arith, simp (e, f) at h))
     go false b e f = absurd (eqb-false check 0 e (simp e at h))
+
+-- a writer leaves the room as long as it was
+pub write-length : (check : ℕ) (text out : List ℕ) → length (writeBytes check text out) ≡ length out
+unfolding writeBytes
+write-length check text out = go (eqb check 0) (leb (length text) (length out)) refl refl
+  where
+    go : (a b : Bool) → eqb check 0 ≡ a → leb (length text) (length out) ≡ b → length (writeBytes check text out) ≡ length out
+    go true true e f = simp (e, f) (simp (length-append, length-drop) (omega (arith, leb-true (length text) (length out) f)))
+    go true false e f = simp (e, f)
+    go false b e f = simp e

@@ -1,0 +1,28 @@
+-- What the program keys writes for one line of its input: the key and a newline, or `! N` and a newline with the answer number.
+-- Assumes nothing.
+use Prim.Native.Nat.{ℕ, _+_, _/_, _%_}
+use mathlib.Core.Bool.{cond}
+use mathlib.Core.List.{List, [], _∷_, _++_}
+use lib.Dec.{eqb, ltb}
+use Rattle.square.specs.Determined.{Determined, Is}
+use Rattle.square.specs.Answer.{writeAnswer, writeBytes}
+use Rattle.fen_text.specs.Read.{readFen}
+use Rattle.fen_text.specs.Promises.{keyOf}
+
+-- a number below 100 in decimal
+abbrev pub decimal : ℕ → List ℕ
+decimal n = cond (ltb n 10) ((48 + n % 10) ∷ []) ((48 + n / 10 % 10) ∷ (48 + n % 10) ∷ [])
+
+abbrev pub newline : List ℕ
+newline = 10 ∷ []
+
+abbrev pub refusalLine : ℕ → List ℕ
+refusalLine n = 33 ∷ 32 ∷ (decimal n ++ newline)
+
+unfoldable pub keyLine : List ℕ → List ℕ
+keyLine s = cond (eqb (readFen s .number) 0) (keyOf s ++ newline) (refusalLine (readFen s .number))
+
+-- the contract of the public function determines its answer and each lent byte
+pub record KeyLineDetermined : Type 0 where
+  pub key-line : (s : List ℕ) (room : ℕ) → Determined (Is (writeAnswer 0 (keyLine s) room))
+  pub key-line-bytes : (s out : List ℕ) → Determined (Is (writeBytes 0 (keyLine s) out))

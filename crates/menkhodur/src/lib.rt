@@ -1,0 +1,91 @@
+// What the host links: each function hands on to a proved one of the crates below, with that one's contract (HOST-ABI.md; host/menkhodur.h).
+use board_builder::BoardBuilder;
+use board_builder::Stepped;
+use fen_text::Fen;
+use square::Answer;
+ghost use mathlib.Core.Path.{_≡_};
+ghost use lib.ListN.{length};
+ghost use Rattle.square.specs.Answer.{writeAnswer, writeBytes};
+ghost use Rattle.square.specs.Square.{makeSquare};
+ghost use Rattle.castle_rights.specs.CastleRights.{addRights, removeRights, squareRights};
+ghost use Rattle.board_builder.specs.Steps.{setPiece, clearSquare, setSide, setRights, setEnPassant};
+ghost use Rattle.fen_text.specs.Read.{readFen};
+ghost use Rattle.fen_text.specs.Write.{fenText, fenCheck};
+
+#[no_mangle]
+pub extern "C" fn menkhodur_make_square(rank: u8, file: u8) -> Answer
+    ensures { λ r. ⌜ r ≡ makeSquare rank file ⌝ }
+{
+    square::make_square(rank, file)
+}
+
+#[no_mangle]
+pub extern "C" fn menkhodur_rights_add(rights: u8, added: u8) -> Answer
+    ensures { λ r. ⌜ r ≡ addRights rights added ⌝ }
+{
+    castle_rights::add(rights, added)
+}
+
+#[no_mangle]
+pub extern "C" fn menkhodur_rights_remove(rights: u8, removed: u8) -> Answer
+    ensures { λ r. ⌜ r ≡ removeRights rights removed ⌝ }
+{
+    castle_rights::remove(rights, removed)
+}
+
+#[no_mangle]
+pub extern "C" fn menkhodur_square_rights(colour: u8, square: u8) -> Answer
+    ensures { λ r. ⌜ r ≡ squareRights colour square ⌝ }
+{
+    castle_rights::square_to_castle_rights(colour, square)
+}
+
+#[no_mangle]
+pub extern "C" fn menkhodur_piece(b: BoardBuilder, square: u8, code: u8) -> Stepped
+    ensures { λ r. ⌜ r ≡ setPiece b square code ⌝ }
+{
+    b.piece(square, code)
+}
+
+#[no_mangle]
+pub extern "C" fn menkhodur_clear_square(b: BoardBuilder, square: u8) -> Stepped
+    ensures { λ r. ⌜ r ≡ clearSquare b square ⌝ }
+{
+    b.clear_square(square)
+}
+
+#[no_mangle]
+pub extern "C" fn menkhodur_side_to_move(b: BoardBuilder, colour: u8) -> Stepped
+    ensures { λ r. ⌜ r ≡ setSide b colour ⌝ }
+{
+    b.side_to_move(colour)
+}
+
+#[no_mangle]
+pub extern "C" fn menkhodur_castle_rights(b: BoardBuilder, colour: u8, rights: u8) -> Stepped
+    ensures { λ r. ⌜ r ≡ setRights b colour rights ⌝ }
+{
+    b.castle_rights(colour, rights)
+}
+
+#[no_mangle]
+pub extern "C" fn menkhodur_en_passant(b: BoardBuilder, file: u8) -> Stepped
+    ensures { λ r. ⌜ r ≡ setEnPassant b file ⌝ }
+{
+    b.en_passant(file)
+}
+
+#[no_mangle]
+pub extern "C" fn menkhodur_fen_read(text: &[u8]) -> Fen
+    ensures { λ r. ⌜ r ≡ readFen (now (text .entry)) ⌝ }
+{
+    fen_reader::read_fen(text)
+}
+
+#[no_mangle]
+pub extern "C" fn menkhodur_fen_write(b: BoardBuilder, out: &mut [u8]) -> Answer
+    ensures answer { λ r. ⌜ r ≡ writeAnswer (fenCheck b) (fenText b) (length (now (out .entry))) ⌝ }
+    ensures bytes { λ r. ⌜ now (out .exit) ≡ writeBytes (fenCheck b) (fenText b) (now (out .entry)) ⌝ }
+{
+    fen_writer::write_fen(b, out)
+}
