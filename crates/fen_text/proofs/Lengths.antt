@@ -7,11 +7,9 @@ use native.Mathlib.Nat.{add-zero}
 use native.Mathlib.Omega.{arith}
 use lib.Dec.{eqb, leb, eqb·suc-zero, leb→le, lit≤}
 use lib.ListN.{length, length-append, length-take, length-drop}
-use Rattle.square.specs.Square.{squareText}
 use Rattle.square.proofs.Below.{belows}
 use Rattle.castle_rights.specs.CastleRights.{lettersOf, lettersText}
 use Rattle.board_builder.specs.declared.BoardBuilder.{BoardBuilder}
-use Rattle.board_builder.specs.Getters.{enPassantAt}
 use Rattle.board_builder.proofs.Ranges.{InRange, in-range}
 use Rattle.fen_text.specs.Write.{digitText, runText, rowOf, slashText, ranksText, rightsText, enPassantText, tailText, fenText}
 use Rattle.fen_text.specs.Promises.{TwentyFiveToEightyFive}
@@ -87,9 +85,7 @@ rights-long w b h k = record {
 
 pub en-passant-long : (side file : ℕ) → Long 1 2 (enPassantText side file)
 unfolding enPassantText
-en-passant-long side file =
-    cond-both (Long 1 2) (eqb file 0) {x = 45 ∷ []} {y = squareText (enPassantAt side file)}
-    (record { low = lit≤ tt; high = lit≤ tt }) (record { low = lit≤ tt; high = lit≤ tt })
+en-passant-long side file = cond-both (Long 1 2) (eqb file 0) (record { low = lit≤ tt; high = lit≤ tt }) (record { low = lit≤ tt; high = lit≤ tt })
 
 s≤ : {m n : ℕ} → m ≤ n → m < suc n
 s≤ h = omega arith

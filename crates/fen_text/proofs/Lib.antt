@@ -6,3 +6,4 @@ pub mod ReadBack
 pub mod Keys
 pub mod Hollow
 pub mod Rows
+pub mod Determined

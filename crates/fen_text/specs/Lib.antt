@@ -4,3 +4,4 @@ pub mod Read
 pub mod Write
 pub mod Promises
 pub mod Rows
+pub mod Determined
