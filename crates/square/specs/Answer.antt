@@ -15,13 +15,33 @@ invalidFen = 1
 abbrev pub invalidSquare : ℕ
 invalidSquare = 2
 
+-- 3: `InvalidUciMove`
+abbrev pub invalidUciMove : ℕ
+invalidUciMove = 3
+
+-- 4: `InvalidSanMove`
+abbrev pub invalidSanMove : ℕ
+invalidSanMove = 4
+
 -- 5: a record number, square, rank, file, colour, rights number or in-check byte out of range
 abbrev pub outOfRange : ℕ
 outOfRange = 5
 
+-- 6: list over 255, or an entry (or the coordinate writer's move) over 28,671
+abbrev pub badList : ℕ
+badList = 6
+
 -- 7: output too short
 abbrev pub outputTooShort : ℕ
 outputTooShort = 7
+
+-- 8: no text names the move
+abbrev pub noName : ℕ
+noName = 8
+
+-- 11: move not in the list
+abbrev pub notListed : ℕ
+notListed = 11
 
 -- 0 and the answer
 abbrev pub accepted : ℕ → Answer
