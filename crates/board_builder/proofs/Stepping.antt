@@ -12,7 +12,8 @@ use Rattle.board_builder.specs.declared.BoardBuilder.{BoardBuilder}
 use Rattle.board_builder.specs.BoardBuilder.{inRange}
 use Rattle.board_builder.specs.Steps.{stepped, step, withPiece, withRights}
 use Rattle.board_builder.specs.Promises.{KeepsRange, EveryStepKeepsRange, OutOfRangeHandsBack}
-use Rattle.board_builder.proofs.Ranges.{both-left, both-right, InRange, in-range, range-holds, most-set}
+use Rattle.square.proofs.Numbers.{both-left, both-right, most-set}
+use Rattle.board_builder.proofs.Ranges.{InRange, in-range, range-holds}
 
 pub out-of-range-hands-back : OutOfRangeHandsBack
 unfolding step

@@ -1,10 +1,11 @@
 -- The board record (document 01, "Numbers of the record, the move and the log"): 64 squares, side, white rights, black rights, en passant.
 -- Assumes nothing.
 use Prim.Native.Nat.{ℕ}
-use mathlib.Core.Bool.{Bool, true, _&&_}
+use mathlib.Core.Bool.{Bool, _&&_}
 use mathlib.Core.List.{List, [], _∷_, _++_}
 use lib.Dec.{leb, eqb}
 use lib.ListN.{length, replicate}
+use Rattle.square.specs.Numbers.{allAtMost}
 use Rattle.board_builder.specs.declared.BoardBuilder.{BoardBuilder}
 
 -- the record of these numbers
@@ -22,11 +23,6 @@ squares = 64
 
 abbrev pub recordSize : ℕ
 recordSize = 68
-
--- each number of the list is at most n
-unfoldable pub allAtMost : ℕ → List ℕ → Bool
-allAtMost n [] = true
-allAtMost n (x ∷ xs) = leb x n && allAtMost n xs
 
 -- 64 squares of 0 to 12, side 0 or 1, rights 0 to 3, en passant 0 to 8
 unfoldable pub inRange : BoardBuilder → Bool

@@ -7,7 +7,8 @@ use square::ACCEPTED;
 use square::Answer;
 use square::OUT_OF_RANGE;
 ghost use mathlib.Core.Path.{_≡_};
-ghost use Rattle.board_builder.specs.BoardBuilder.{allAtMost, inRange, emptyBoard, initialBoard};
+ghost use Rattle.square.specs.Numbers.{allAtMost};
+ghost use Rattle.board_builder.specs.BoardBuilder.{inRange, emptyBoard, initialBoard};
 ghost use Rattle.board_builder.specs.Steps.{stepped, setPiece, clearSquare, setSide, setRights, setEnPassant};
 ghost use Rattle.board_builder.specs.Getters.{pieceOn, sideOf, rightsOf, enPassantSquare};
 

@@ -11,7 +11,8 @@ use lib.Seq.{take-at}
 use Rattle.square.specs.declared.Answer.{Answer}
 use Rattle.square.specs.Answer.{accepted, overwrite, writeAnswer, writeBytes}
 use Rattle.square.proofs.Writes.{write-fits}
-use Rattle.board_builder.specs.BoardBuilder.{allAtMost, inRange, emptyBoard, initialBoard}
+use Rattle.square.specs.Numbers.{allAtMost}
+use Rattle.board_builder.specs.BoardBuilder.{inRange, emptyBoard, initialBoard}
 use Rattle.fen_text.specs.declared.Fen.{Fen}
 use Rattle.fen_text.specs.Read.{fenOf}
 use Rattle.fen_text.specs.Write.{fenText, fenCheck}

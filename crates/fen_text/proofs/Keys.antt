@@ -14,8 +14,10 @@ use Rattle.square.specs.Square.{squareOf, between, readSquare}
 use Rattle.square.specs.Piece.{pieceOf}
 use Rattle.castle_rights.specs.CastleRights.{rights}
 use Rattle.board_builder.specs.declared.BoardBuilder.{BoardBuilder}
-use Rattle.board_builder.specs.BoardBuilder.{squares, allAtMost, inRange}
-use Rattle.board_builder.proofs.Ranges.{both-right, range-holds, most-set}
+use Rattle.square.specs.Numbers.{allAtMost}
+use Rattle.board_builder.specs.BoardBuilder.{squares, inRange}
+use Rattle.square.proofs.Numbers.{both-right, most-set}
+use Rattle.board_builder.proofs.Ranges.{range-holds}
 use Rattle.fen_text.specs.declared.Fen.{Fen}
 use Rattle.fen_text.specs.Token.{occurs, tokens}
 use Rattle.fen_text.specs.Placement.{Placement, start, down, skip, fill, spoil, placeCode, placeByte, placeAll}

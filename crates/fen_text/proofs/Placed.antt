@@ -12,8 +12,8 @@ use lib.ListN.{length, drop, replicate, length-append, length-take, length-drop,
 use lib.Seq.{append-snoc, set-at, drop-drop}
 use Rattle.square.specs.Piece.{pieceOf, letterOf}
 use Rattle.square.proofs.Below.{below}
-use Rattle.board_builder.specs.BoardBuilder.{allAtMost}
-use Rattle.board_builder.proofs.Ranges.{most-head, most-tail, most-take, most-drop}
+use Rattle.square.specs.Numbers.{allAtMost}
+use Rattle.square.proofs.Numbers.{most-head, most-tail, most-take, most-drop}
 use Rattle.fen_text.specs.Placement.{Placement, placement, start, skip, fill, placeByte, placeAll}
 use Rattle.fen_text.specs.Write.{digitText, runText, rowOf, slashText, ranksText}
 

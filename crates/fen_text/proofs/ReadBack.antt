@@ -12,8 +12,10 @@ use Rattle.square.specs.Square.{readSquare}
 use Rattle.castle_rights.specs.CastleRights.{lettersOf, lettersText}
 use Rattle.square.proofs.Below.{fails, every, below, belows, same}
 use Rattle.board_builder.specs.declared.BoardBuilder.{BoardBuilder}
-use Rattle.board_builder.specs.BoardBuilder.{allAtMost, inRange}
-use Rattle.board_builder.proofs.Ranges.{InRange, in-range, most-head, most-tail}
+use Rattle.square.specs.Numbers.{allAtMost}
+use Rattle.board_builder.specs.BoardBuilder.{inRange}
+use Rattle.square.proofs.Numbers.{most-head, most-tail}
+use Rattle.board_builder.proofs.Ranges.{InRange, in-range}
 use Rattle.fen_text.specs.Token.{occurs, onto, joined, tokens}
 use Rattle.fen_text.specs.Read.{sideOf, rightsOf, enPassantOf, fenOf, assembled, ofTokens, readFen}
 use Rattle.fen_text.specs.Write.{digitText, runText, rowOf, slashText, ranksText, sideLetter, rightsText, enPassantText, tailText, fenText}

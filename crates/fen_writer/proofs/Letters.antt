@@ -13,8 +13,8 @@ use lib.Seq.{take-all}
 use Rattle.square.specs.Piece.{letterOf}
 use Rattle.square.proofs.Below.{below}
 use Rattle.square.proofs.Writes.{store}
-use Rattle.board_builder.specs.BoardBuilder.{allAtMost}
-use Rattle.board_builder.proofs.Ranges.{most-head, most-tail, most-take, most-drop}
+use Rattle.square.specs.Numbers.{allAtMost}
+use Rattle.square.proofs.Numbers.{most-head, most-tail, most-take, most-drop}
 use Rattle.fen_text.specs.Write.{digitText, runText}
 use Rattle.fen_writer.specs.Letters.{lettersOf, rowText}
 

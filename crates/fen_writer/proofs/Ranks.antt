@@ -8,7 +8,7 @@ use native.Mathlib.Omega.{arith}
 use lib.Dec.{ltb}
 use lib.ListN.{length, take, drop, length-append}
 use borrow.Author.Tests.{lt-ltb}
-use Rattle.board_builder.specs.BoardBuilder.{allAtMost}
+use Rattle.square.specs.Numbers.{allAtMost}
 use Rattle.fen_text.specs.Write.{runText, rowOf, slashText, ranksText}
 use Rattle.fen_writer.specs.Letters.{lettersOf, rowText}
 use Rattle.fen_writer.specs.Put.{Put}

@@ -8,7 +8,7 @@ use mathlib.Core.List.{List}
 use Prim.Native.Nat.{ℕ, _≤_}
 use lib.ListN.{length}
 use lib.Dec.{lit<, lit≤}
-use Rattle.board_builder.specs.BoardBuilder.{allAtMost}
+use Rattle.square.specs.Numbers.{allAtMost}
 use Rattle.fen_text.proofs.Lengths.{ranks-long}
 use Rattle.fen_writer.specs.Letters.{lettersOf}
 use Rattle.fen_writer.proofs.Letters.{letters-long}
