@@ -1,0 +1,5 @@
+pub mod Numbers
+pub mod Ranges
+pub mod Ways
+pub mod ReadBack
+pub mod Determined

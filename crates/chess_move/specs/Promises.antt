@@ -1,0 +1,43 @@
+-- What is promised of moves and their coordinate texts, each as a statement that can be read by itself.
+-- Assumes nothing.
+use Prim.Native.Nat.{ℕ, _≤_}
+use mathlib.Core.Path.{_≡_}
+use mathlib.Core.Bool.{Bool, cond, _||_}
+use mathlib.Core.List.{List}
+use lib.Dec.{eqb}
+use lib.ListN.{length, take}
+use Rattle.square.specs.Answer.{accepted, refused, invalidUciMove, writeAnswer, writeBytes}
+use Rattle.square.specs.Square.{between}
+use Rattle.square.specs.Determined.{Determined, Is}
+use Rattle.chess_move.specs.declared.ChessMove.{ChessMove}
+use Rattle.chess_move.specs.Number.{lastMove, promotionOf, moveOf, numberAnswer}
+use Rattle.chess_move.specs.Coordinate.{readMove, moveText, moveCheck}
+
+-- a number is that of its three parts, and a move in range has its parts back
+abbrev pub NumberOfParts : Type 0
+NumberOfParts = (n : ℕ) → n ≤ lastMove → numberAnswer (moveOf n) ≡ accepted n
+
+abbrev pub PartsOfNumber : Type 0
+PartsOfNumber = (m : ChessMove) → numberAnswer m .number ≡ 0 → (numberAnswer m .value ≤ lastMove) × (moveOf (numberAnswer m .value) ≡ m)
+
+-- none, knight, bishop, rook or queen
+abbrev pub readable : ℕ → Bool
+readable promotion = eqb promotion 0 || between 2 5 promotion
+
+-- a written move with promotion none, knight, bishop, rook or queen reads back to itself, and every other promotion is refused with 3: over the
+-- answers and the room of the two public calls
+pub record MoveBackAgain (n : ℕ) (out : List ℕ) : Type 0 where
+  pub accepts : writeAnswer (moveCheck n) (moveText n) (length out) .number ≡ 0
+  pub back : readMove (take (writeAnswer (moveCheck n) (moveText n) (length out) .value) (writeBytes (moveCheck n) (moveText n) out))
+      ≡ cond (readable (promotionOf n)) (accepted n) (refused invalidUciMove)
+
+abbrev pub MovesReadBack : Type 0
+MovesReadBack = (n : ℕ) (out : List ℕ) → n ≤ lastMove → 5 ≤ length out → MoveBackAgain n out
+
+-- the contract of each public function determines its answer and each lent byte
+pub record ChessMoveDetermined : Type 0 where
+  pub from-number : (n : ℕ) → Determined (Is (moveOf n))
+  pub number : (m : ChessMove) → Determined (Is (numberAnswer m))
+  pub from-str : (s : List ℕ) → Determined (Is (readMove s))
+  pub to-string : (n room : ℕ) → Determined (Is (writeAnswer (moveCheck n) (moveText n) room))
+  pub to-string-bytes : (n : ℕ) (out : List ℕ) → Determined (Is (writeBytes (moveCheck n) (moveText n) out))
