@@ -1,0 +1,4 @@
+pub mod Maxima
+pub mod Listed
+pub mod Counting
+pub mod Determined

@@ -1,0 +1,10 @@
+-- The contract of each public function determines its answer.
+-- Assumes nothing.
+use Prim.Native.Nat.{ℕ}
+use mathlib.Core.List.{List}
+use Rattle.square.specs.Determined.{Determined, Is}
+use Rattle.move_list.specs.MoveList.{listInRange, listed}
+
+pub record MoveListDetermined : Type 0 where
+  pub in-range : (l : List ℕ) → Determined (Is (listInRange l))
+  pub is-listed : (l : List ℕ) (m : ℕ) → Determined (Is (listed m l))
