@@ -1,4 +1,3 @@
-pub mod Puts
 pub mod Letters
 pub mod Rows
 pub mod Ranks

@@ -11,8 +11,8 @@ use borrow.Author.Tests.{lt-ltb}
 use Rattle.square.specs.Numbers.{allAtMost}
 use Rattle.fen_text.specs.Write.{runText, rowOf, slashText, ranksText}
 use Rattle.fen_writer.specs.Letters.{lettersOf, rowText}
-use Rattle.fen_writer.specs.Put.{Put}
-use Rattle.fen_writer.proofs.Puts.{put-both, put-as}
+use Rattle.square.specs.Pushed.{Put}
+use Rattle.square.proofs.Pushes.{put-both, put-as}
 use Rattle.fen_writer.proofs.Letters.{rank-run}
 
 -- the first n bytes and the text of the ranks that are left make the whole, in number and in bytes
@@ -42,25 +42,25 @@ next left pieces h =
 
 -- a rank's row, by the letters
 rank-as : (pieces letters : List ℕ) (from : ℕ) {old mid : List ℕ} {n m : ℕ} → letters ≡ lettersOf pieces → allAtMost 12 pieces ≡ true
-    → Put old n (rowText 0 (take 8 (drop from letters))) mid m → Put old n (runText 0 (take 8 (drop from pieces))) mid m
+    → Put 85 old n (rowText 0 (take 8 (drop from letters))) mid m → Put 85 old n (runText 0 (take 8 (drop from pieces))) mid m
 rank-as pieces letters from e ok p = put-as (ap (λ (l : List ℕ). rowText 0 (take 8 (drop from l))) e ∙ rank-run from pieces ok) p
 
 -- behind a rank there is room for what is left
 pub ranks-room : {pieces old mid : List ℕ} {n m left : ℕ} (letters : List ℕ) → Ranks pieces old n left → 0 < left → letters ≡ lettersOf pieces → allAtMost 12 pieces ≡ true
-    → Put old n (rowText 0 (take 8 (drop ((left - 1) * 8) letters))) mid m → m ≤ length (ranksText 8 pieces)
+    → Put 85 old n (rowText 0 (take 8 (drop ((left - 1) * 8) letters))) mid m → m ≤ length (ranksText 8 pieces)
 ranks-room {pieces} {left = left} letters r h e ok p =
     let q = rank-as pieces letters ((left - 1) * 8) e ok p in
     omega (arith, r .count, q .pushed .count, simp length-append at (ap length (next left pieces h)))
 
 -- one rank, and a slash where there are ranks below it
 pub ranks-turn : {pieces old mid new : List ℕ} {n m r left : ℕ} (letters : List ℕ) → Ranks pieces old n left → 0 < left → letters ≡ lettersOf pieces → allAtMost 12 pieces ≡ true
-    → Put old n (rowText 0 (take 8 (drop ((left - 1) * 8) letters))) mid m → Put mid m (cond (ltb 0 (left - 1)) (47 ∷ []) []) new r
+    → Put 85 old n (rowText 0 (take 8 (drop ((left - 1) * 8) letters))) mid m → Put 85 mid m (cond (ltb 0 (left - 1)) (47 ∷ []) []) new r
     → Ranks pieces new r (left - 1)
 ranks-turn {pieces} {old} {new = new} {n} {r = r} {left} letters a h e ok p q =
     let row = runText 0 (rowOf (left - 1) pieces) in
     let part : List ℕ = cond (ltb 0 (left - 1)) (47 ∷ []) [] in
     let below = ranksText (left - 1) pieces in
-    let both : Put old n (row ++ part) new r = put-both (rank-as pieces letters ((left - 1) * 8) e ok p) q in
+    let both : Put 85 old n (row ++ part) new r = put-both (rank-as pieces letters ((left - 1) * 8) e ok p) q in
     record {
       count = omega (arith, a .count, both .pushed .count, length-append row part, length-append row (part ++ below), length-append part below, ap length (next left pieces h));
       bytes =
@@ -71,7 +71,7 @@ ranks-turn {pieces} {old} {new = new} {n} {r = r} {left} letters a h e ok p q =
       long = q .long;
     }
 
-pub ranks-end : {pieces new : List ℕ} {n left : ℕ} → Ranks pieces new n left → left ≤ 0 → (old : List ℕ) → Put old 0 (ranksText 8 pieces) new n
+pub ranks-end : {pieces new : List ℕ} {n left : ℕ} → Ranks pieces new n left → left ≤ 0 → (old : List ℕ) → Put 85 old 0 (ranksText 8 pieces) new n
 unfolding ranksText
 ranks-end {pieces} {new} {n} {left = zero} a h old =
     record { pushed = record { count = omega (arith, a .count); bytes = sym (append-nil (take n new)) ∙ a .bytes }; long = a .long }

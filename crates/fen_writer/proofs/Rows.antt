@@ -13,7 +13,7 @@ use borrow.Author.Tests.{eq-eqb, ne-eqb, eqb-true, eqb-false, lt-ltb, le-ltb}
 use Rattle.fen_text.specs.Write.{digitText}
 use Rattle.fen_text.proofs.Cases.{cond-both}
 use Rattle.fen_writer.specs.Letters.{rowText}
-use Rattle.fen_writer.specs.Put.{Put}
+use Rattle.square.specs.Pushed.{Put}
 use Rattle.fen_writer.proofs.Letters.{row-empty, row-letter}
 
 -- with i squares behind and a run of `run` open: the first n bytes are what is done and the run's digit, and what is done and what is left
@@ -46,7 +46,7 @@ row-over : (n i : ℕ) (row : List ℕ) → length row ≤ i → rowText n (drop
 unfolding rowText
 row-over n i row h = rw (drop-of-length-le row h)
 
-pub row-end : {old row new : List ℕ} {at n run i : ℕ} → Row old at row new n run i → length old ≡ 85 → at ≤ 85 → length row ≤ i → Put old at (rowText 0 row) new n
+pub row-end : {old row new : List ℕ} {at n run i : ℕ} → Row old at row new n run i → length old ≡ 85 → at ≤ 85 → length row ≤ i → Put 85 old at (rowText 0 row) new n
 row-end {old} {row} {new} {at} {n} {run} {i} r e h k =
     let whole : take n new ≡ take at old ++ rowText 0 row = r .bytes ∙ ap (λ (l : List ℕ). r .done ++ l) (sym (row-over run i row k)) ∙ r .rest in
     let count : n ≡ at + length (rowText 0 row) = omega (arith, simp (length-append, length-take) at (ap length whole)) in

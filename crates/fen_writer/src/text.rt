@@ -1,6 +1,5 @@
 // The FEN text of a record in range, put together in one array of 85 bytes, the longest FEN. The inner loop has no branch: the digit of an empty run
-// stands from its first square on and is written over as the run grows. An array behind a reference does not tell a proof its length, so each function
-// requires it and keeps it.
+// stands from its first square on and is written over as the run grows.
 use board_builder::BoardBuilder;
 ghost use mathlib.Core.Path.{_≡_};
 ghost use mathlib.Core.Bool.{true, cond};
@@ -12,12 +11,12 @@ ghost use Rattle.square.specs.Numbers.{allAtMost};
 ghost use Rattle.board_builder.specs.BoardBuilder.{inRange};
 ghost use Rattle.fen_text.specs.Write.{sideLetter, rightsText, enPassantText, ranksText, tailText, fenText};
 ghost use Rattle.fen_writer.specs.Letters.{lettersOf, rowText};
-ghost use Rattle.fen_writer.specs.Put.{Put};
+ghost use Rattle.square.specs.Pushed.{Put};
 
 fn push(bytes: &mut [u8; 85], n: usize, b: u8) -> usize
     requires { ⌜ length (now bytes) ≡ 85 ⌝ }
     requires { ⌜ n < 85 ⌝ }
-    ensures { λ r. ⌜ Put (now (bytes .entry)) n (b ∷ []) (now (bytes .exit)) r ⌝ }
+    ensures { λ r. ⌜ Put 85 (now (bytes .entry)) n (b ∷ []) (now (bytes .exit)) r ⌝ }
 {
     bytes[n] = b;
     n + 1
@@ -26,7 +25,7 @@ fn push(bytes: &mut [u8; 85], n: usize, b: u8) -> usize
 fn push_if(bytes: &mut [u8; 85], n: usize, there: bool, b: u8) -> usize
     requires { ⌜ length (now bytes) ≡ 85 ⌝ }
     requires { ⌜ n < 85 ⌝ }
-    ensures { λ r. ⌜ Put (now (bytes .entry)) n (cond there (b ∷ []) []) (now (bytes .exit)) r ⌝ }
+    ensures { λ r. ⌜ Put 85 (now (bytes .entry)) n (cond there (b ∷ []) []) (now (bytes .exit)) r ⌝ }
 {
     if there {
         return push(bytes, n, b);
@@ -74,7 +73,7 @@ fn rank(bytes: &mut [u8; 85], at: usize, letters: &[u8; 64], from: usize) -> usi
     requires { ⌜ at < 77 ⌝ }
     requires { ⌜ length (now letters) ≡ 64 ⌝ }
     requires { ⌜ from < 57 ⌝ }
-    ensures { λ r. ⌜ Put (now (bytes .entry)) at (rowText 0 (take 8 (drop from (now (letters .entry))))) (now (bytes .exit)) r ⌝ }
+    ensures { λ r. ⌜ Put 85 (now (bytes .entry)) at (rowText 0 (take 8 (drop from (now (letters .entry))))) (now (bytes .exit)) r ⌝ }
 {
     let mut n = at;
     let mut run: u8 = 0;
@@ -93,7 +92,7 @@ fn rank(bytes: &mut [u8; 85], at: usize, letters: &[u8; 64], from: usize) -> usi
 fn ranks(bytes: &mut [u8; 85], pieces: [u8; 64]) -> usize
     requires { ⌜ length (now bytes) ≡ 85 ⌝ }
     requires { ⌜ allAtMost 12 pieces ≡ true ⌝ }
-    ensures { λ r. ⌜ Put (now (bytes .entry)) 0 (ranksText 8 pieces) (now (bytes .exit)) r ⌝ }
+    ensures { λ r. ⌜ Put 85 (now (bytes .entry)) 0 (ranksText 8 pieces) (now (bytes .exit)) r ⌝ }
 {
     let mut letters = [0u8; 64];
     letters_of(&pieces, &mut letters);
@@ -110,7 +109,7 @@ fn ranks(bytes: &mut [u8; 85], pieces: [u8; 64]) -> usize
 fn side(bytes: &mut [u8; 85], n: usize, side: u8) -> usize
     requires { ⌜ length (now bytes) ≡ 85 ⌝ }
     requires { ⌜ n < 85 ⌝ }
-    ensures { λ r. ⌜ Put (now (bytes .entry)) n (sideLetter side ∷ []) (now (bytes .exit)) r ⌝ }
+    ensures { λ r. ⌜ Put 85 (now (bytes .entry)) n (sideLetter side ∷ []) (now (bytes .exit)) r ⌝ }
 {
     if side == 0 {
         return push(bytes, n, b'w');
@@ -124,7 +123,7 @@ fn rights(bytes: &mut [u8; 85], at: usize, white: u8, black: u8) -> usize
     requires { ⌜ at < 81 ⌝ }
     requires { ⌜ white < 4 ⌝ }
     requires { ⌜ black < 4 ⌝ }
-    ensures { λ r. ⌜ Put (now (bytes .entry)) at (rightsText white black) (now (bytes .exit)) r ⌝ }
+    ensures { λ r. ⌜ Put 85 (now (bytes .entry)) at (rightsText white black) (now (bytes .exit)) r ⌝ }
 {
     let a = push_if(bytes, at, white % 2 == 1, b'K');
     let b = push_if(bytes, a, white / 2 == 1, b'Q');
@@ -138,7 +137,7 @@ fn en_passant(bytes: &mut [u8; 85], n: usize, side: u8, file: u8) -> usize
     requires { ⌜ length (now bytes) ≡ 85 ⌝ }
     requires { ⌜ n < 84 ⌝ }
     requires { ⌜ file < 9 ⌝ }
-    ensures { λ r. ⌜ Put (now (bytes .entry)) n (enPassantText side file) (now (bytes .exit)) r ⌝ }
+    ensures { λ r. ⌜ Put 85 (now (bytes .entry)) n (enPassantText side file) (now (bytes .exit)) r ⌝ }
 {
     if file == 0 {
         return push(bytes, n, b'-');
@@ -155,7 +154,7 @@ fn tail(bytes: &mut [u8; 85], at: usize, board: BoardBuilder) -> usize
     requires { ⌜ length (now bytes) ≡ 85 ⌝ }
     requires { ⌜ at < 72 ⌝ }
     requires { ⌜ inRange board ≡ true ⌝ }
-    ensures { λ r. ⌜ Put (now (bytes .entry)) at (tailText board) (now (bytes .exit)) r ⌝ }
+    ensures { λ r. ⌜ Put 85 (now (bytes .entry)) at (tailText board) (now (bytes .exit)) r ⌝ }
 {
     let a = push(bytes, at, b' ');
     let b = side(bytes, a, board.side_to_move);
@@ -173,7 +172,7 @@ fn tail(bytes: &mut [u8; 85], at: usize, board: BoardBuilder) -> usize
 pub(crate) fn fen_text(bytes: &mut [u8; 85], board: BoardBuilder) -> usize
     requires { ⌜ length (now bytes) ≡ 85 ⌝ }
     requires { ⌜ inRange board ≡ true ⌝ }
-    ensures { λ r. ⌜ Put (now (bytes .entry)) 0 (fenText board) (now (bytes .exit)) r ⌝ }
+    ensures { λ r. ⌜ Put 85 (now (bytes .entry)) 0 (fenText board) (now (bytes .exit)) r ⌝ }
 {
     let pieces = board.pieces;
     let n = ranks(bytes, pieces);

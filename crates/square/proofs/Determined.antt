@@ -24,4 +24,5 @@ square-determined = record {
   to-string-bytes = λ square out. determined;
   piece-of-letter = λ b. determined;
   letter-of-piece = λ piece. determined;
+  kind-of = λ code. determined;
 }

@@ -1,9 +1,9 @@
 -- Piece codes and their FEN letters: 0 empty; 1 to 6 white pawn, knight, bishop, rook, queen, king; 7 to 12 black (document 01, "Numbers of
 -- the record"; PGN standard 16.1.3.1).
 -- Assumes nothing.
-use Prim.Native.Nat.{ℕ}
+use Prim.Native.Nat.{ℕ, _-_}
 use mathlib.Core.Bool.{cond}
-use lib.Dec.{eqb}
+use lib.Dec.{eqb, leb}
 
 -- P N B R Q K are 1 to 6, p n b r q k are 7 to 12, any other byte is 0
 unfoldable pub pieceOf : ℕ → ℕ
@@ -36,3 +36,7 @@ letterOf p =
     (cond (eqb p 10) 114
     (cond (eqb p 11) 113
     (cond (eqb p 12) 107 0)))))))))))
+
+-- the kind of man, 1 to 6, of a code 0 to 12, whichever its colour; 0 where the square is empty
+unfoldable pub kindOf : ℕ → ℕ
+kindOf code = cond (leb code 6) code (code - 6)

@@ -6,7 +6,7 @@ use mathlib.Core.List.{List}
 use lib.ListN.{length, take, drop}
 use Rattle.square.specs.Answer.{accepted, refused, writeAnswer, writeBytes}
 use Rattle.square.specs.Square.{makeSquare, rankOf, fileOf, backRank, squareNamed, readSquare, squareText, squareCheck}
-use Rattle.square.specs.Piece.{pieceOf, letterOf}
+use Rattle.square.specs.Piece.{pieceOf, letterOf, kindOf}
 use Rattle.square.specs.Determined.{Determined, Is}
 
 -- a refused call changes no byte
@@ -43,3 +43,4 @@ pub record SquareDetermined : Type 0 where
   pub to-string-bytes : (square : ℕ) (out : List ℕ) → Determined (Is (writeBytes (squareCheck square) (squareText square) out))
   pub piece-of-letter : (b : ℕ) → Determined (Is (pieceOf b))
   pub letter-of-piece : (piece : ℕ) → Determined (Is (letterOf piece))
+  pub kind-of : (code : ℕ) → Determined (Is (kindOf code))

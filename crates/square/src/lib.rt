@@ -3,7 +3,7 @@ ghost use mathlib.Core.Path.{_≡_};
 ghost use lib.ListN.{length};
 ghost use Rattle.square.specs.Answer.{accepted, refused, writeAnswer, writeBytes};
 ghost use Rattle.square.specs.Square.{makeSquare, rankOf, fileOf, backRank, squareNamed, readSquare, squareText, squareCheck};
-ghost use Rattle.square.specs.Piece.{pieceOf, letterOf};
+ghost use Rattle.square.specs.Piece.{pieceOf, letterOf, kindOf};
 
 // What a call answers: its number in document 01's table, and the value that comes with it.
 #[repr(C)]
@@ -178,4 +178,11 @@ pub fn letter_of_piece(piece: u8) -> u8
         12 => b'k',
         _ => 0,
     }
+}
+
+// The kind of man of a piece code, 1 to 6 whichever its colour, 0 for an empty square.
+pub fn kind_of(code: u8) -> u8
+    ensures { λ r. ⌜ r ≡ kindOf code ⌝ }
+{
+    if code <= 6 { code } else { code - 6 }
 }

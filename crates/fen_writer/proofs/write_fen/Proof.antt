@@ -7,7 +7,7 @@ use Rattle.square.proofs.Writes.{write-refused}
 use Rattle.square.proofs.Pushes.{push-whole}
 use Rattle.board_builder.specs.BoardBuilder.{inRange}
 use Rattle.fen_text.specs.Write.{fenText, fenCheck}
-use Rattle.fen_writer.proofs.Puts.{whole-count, whole-within}
+use Rattle.square.proofs.Pushes.{whole-count, whole-within}
 use Rattle.fen_writer.proofs.write_fen.Statement.{statement}
 use Rattle.fen_writer.proofs.write_fen.Tie as tie
 

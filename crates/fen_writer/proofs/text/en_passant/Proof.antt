@@ -1,5 +1,5 @@
 use borrow.Author.Needs.{needs}
-use Rattle.fen_writer.proofs.Puts.{put-both, put-as}
+use Rattle.square.proofs.Pushes.{put-both, put-as}
 use Rattle.fen_writer.proofs.Parts.{no-file, white-file, black-file}
 use Rattle.fen_writer.proofs.text.en_passant.Statement.{statement}
 use Rattle.fen_writer.proofs.text.en_passant.Tie as tie

@@ -3,7 +3,7 @@ use lib.Dec.{lit<}
 use Rattle.fen_text.specs.Write.{fenText}
 use Rattle.board_builder.proofs.Ranges.{in-range}
 use Rattle.fen_text.proofs.Lengths.{ranks-long}
-use Rattle.fen_writer.proofs.Puts.{put-both}
+use Rattle.square.proofs.Pushes.{put-both}
 use Rattle.fen_writer.proofs.text.fen_text.Statement.{statement}
 use Rattle.fen_writer.proofs.text.fen_text.Tie as tie
 

@@ -1,5 +1,5 @@
 use borrow.Author.Needs.{needs}
-use Rattle.fen_writer.proofs.Puts.{put-one}
+use Rattle.square.proofs.Pushes.{put-one}
 use Rattle.fen_writer.proofs.text.push.Statement.{statement}
 use Rattle.fen_writer.proofs.text.push.Tie as tie
 

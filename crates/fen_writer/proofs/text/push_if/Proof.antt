@@ -1,5 +1,5 @@
 use borrow.Author.Needs.{needs}
-use Rattle.fen_writer.proofs.Puts.{put-none}
+use Rattle.square.proofs.Pushes.{put-none}
 use Rattle.fen_writer.proofs.text.push_if.Statement.{statement}
 use Rattle.fen_writer.proofs.text.push_if.Tie as tie
 

@@ -1,7 +1,7 @@
 use native.Mathlib.Omega.{arith}
 use Rattle.fen_text.specs.Write.{tailText}
 use Rattle.fen_writer.proofs.Parts.{small}
-use Rattle.fen_writer.proofs.Puts.{put-both}
+use Rattle.square.proofs.Pushes.{put-both}
 use Rattle.fen_writer.proofs.text.tail.Statement.{statement}
 use Rattle.fen_writer.proofs.text.tail.Tie as tie
 

@@ -1,0 +1,98 @@
+-- What is promised of SAN texts and names, each as a statement that can be read by itself. The proofs are in proofs/.
+-- Assumes nothing.
+use Prim.Native.Nat.{ℕ, _≤_}
+use mathlib.Core.Path.{_≡_}
+use mathlib.Core.Bool.{true}
+use mathlib.Core.List.{List}
+use mathlib.Core.Logic.{_⊎_}
+use lib.ListN.{length, take}
+use Rattle.square.specs.declared.Answer.{Answer}
+use Rattle.square.specs.Answer.{accepted, noName, outputTooShort}
+use Rattle.square.specs.Determined.{Determined, Is}
+use Rattle.board_builder.specs.declared.BoardBuilder.{BoardBuilder}
+use Rattle.board_builder.specs.BoardBuilder.{inRange}
+use Rattle.chess_move.specs.Number.{sourceOf, destOf}
+use Rattle.move_list.specs.MoveList.{listInRange, listed}
+use Rattle.san_text.specs.Resolve.{kindAt, emptyAt}
+use Rattle.san_text.specs.Paper.{fromSan, nameAnswer, nameBytes}
+
+-- any reader: a record, a list, a text
+abbrev pub Reader : Type 0
+Reader = BoardBuilder → List ℕ → List ℕ → Answer
+
+-- any namer: what it answers to a record, a list, a move and the length of a room, and what it leaves in the room
+pub record Namer : Type 0 where
+  pub answer : BoardBuilder → List ℕ → ℕ → ℕ → Answer
+  pub room : BoardBuilder → List ℕ → ℕ → List ℕ → List ℕ
+
+-- ours
+abbrev pub namer : Namer
+namer = record { answer = nameAnswer; room = nameBytes }
+
+-- the checks 5, 6 and 11 are passed
+pub record Ready (b : BoardBuilder) (moves : List ℕ) (m : ℕ) : Type 0 where
+  pub record-in-range : inRange b ≡ true
+  pub list-in-range : listInRange moves ≡ true
+  pub move-listed : listed m moves ≡ true
+
+-- a name: its length is the answer's value, 2 to 11, and that many bytes at the front of the room are a text that the reader answers with 0 and
+-- exactly that move
+pub record NamedSo (w : Namer) (read : Reader) (b : BoardBuilder) (moves : List ℕ) (m : ℕ) (out : List ℕ) : Type 0 where
+  pub number : w .answer b moves m (length out) .number ≡ 0
+  pub least : 2 ≤ w .answer b moves m (length out) .value
+  pub most : w .answer b moves m (length out) .value ≤ 11
+  pub back : read b moves (take (w .answer b moves m (length out) .value) (w .room b moves m out)) ≡ accepted m
+
+-- no name: 8, and no text of any length is read as the move
+pub record Unnamed (w : Namer) (read : Reader) (b : BoardBuilder) (moves : List ℕ) (m : ℕ) (out : List ℕ) : Type 0 where
+  pub number : w .answer b moves m (length out) .number ≡ noName
+  pub none-reads : (t : List ℕ) → read b moves t ≡ accepted m → ⊥
+
+-- demand 3, of any namer and reader: with the checks passed, the move listed and eleven bytes of room or more, a listed move is named so, or it is
+-- unnamed and no text of any length is read as it
+abbrev pub Demand3 : Namer → Reader → Type 0
+Demand3 w read =
+    (b : BoardBuilder) (moves : List ℕ) (m : ℕ) (out : List ℕ) → Ready b moves m → 11 ≤ length out
+    → NamedSo w read b moves m out ⊎ Unnamed w read b moves m out
+
+-- kept by ours
+abbrev pub NamesReadBack : Type 0
+NamesReadBack = Demand3 namer fromSan
+
+-- and not by a namer that always refuses, nor by one that writes nothing, nor by one that invents its length, with our reader ..
+abbrev pub RefusingNamerFails : Type 0
+RefusingNamerFails =
+    (w : Namer) → ((b : BoardBuilder) (moves : List ℕ) (m room : ℕ) → w .answer b moves m room .number ≡ 0 → ⊥) → Demand3 w fromSan → ⊥
+
+abbrev pub SilentNamerFails : Type 0
+SilentNamerFails = (w : Namer) → ((b : BoardBuilder) (moves : List ℕ) (m : ℕ) (out : List ℕ) → w .room b moves m out ≡ out) → Demand3 w fromSan → ⊥
+
+abbrev pub InventedLengthFails : Type 0
+InventedLengthFails =
+    (w : Namer) (n : ℕ) → ((b : BoardBuilder) (moves : List ℕ) (m room : ℕ) → w .answer b moves m room .number ≡ 0 → w .answer b moves m room .value ≡ n)
+    → ((b : BoardBuilder) (moves : List ℕ) (m : ℕ) (out : List ℕ) → w .room b moves m out ≡ nameBytes b moves m out)
+    → Demand3 w fromSan → ⊥
+
+-- answer 7 has the length of the text: a room of just that length is accepted with it, and the room was shorter
+pub record SevenTellsTheLength (b : BoardBuilder) (moves : List ℕ) (m room : ℕ) : Type 0 where
+  pub long-enough : nameAnswer b moves m (nameAnswer b moves m room .value) ≡ accepted (nameAnswer b moves m room .value)
+
+abbrev pub SevenIsTrue : Type 0
+SevenIsTrue = (b : BoardBuilder) (moves : List ℕ) (m room : ℕ) → nameAnswer b moves m room .number ≡ outputTooShort → SevenTellsTheLength b moves m room
+
+-- two records that agree on the side, on piece kinds at listed sources and on emptiness of listed destinations
+pub record Alike (b c : BoardBuilder) (moves : List ℕ) : Type 0 where
+  pub side : b .«side_to_move» ≡ c .«side_to_move»
+  pub kinds : (m : ℕ) → listed m moves ≡ true → kindAt (b .pieces) (sourceOf m) ≡ kindAt (c .pieces) (sourceOf m)
+  pub empty : (m : ℕ) → listed m moves ≡ true → emptyAt (b .pieces) (destOf m) ≡ emptyAt (c .pieces) (destOf m)
+
+-- with one text and one list, two such records in range get the same SAN answer, however rights and en passant differ
+abbrev pub SameSanAnswer : Type 0
+SameSanAnswer =
+    (b c : BoardBuilder) (moves text : List ℕ) → inRange b ≡ true → inRange c ≡ true → Alike b c moves → fromSan b moves text ≡ fromSan c moves text
+
+-- the contracts of crates san and namer determine their answers and each lent byte
+pub record SanDetermined : Type 0 where
+  pub from-san : (b : BoardBuilder) (moves text : List ℕ) → Determined (Is (fromSan b moves text))
+  pub to-san : (b : BoardBuilder) (moves : List ℕ) (m room : ℕ) → Determined (Is (nameAnswer b moves m room))
+  pub to-san-bytes : (b : BoardBuilder) (moves : List ℕ) (m : ℕ) (out : List ℕ) → Determined (Is (nameBytes b moves m out))

@@ -1,0 +1,59 @@
+use borrow.Author.Needs.{needs}
+use mathlib.Core.Path.{ap, _∙_}
+use native.Mathlib.Omega.{arith}
+use Rattle.square.proofs.Pushes.{put-both, put-as}
+use Prim.Native.Nat.{_+_, _%_, _/_}
+use Rattle.san_writer.proofs.Parts.{letter-piece, one-put}
+use mathlib.Core.Bool.{not}
+use lib.Dec.{eqb}
+use Rattle.san_writer.specs.Letters.{letterIf}
+use Rattle.san_writer.proofs.head.Statement.{statement}
+use Rattle.san_writer.proofs.head.Tie as tie
+
+piece-byte-requires : tie.Need-piece-byte-requires
+piece-byte-requires c κs = search needs
+
+push-if-requires : tie.Need-push-if-requires
+push-if-requires c κs = (c .before .before .pre .0, omega arith)
+
+add-push-if : tie.Need-add-push-if
+add-push-if c = search needs
+
+push-if-requires-2 : tie.Need-push-if-requires-2
+push-if-requires-2 c κs = 
+    let h = one-put (not (eqb (c .before .before .before .piece-byte .result) 0)) (c .before .before .before .piece-byte .result) (c .before .push-if .ensures) in
+    (c .before .push-if .ensures .long, omega arith)
+
+add-push-if-2 : tie.Need-add-push-if-2
+add-push-if-2 c = search needs
+
+push-if-requires-3 : tie.Need-push-if-requires-3
+push-if-requires-3 c κs = 
+    let h = one-put (not (eqb (c .before .before .before .before .before .piece-byte .result) 0)) (c .before .before .before .before .before .piece-byte .result) (c .before .before .before .push-if .ensures) in
+    let k = one-put (c .before .before .before .before .before .before .args .file) (97 + c .before .before .before .before .before .before .args .source % 8) (c .before .push-if2 .ensures) in
+    (c .before .push-if2 .ensures .long, omega arith)
+
+push-if-requires-4 : tie.Need-push-if-requires-4
+push-if-requires-4 c κs = 
+    let h = one-put (not (eqb (c .before .before .before .before .before .before .before .piece-byte .result) 0)) (c .before .before .before .before .before .before .before .piece-byte .result) (c .before .before .before .before .before .push-if .ensures) in
+    let k = one-put (c .before .before .before .before .before .before .before .before .args .file) (97 + c .before .before .before .before .before .before .before .before .args .source % 8) (c .before .before .before .push-if2 .ensures) in
+    let l = one-put (c .before .before .before .before .before .before .before .before .args .rank) (49 + c .before .before .before .before .before .before .before .before .args .source / 8) (c .before .push-if3 .ensures) in
+    (c .before .push-if3 .ensures .long, omega arith)
+
+returns : tie.Need-returns
+returns c = 
+    let letter = ap letterIf (c .before .before .before .before .before .before .before .before .piece-byte .ensures) ∙ letter-piece (c .before .before .before .before .before .before .before .before .before .args .kind) in
+    put-both (put-as letter (c .before .before .before .before .before .before .push-if .ensures)) (put-both (c .before .before .before .before .push-if2 .ensures) (put-both (c .before .before .push-if3 .ensures) (c .push-if4 .ensures)))
+
+pub head-spec : {M : Type 1} → statement M
+head-spec =
+    tie.close
+    (tie.spec
+    piece-byte-requires
+    push-if-requires
+    add-push-if
+    push-if-requires-2
+    add-push-if-2
+    push-if-requires-3
+    push-if-requires-4
+    returns)

@@ -1,0 +1,19 @@
+use borrow.Author.Needs.{needs}
+use Rattle.square.proofs.Pushes.{put-none}
+use Rattle.san_text.specs.Name.{optional}
+use Rattle.san_writer.proofs.push_if.Statement.{statement}
+use Rattle.san_writer.proofs.push_if.Tie as tie
+
+push-requires : tie.Need-push-requires
+push-requires c κs = search needs
+
+returns : tie.Need-returns
+unfolding optional
+returns c = rw (c .before .before .if1 .taken) (c .push .ensures)
+
+returns-2 : tie.Need-returns-2
+unfolding optional
+returns-2 c = rw (c .if1 .left) (put-none (c .before .pre .0))
+
+pub push-if-spec : {M : Type 1} → statement M
+push-if-spec = tie.close (tie.spec push-requires returns returns-2)
