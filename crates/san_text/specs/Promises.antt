@@ -1,6 +1,6 @@
 -- What is promised of SAN texts and names, each as a statement that can be read by itself. The proofs are in proofs/.
 -- Assumes nothing.
-use Prim.Native.Nat.{ℕ, _≤_}
+use Prim.Native.Nat.{ℕ, _≤_, _<_}
 use mathlib.Core.Path.{_≡_}
 use mathlib.Core.Bool.{true}
 use mathlib.Core.List.{List}
@@ -76,6 +76,7 @@ InventedLengthFails =
 -- answer 7 has the length of the text: a room of just that length is accepted with it, and the room was shorter
 pub record SevenTellsTheLength (b : BoardBuilder) (moves : List ℕ) (m room : ℕ) : Type 0 where
   pub long-enough : nameAnswer b moves m (nameAnswer b moves m room .value) ≡ accepted (nameAnswer b moves m room .value)
+  pub shorter : room < nameAnswer b moves m room .value
 
 abbrev pub SevenIsTrue : Type 0
 SevenIsTrue = (b : BoardBuilder) (moves : List ℕ) (m room : ℕ) → nameAnswer b moves m room .number ≡ outputTooShort → SevenTellsTheLength b moves m room

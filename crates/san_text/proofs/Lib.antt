@@ -1,0 +1,14 @@
+pub mod Stages
+pub mod Says
+pub mod Front
+pub mod Sole
+pub mod Lawful
+pub mod Named
+pub mod Tried
+pub mod PaperLawful
+pub mod Lengths
+pub mod ReadBack
+pub mod Seven
+pub mod Hollow
+pub mod Blind
+pub mod Determined
