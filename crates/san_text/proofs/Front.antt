@@ -13,7 +13,7 @@ use Rattle.san_text.specs.Place.{filePlace, rankPlace, squareAt, fileByt
 use Rattle.san_text.specs.Text.{Dest, sameText, promotionKind, pieceKind, first, after, pieceOr, readTakes, readRank, readFile, readPiece}
 use Rattle.san_text.specs.Resolve.{kindAt}
 use Rattle.san_text.specs.Name.{optional, promotionLetter, pieceLetter, takesOf, headOf}
-use Rattle.san_text.proofs.Stages.{place-of-byte, square-of-places}
+use Rattle.san_text.proofs.Places.{place-of-byte, square-of-places}
 use Rattle.san_text.proofs.Says.{Moves}
 
 -- the kind as the reader holds it before it takes no letter for a pawn

@@ -1,4 +1,4 @@
-pub mod Stages
+pub mod Places
 pub mod Says
 pub mod Front
 pub mod Sole
@@ -12,3 +12,4 @@ pub mod Seven
 pub mod Hollow
 pub mod Blind
 pub mod Determined
+pub mod Slips

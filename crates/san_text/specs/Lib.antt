@@ -5,3 +5,4 @@ pub mod Form
 pub mod Name
 pub mod Paper
 pub mod Promises
+pub mod Slips

@@ -1,0 +1,40 @@
+-- Document 01, "Positions and texts to try": the sixteen rows, in its order, over the definitions that the public contracts cite.
+-- Assumes nothing.
+use Prim.Native.Nat.{ℕ}
+use Prim.Native.String.{String}
+use mathlib.Core.Path.{_≡_}
+use mathlib.Core.List.{List, [], _∷_}
+use Rattle.square.specs.Answer.{accepted, refused, invalidSquare, invalidUciMove}
+use Rattle.square.specs.Ascii.{ascii}
+use Rattle.chess_move.specs.Coordinate.{readMove}
+use Rattle.fen_text.specs.Rows.{Writes, Refused}
+use Rattle.san_text.specs.Slips.{Reads, Refuses, Named, knight, knights, rook, pawn}
+
+-- a coordinate text's answer
+abbrev pub Moves : String → ℕ → Type 0
+Moves text m = readMove (ascii text) ≡ accepted m
+
+abbrev pub NoMove : String → ℕ → Type 0
+NoMove text number = readMove (ascii text) ≡ refused number
+
+pub record SixteenRows : Type 0 where
+  pub row1 : Writes " w - -" "8/8/8/8/8/8/8/8 w - - 0 1"
+  pub row2 : Refused "8/8 w -"
+  pub row3 : Refused "8/8/8/8/8/8/8/9 w - -"
+  pub row4 : Writes "8/8/8/8/8/8/8/8 w - e4" "8/8/8/8/8/8/8/8 w - e6 0 1"
+  pub row5 : Writes "8/8/8/8/8/8/8/8 b - z9" "8/8/8/8/8/8/8/8 b - - 0 1"
+  pub row6 : (Moves "e2e4q" 22284) × (Moves "e2e4qx" 1804)
+  pub row7 : (NoMove "e2e4k" invalidUciMove) × (NoMove "e2e" invalidUciMove)
+  pub row8 : NoMove "z9e4" invalidSquare
+  -- knight b1, list 1153
+  pub row9 : Reads knight (1153 ∷ []) "Nc3+?!" 1153
+  pub row10 : Refuses knight (1153 ∷ []) "Nc3x"
+  -- knights b1, e2, list 1153, 1164
+  pub row11 : (Refuses knights (1153 ∷ 1164 ∷ []) "Nc3") × (Reads knights (1153 ∷ 1164 ∷ []) "Nbc3" 1153)
+  pub row12 : Named knights (1153 ∷ 1164 ∷ []) 1153 "Nbc3"
+  -- white rook e1, list 388; the same list twice
+  pub row13 : (Reads rook (388 ∷ []) "O-O" 388) × (Refuses rook (388 ∷ []) "O-O+")
+  pub row14 : Named rook (388 ∷ 388 ∷ []) 388 "O-O"
+  -- pawn e5, list 2788
+  pub row15 : (Refuses pawn (2788 ∷ []) "exd6") × (Reads pawn (2788 ∷ []) "d6" 2788)
+  pub row16 : Named pawn (2788 ∷ []) 2788 "exd6 e.p."
