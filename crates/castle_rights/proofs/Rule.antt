@@ -9,14 +9,8 @@ use lib.Dec.{T, eqb, eqb→eq}
 use lib.ListN.{length, getD, replicate}
 use Rattle.square.proofs.Below.{both-left, both-right}
 use Rattle.square.proofs.Entries.{every, at}
-use Rattle.castle_rights.specs.CastleRights.{castlesAt}
-
--- the table, as the source has it
-abbrev back : List ℕ → List ℕ
-back l = 2 ∷ 0 ∷ 0 ∷ 0 ∷ 3 ∷ 0 ∷ 0 ∷ 1 ∷ l
-
-abbrev pub table : List (List ℕ)
-table = back (replicate 56 0) ∷ (replicate 56 0 ++ back []) ∷ []
+use Rattle.castle_rights.specs.CastleRights.{castlesAt, castlesPerSquare}
+use Rattle.castle_rights.specs.Promises.{TableRule}
 
 -- an entry is right by its colour, rank and file; a row has 64 entries that are right
 right : ℕ → ℕ → ℕ → Bool
@@ -25,11 +19,11 @@ right colour square x = eqb x (castlesAt colour (square / 8) (square % 8))
 row : ℕ → List ℕ → Bool
 row colour xs = eqb (length xs) 64 && every (right colour) 0 xs
 
-pub rule : (colour square : ℕ) → colour < 2 → square < 64 → getD (getD table colour []) square 0 ≡ castlesAt colour (square / 8) (square % 8)
+pub rule : TableRule
 unfolding row right
 rule colour square h k =
-    let xs : List ℕ = getD table colour [] in
-    let whole : T (row colour xs) = at row table [] tt colour h in
+    let xs : List ℕ = getD castlesPerSquare colour [] in
+    let whole : T (row colour xs) = at row castlesPerSquare [] tt colour h in
     let long : length xs ≡ 64 = eqb→eq (length xs) 64 (both-left (eqb (length xs) 64) (every (right colour) 0 xs) whole) in
     eqb→eq (getD xs square 0) (castlesAt colour (square / 8) (square % 8))
     (at (right colour) xs 0 (both-right (eqb (length xs) 64) (every (right colour) 0 xs) whole) square (omega arith))

@@ -10,6 +10,8 @@ ghost use Rattle.square.specs.Square.{makeSquare};
 ghost use Rattle.castle_rights.specs.CastleRights.{addRights, removeRights, squareRights};
 ghost use Rattle.board_builder.specs.Steps.{setPiece, clearSquare, setSide, setRights, setEnPassant};
 ghost use Rattle.fen_text.specs.Read.{readFen};
+ghost use Rattle.chess_move.specs.Coordinate.{readMove, moveText, moveCheck};
+ghost use Rattle.san_text.specs.Paper.{fromSan};
 ghost use Rattle.fen_text.specs.Write.{fenText, fenCheck};
 
 #[no_mangle]
@@ -88,4 +90,26 @@ pub extern "C" fn menkhodur_fen_write(b: BoardBuilder, out: &mut [u8]) -> Answer
     ensures bytes { λ r. ⌜ now (out .exit) ≡ writeBytes (fenCheck b) (fenText b) (now (out .entry)) ⌝ }
 {
     fen_writer::write_fen(b, out)
+}
+
+#[no_mangle]
+pub extern "C" fn menkhodur_move_read(text: &[u8]) -> Answer
+    ensures { λ r. ⌜ r ≡ readMove (now (text .entry)) ⌝ }
+{
+    chess_move::from_str(text)
+}
+
+#[no_mangle]
+pub extern "C" fn menkhodur_move_write(n: u64, out: &mut [u8]) -> Answer
+    ensures answer { λ r. ⌜ r ≡ writeAnswer (moveCheck n) (moveText n) (length (now (out .entry))) ⌝ }
+    ensures bytes { λ r. ⌜ now (out .exit) ≡ writeBytes (moveCheck n) (moveText n) (now (out .entry)) ⌝ }
+{
+    chess_move::to_string(n, out)
+}
+
+#[no_mangle]
+pub extern "C" fn menkhodur_san_read(b: BoardBuilder, list: &[u16], text: &[u8]) -> Answer
+    ensures { λ r. ⌜ r ≡ fromSan b (now (list .entry)) (now (text .entry)) ⌝ }
+{
+    san::from_san(b, list, text)
 }
