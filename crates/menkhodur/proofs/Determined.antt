@@ -21,4 +21,6 @@ menkhodur-determined = record {
   move-write = λ n room. determined;
   move-write-bytes = λ n out. determined;
   san-read = λ b list text. determined;
+  san-name = λ b list n room. determined;
+  san-name-bytes = λ b list n out. determined;
 }

@@ -11,7 +11,7 @@ use Rattle.board_builder.specs.Steps.{setPiece, clearSquare, setSide, setRights
 use Rattle.fen_text.specs.Read.{readFen}
 use Rattle.fen_text.specs.Write.{fenText, fenCheck}
 use Rattle.chess_move.specs.Coordinate.{readMove, moveText, moveCheck}
-use Rattle.san_text.specs.Paper.{fromSan}
+use Rattle.san_text.specs.Paper.{fromSan, nameAnswer, nameBytes}
 
 pub record MenkhodurDetermined : Type 0 where
   pub make-square : (rank file : ℕ) → Determined (Is (makeSquare rank file))
@@ -30,3 +30,5 @@ pub record MenkhodurDetermined : Type 0 where
   pub move-write : (n room : ℕ) → Determined (Is (writeAnswer (moveCheck n) (moveText n) room))
   pub move-write-bytes : (n : ℕ) (out : List ℕ) → Determined (Is (writeBytes (moveCheck n) (moveText n) out))
   pub san-read : (b : BoardBuilder) (list text : List ℕ) → Determined (Is (fromSan b list text))
+  pub san-name : (b : BoardBuilder) (list : List ℕ) (n room : ℕ) → Determined (Is (nameAnswer b list n room))
+  pub san-name-bytes : (b : BoardBuilder) (list : List ℕ) (n : ℕ) (out : List ℕ) → Determined (Is (nameBytes b list n out))

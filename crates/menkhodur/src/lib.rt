@@ -11,7 +11,7 @@ ghost use Rattle.castle_rights.specs.CastleRights.{addRights, removeRights, squ
 ghost use Rattle.board_builder.specs.Steps.{setPiece, clearSquare, setSide, setRights, setEnPassant};
 ghost use Rattle.fen_text.specs.Read.{readFen};
 ghost use Rattle.chess_move.specs.Coordinate.{readMove, moveText, moveCheck};
-ghost use Rattle.san_text.specs.Paper.{fromSan};
+ghost use Rattle.san_text.specs.Paper.{fromSan, nameAnswer, nameBytes};
 ghost use Rattle.fen_text.specs.Write.{fenText, fenCheck};
 
 #[no_mangle]
@@ -112,4 +112,12 @@ pub extern "C" fn menkhodur_san_read(b: BoardBuilder, list: &[u16], text: &[u8])
     ensures { λ r. ⌜ r ≡ fromSan b (now (list .entry)) (now (text .entry)) ⌝ }
 {
     san::from_san(b, list, text)
+}
+
+#[no_mangle]
+pub extern "C" fn menkhodur_san_name(b: BoardBuilder, list: &[u16], n: u64, out: &mut [u8]) -> Answer
+    ensures answer { λ r. ⌜ r ≡ nameAnswer b (now (list .entry)) n (length (now (out .entry))) ⌝ }
+    ensures bytes { λ r. ⌜ now (out .exit) ≡ nameBytes b (now (list .entry)) n (now (out .entry)) ⌝ }
+{
+    namer::to_san(b, list, n, out)
 }

@@ -1,15 +1,19 @@
--- Whether a move is in a list, one entry after the other.
+-- Whether a move is in a list, one entry after the other; and the bound of a listed move.
 -- Assumes nothing.
 use mathlib.Core.Path.{_≡_, refl}
-use mathlib.Core.Bool.{true, false}
-use mathlib.Core.List.{List}
+use mathlib.Core.Bool.{Bool, true, false, _||_, false≢true}
+use mathlib.Core.List.{List, [], _∷_}
 use Prim.Native.Nat.{ℕ, suc, _+_, _≤_, _<_}
 use native.Mathlib.Numerals.{add-one}
-use lib.Dec.{eqb}
+use native.Mathlib.Omega.{arith}
+use lib.Dec.{eqb, leb}
 use lib.ListN.{length, getD, drop, drop-of-length-le}
 use lib.Seq.{drop-cons}
-use borrow.Author.Tests.{eq-eqb, ne-eqb}
-use Rattle.move_list.specs.MoveList.{listed}
+use borrow.Author.Tests.{eq-eqb, ne-eqb, eqb-true}
+use Rattle.square.specs.Numbers.{allAtMost}
+use Rattle.square.proofs.Numbers.{both-right, most-head, most-tail}
+use Rattle.chess_move.specs.Number.{lastMove}
+use Rattle.move_list.specs.MoveList.{longestList, listInRange, listed}
 
 pub listed-turn : (m : ℕ) (l : List ℕ) (i : ℕ) → i < length l → (getD l i 0 ≡ m → ⊥) → listed m (drop i l) ≡ listed m (drop (i + 1) l)
 unfolding listed
@@ -22,3 +26,17 @@ listed-stop m l i h e = rw (drop-cons l i 0 h) (simp (eq-eqb _ _ e))
 pub listed-end : (m : ℕ) (l : List ℕ) (i : ℕ) → length l ≤ i → listed m (drop i l) ≡ false
 unfolding listed
 listed-end m l i h = rw (drop-of-length-le l h)
+
+-- what is listed is at most what every entry is at most
+pub listed-most : (n m : ℕ) (l : List ℕ) → allAtMost n l ≡ true → listed m l ≡ true → m ≤ n
+unfolding listed
+listed-most n m [] a e = absurd (false≢true e)
+listed-most n m (x ∷ xs) a e = go (listed-most n m xs (most-tail n x xs a)) (eqb x m) refl e
+  where
+    go : (listed m xs ≡ true → m ≤ n) → (t : Bool) → eqb x m ≡ t → t || listed m xs ≡ true → m ≤ n
+    go ih true q k = omega (arith, eqb-true x m q, most-head n x xs a)
+    go ih false q k = ih k
+
+pub listed-in-range : (m : ℕ) (l : List ℕ) → listInRange l ≡ true → listed m l ≡ true → m ≤ lastMove
+unfolding listInRange
+listed-in-range m l r e = listed-most lastMove m l (both-right (leb (length l) longestList) (allAtMost lastMove l) r) e

@@ -1,0 +1,37 @@
+-- What the steps of the namer leave in their eleven bytes. For its inner functions; the public contract does not speak of this.
+-- Assumes nothing.
+use Prim.Native.Nat.{ℕ, _≤_}
+use mathlib.Core.Path.{_≡_}
+use mathlib.Core.Bool.{Bool, cond}
+use mathlib.Core.List.{List}
+use mathlib.Core.Option.{Option, none, some}
+use lib.Dec.{eqb}
+use lib.ListN.{length, take}
+use Rattle.board_builder.specs.declared.BoardBuilder.{BoardBuilder}
+use Rattle.chess_move.specs.Number.{sourceOf}
+use Rattle.san_text.specs.Resolve.{kindAt}
+use Rattle.san_text.specs.Name.{names, candidates, castlingName, firstName, textOr}
+use Rattle.san_text.specs.Paper.{sanText, paper}
+
+-- the text, if there is one, stands in the first r of eleven bytes; it has two bytes or more, so that 0 says that there is none
+pub record Found (o : Option (List ℕ)) (bytes : List ℕ) (r : ℕ) : Type 0 where
+  pub long : length bytes ≡ 11
+  pub count : r ≡ length (textOr o)
+  pub text : take r bytes ≡ textOr o
+  pub some-if : (r ≡ 0 → ⊥) → o ≡ some (take r bytes)
+  pub none-if : r ≡ 0 → o ≡ none
+
+-- a text that is tried: it, if it names the move
+abbrev pub tried : BoardBuilder → List ℕ → ℕ → List ℕ → Option (List ℕ)
+tried b moves m text = cond (names paper b moves m text) (some text) none
+
+-- the first of the texts with source parts
+abbrev pub otherNames : BoardBuilder → List ℕ → ℕ → Bool → Option (List ℕ)
+otherNames b moves m changes = firstName (names paper b moves m) (candidates (sanText (b .pieces) m) changes) none
+
+abbrev pub isKing : List ℕ → ℕ → Bool
+isKing pieces m = eqb (kindAt pieces (sourceOf m)) 6
+
+-- the castling text of a castling pair with a king on its source
+abbrev pub kingName : BoardBuilder → ℕ → Option (List ℕ)
+kingName b m = cond (isKing (b .pieces) m) (castlingName (b .«side_to_move») m) none
