@@ -7,7 +7,9 @@ use square::ACCEPTED;
 use square::Answer;
 use square::OUT_OF_RANGE;
 ghost use mathlib.Core.Path.{_≡_};
-ghost use Rattle.square.specs.Numbers.{allAtMost};
+ghost use Prim.Native.Nat.{_*_, _<_, max};
+ghost use lib.ListN.{length, take, drop};
+ghost use Rattle.square.specs.Numbers.{allAtMost, largest};
 ghost use Rattle.board_builder.specs.BoardBuilder.{inRange, emptyBoard, initialBoard};
 ghost use Rattle.board_builder.specs.Steps.{stepped, setPiece, clearSquare, setSide, setRights, setEnPassant};
 ghost use Rattle.board_builder.specs.Getters.{pieceOn, sideOf, rightsOf, enPassantSquare};
@@ -28,18 +30,38 @@ pub struct Stepped {
     pub board: BoardBuilder,
 }
 
-// Whether each square holds 0 or a piece code.
+fn larger(a: u8, b: u8) -> u8
+    ensures { λ r. ⌜ r ≡ max a b ⌝ }
+{
+    if a < b { b } else { a }
+}
+
+fn largest_of_rank(pieces: &[u8; 64], rank: usize) -> u8
+    requires { ⌜ length (now pieces) ≡ 64 ⌝ }
+    requires { ⌜ rank < 8 ⌝ }
+    ensures { λ r. ⌜ r ≡ largest (take 8 (drop (rank * 8) (now (pieces .entry)))) ⌝ }
+{
+    let from = rank * 8;
+    let mut most: u8 = 0;
+    let mut i: usize = 0;
+    while i < 8 {
+        most = larger(most, pieces[from + i]);
+        i += 1;
+    }
+    most
+}
+
+// Whether each square holds 0 or a piece code: by the largest of eight ranks, since an early exit reads the record in steps that wait for its copy.
 fn codes_in_range(pieces: [u8; 64]) -> bool
     ensures { λ r. ⌜ r ≡ allAtMost 12 pieces ⌝ }
 {
-    let mut i: usize = 0;
-    while i < 64 {
-        if 12 < pieces[i] {
-            return false;
-        }
-        i += 1;
+    let mut most: u8 = 0;
+    let mut rank: usize = 0;
+    while rank < 8 {
+        most = larger(most, largest_of_rank(&pieces, rank));
+        rank += 1;
     }
-    true
+    most <= 12
 }
 
 impl BoardBuilder {

@@ -1,4 +1,3 @@
-pub mod Maxima
 pub mod Listed
 pub mod Counting
 pub mod Determined

@@ -1,6 +1,6 @@
 -- A lent list of moves (document 01, "Answer numbers" 6): at most 255 entries, each at most 28,671. And counting, on which "one entry alone fits" rests.
 -- Assumes nothing.
-use Prim.Native.Nat.{ℕ, suc, max}
+use Prim.Native.Nat.{ℕ, suc}
 use mathlib.Core.Bool.{Bool, false, cond, _&&_, _||_}
 use mathlib.Core.List.{List, [], _∷_}
 use lib.Dec.{eqb, leb}
@@ -14,11 +14,6 @@ longestList = 255
 
 unfoldable pub listInRange : List ℕ → Bool
 listInRange moves = leb (length moves) longestList && allAtMost lastMove moves
-
--- the largest entry, 0 of none
-unfoldable pub largest : List ℕ → ℕ
-largest [] = 0
-largest (x ∷ xs) = max x (largest xs)
 
 -- a move is in the list
 unfoldable pub listed : ℕ → List ℕ → Bool

@@ -1,7 +1,8 @@
 // A lent list of moves, in the host's order: its range, and whether a move is in it.
 ghost use mathlib.Core.Path.{_≡_};
 ghost use Prim.Native.Nat.{max};
-ghost use Rattle.move_list.specs.MoveList.{largest, listInRange, listed};
+ghost use Rattle.square.specs.Numbers.{largest};
+ghost use Rattle.move_list.specs.MoveList.{listInRange, listed};
 
 // The most entries that a list may have.
 pub const LONGEST_LIST: usize = 255;

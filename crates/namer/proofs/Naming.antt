@@ -2,26 +2,24 @@
 -- Assumes nothing.
 use Prim.Native.Nat.{ℕ, _≤_}
 use mathlib.Core.Path.{_≡_, refl, sym, ap, _∙_}
-use mathlib.Core.Bool.{Bool, true, false, cond, _||_, false≢true}
+use mathlib.Core.Bool.{Bool, true, false, cond}
 use mathlib.Core.List.{List, [], _∷_}
 use mathlib.Core.Option.{Option, none, some}
 use native.Mathlib.Omega.{arith}
-use lib.Dec.{eqb, leb}
-use borrow.Author.Tests.{eqb-true}
-use Rattle.square.specs.Numbers.{allAtMost}
-use Rattle.square.proofs.Numbers.{both-right, most-head, most-tail}
+use lib.Dec.{eqb}
 use lib.ListN.{length, take}
+use Rattle.square.specs.Answer.{outOfRange, badList, notListed}
 use Rattle.board_builder.specs.declared.BoardBuilder.{BoardBuilder}
 use Rattle.board_builder.specs.BoardBuilder.{inRange}
-use Rattle.chess_move.specs.Number.{lastMove, sourceOf}
-use Rattle.move_list.specs.MoveList.{longestList, listInRange, listed}
+use Rattle.chess_move.specs.Number.{sourceOf}
+use Rattle.move_list.specs.MoveList.{listInRange, listed}
 use Rattle.san_text.specs.Resolve.{kindAt}
-use Rattle.san_text.specs.Name.{changesFiles, candidates, names, castlingName, firstName, kingFirst, nameOf, textOr, noneIs8, nameText, nameCheck}
+use Rattle.san_text.specs.Name.{changesFiles, candidates, names, castlingName, firstName, kingFirst, nameOf, noneIs8, nameText, nameCheck}
 use Rattle.san_text.specs.Paper.{sanText, paper}
 use Rattle.san_text.specs.Promises.{Ready}
 use Rattle.san_text.proofs.ReadBack.{checks}
 use Rattle.san_text.proofs.Lengths.{name-most}
-use Rattle.namer.specs.Tries.{Found, tried, otherNames, kingName}
+use Rattle.namer.specs.Tries.{Found, tried, otherNames, kingName, firstCheck}
 use Rattle.namer.proofs.Finds.{orElse}
 
 -- ---- one after the other
@@ -76,19 +74,33 @@ module _ (b : BoardBuilder) (l : List ℕ) (m : ℕ) where
       king-else (eqb (kindAt (b .pieces) (sourceOf m)) 6) (castlingName (b .«side_to_move») m) _
       ∙ ap (orElse (kingName b m)) (first-last (names paper b l m) (candidates (sanText (b .pieces) m) (changesFiles (b .pieces) m)) (castlingName (b .«side_to_move») m))
 
-  -- ---- the checks 5, 6, 11 and 8, and the text
+  -- ---- the checks 5, 6 and 11; then 8 and the text
 
-  pub check-record : inRange b ≡ false → nameCheck paper b l m ≡ 5
-  unfolding nameCheck
-  check-record e = simp e
+  abbrev pub check : ℕ
+  check = firstCheck (inRange b) (listInRange l) (listed m l)
 
-  pub check-list : inRange b ≡ true → listInRange l ≡ false → nameCheck paper b l m ≡ 6
-  unfolding nameCheck
-  check-list r e = simp (r, e)
+  pub check-made : {r : ℕ} {x y z : Bool} → x ≡ inRange b → y ≡ listInRange l → z ≡ listed m l → r ≡ firstCheck x y z → r ≡ check
+  check-made p q s e = cc
 
-  pub check-listed : inRange b ≡ true → listInRange l ≡ true → listed m l ≡ false → nameCheck paper b l m ≡ 11
-  unfolding nameCheck
-  check-listed r s e = simp (r, s, e)
+  pub check-refuses : (check ≡ 0 → ⊥) → nameCheck paper b l m ≡ check
+  unfolding nameCheck firstCheck
+  check-refuses n = go (inRange b) (listInRange l) (listed m l) n
+    where
+      go : (x y z : Bool) → (firstCheck x y z ≡ 0 → ⊥) → cond x (cond y (cond z (noneIs8 (nameOf paper b l m)) notListed) badList) outOfRange ≡ firstCheck x y z
+      go true true true n = absurd (n refl)
+      go true true false n = refl
+      go true false z n = refl
+      go false y z n = refl
+
+  pub check-ready : check ≡ 0 → Ready b l m
+  unfolding firstCheck
+  check-ready e = let h = go (inRange b) (listInRange l) (listed m l) e in record { record-in-range = h .0; list-in-range = h .1; move-listed = h .2 }
+    where
+      go : (x y z : Bool) → firstCheck x y z ≡ 0 → (x ≡ true) × (y ≡ true) × (z ≡ true)
+      go true true true e = (refl, refl, refl)
+      go true true false e = absurd (omega arith)
+      go true false z e = absurd (omega arith)
+      go false y z e = absurd (omega arith)
 
   module _ {bytes : List ℕ} {n : ℕ} (h : Found (nameOf paper b l m) bytes n) where
     pub check-name : Ready b l m → n ≡ 0 → nameCheck paper b l m ≡ 8

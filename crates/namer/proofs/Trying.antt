@@ -1,7 +1,7 @@
 -- A text that is tried: written into eleven bytes, read from there, and found if it is read as the move.
 -- Assumes nothing.
 use Prim.Native.Nat.{ℕ}
-use mathlib.Core.Path.{_≡_, refl, sym, ap, _∙_}
+use mathlib.Core.Path.{_≡_}
 use mathlib.Core.Bool.{Bool, true}
 use mathlib.Core.List.{List}
 use lib.ListN.{length, take}
@@ -11,8 +11,7 @@ use Rattle.square.specs.Answer.{writeAnswer, writeBytes}
 use Rattle.board_builder.specs.declared.BoardBuilder.{BoardBuilder}
 use Rattle.board_builder.specs.BoardBuilder.{inRange}
 use Rattle.move_list.specs.MoveList.{listInRange}
-use Rattle.san_text.specs.Text.{readText}
-use Rattle.san_text.specs.Form.{resolved, readAnswer}
+use Rattle.san_text.specs.Form.{readAnswer}
 use Rattle.san_text.specs.Name.{isMove, names}
 use Rattle.san_text.specs.Paper.{sanText, paper, fromSan}
 use Rattle.san_text.proofs.Lengths.{text-sized}

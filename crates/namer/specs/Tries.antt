@@ -1,12 +1,13 @@
 -- What the steps of the namer leave in their eleven bytes. For its inner functions; the public contract does not speak of this.
 -- Assumes nothing.
-use Prim.Native.Nat.{ℕ, _≤_}
+use Prim.Native.Nat.{ℕ}
 use mathlib.Core.Path.{_≡_}
 use mathlib.Core.Bool.{Bool, cond}
 use mathlib.Core.List.{List}
 use mathlib.Core.Option.{Option, none, some}
 use lib.Dec.{eqb}
 use lib.ListN.{length, take}
+use Rattle.square.specs.Answer.{outOfRange, badList, notListed}
 use Rattle.board_builder.specs.declared.BoardBuilder.{BoardBuilder}
 use Rattle.chess_move.specs.Number.{sourceOf}
 use Rattle.san_text.specs.Resolve.{kindAt}
@@ -35,3 +36,7 @@ isKing pieces m = eqb (kindAt pieces (sourceOf m)) 6
 -- the castling text of a castling pair with a king on its source
 abbrev pub kingName : BoardBuilder → ℕ → Option (List ℕ)
 kingName b m = cond (isKing (b .pieces) m) (castlingName (b .«side_to_move») m) none
+
+-- the checks 5, 6 and 11, in this order: the number of the first that fails, else 0
+unfoldable pub firstCheck : Bool → Bool → Bool → ℕ
+firstCheck board list listed = cond board (cond list (cond listed 0 notListed) badList) outOfRange

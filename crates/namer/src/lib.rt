@@ -3,8 +3,8 @@ use board_builder::BoardBuilder;
 use square::ACCEPTED;
 use square::Answer;
 use square::BAD_LIST;
-use square::NOT_LISTED;
 use square::NO_NAME;
+use square::NOT_LISTED;
 use square::OUT_OF_RANGE;
 ghost use mathlib.Core.Path.{_≡_};
 ghost use mathlib.Core.Bool.{true, false};
@@ -14,13 +14,20 @@ ghost use Rattle.board_builder.specs.BoardBuilder.{inRange};
 ghost use Rattle.move_list.specs.MoveList.{listInRange};
 ghost use Rattle.san_text.specs.Name.{castlingName, changesFiles, nameOf};
 ghost use Rattle.san_text.specs.Paper.{sanText, paper, nameAnswer, nameBytes};
-ghost use Rattle.namer.specs.Tries.{Found, tried, otherNames, isKing, kingName};
+ghost use Rattle.namer.specs.Tries.{Found, tried, otherNames, isKing, kingName, firstCheck};
 
 // The bytes of a name: the longest has 11.
 const LONGEST_NAME: usize = 11;
 
 // The text with these source parts, if it names the move: its length, else 0.
-fn try_text(board: BoardBuilder, moves: &[u16], m: u16, file: bool, rank: bool, bytes: &mut [u8]) -> usize
+fn try_text(
+    board: BoardBuilder,
+    moves: &[u16],
+    m: u16,
+    file: bool,
+    rank: bool,
+    bytes: &mut [u8],
+) -> usize
     requires { ⌜ inRange board ≡ true ⌝ }
     requires { ⌜ listInRange (now moves) ≡ true ⌝ }
     requires { ⌜ length (now bytes) ≡ 11 ⌝ }
@@ -159,19 +166,34 @@ fn name_of(board: BoardBuilder, moves: &[u16], m: u16, bytes: &mut [u8]) -> usiz
     castling_text(board.side_to_move, m, bytes)
 }
 
+// The checks 5, 6 and 11, in this order: the number of the first that fails, else 0.
+fn first_check(board: bool, list: bool, listed: bool) -> u64
+    ensures { λ r. ⌜ r ≡ firstCheck board list listed ⌝ }
+{
+    if !board {
+        return OUT_OF_RANGE;
+    }
+    if !list {
+        return BAD_LIST;
+    }
+    if !listed {
+        return NOT_LISTED;
+    }
+    ACCEPTED
+}
+
 // Writes the name of a listed move to the front of `out`. Checks 5, 6, 11, 8, then 7.
 pub fn to_san(board: BoardBuilder, moves: &[u16], n: u64, out: &mut [u8]) -> Answer
     ensures answer { λ r. ⌜ r ≡ nameAnswer board (now (moves .entry)) n (length (now (out .entry))) ⌝ }
     ensures bytes { λ r. ⌜ now (out .exit) ≡ nameBytes board (now (moves .entry)) n (now (out .entry)) ⌝ }
 {
-    if !board.in_range() {
-        return square::refused(OUT_OF_RANGE);
-    }
-    if !move_list::in_range(moves) {
-        return square::refused(BAD_LIST);
-    }
-    if !move_list::is_listed(moves, n) {
-        return square::refused(NOT_LISTED);
+    let check = first_check(
+        board.in_range(),
+        move_list::in_range(moves),
+        move_list::is_listed(moves, n),
+    );
+    if check != ACCEPTED {
+        return square::refused(check);
     }
     let mut bytes = [0u8; LONGEST_NAME];
     let length = name_of(board, moves, n as u16, &mut bytes);

@@ -1,49 +1,48 @@
 use borrow.Author.Needs.{needs}
-use mathlib.Core.Path.{_≡_, _∙_, sym, refl}
-use Prim.Native.Nat.{_-_, _≤_, zero-le}
+use mathlib.Core.Path.{_≡_, _∙_, sym, ap}
 use native.Mathlib.Omega.{arith}
-use lib.ListN.{length, drop}
-use Rattle.square.specs.Numbers.{allAtMost}
-use Rattle.square.proofs.Numbers.{most-turn, most-over, most-end}
-use Rattle.square.proofs.Numbers.{most-turn, most-over, most-end}
+use Prim.Native.Nat.{ℕ, _+_, _*_, _-_, _≤_, max, zero-le}
+use lib.ListN.{length, take, drop}
+use Rattle.square.specs.Numbers.{largest}
+use Rattle.square.proofs.Maxima.{max-none, largest-end, largest-part, largest-at-most}
+use lib.Dec.{leb}
 use Rattle.board_builder.proofs.codes_in_range.Statement.{statement}
 use Rattle.board_builder.proofs.codes_in_range.Tie as tie
 
 abbrev Inv-loop : tie.InvT-loop
-Inv-loop pieces i₀ i = (i ≤ 64) × (allAtMost 12 pieces ≡ allAtMost 12 (drop i pieces))
+Inv-loop pieces most₀ rank₀ most rank = (rank ≤ 8) × (max most (largest (drop (rank * 8) pieces)) ≡ largest pieces)
 
 abbrev μ-loop : tie.MeasureT-loop
-μ-loop pieces i₀ i = 64 - i
+μ-loop pieces most₀ rank₀ most rank = 8 - rank
 
 loop-holds : tie.Need-loop-holds Inv-loop μ-loop
-loop-holds c = (zero-le, refl)
+loop-holds c = (zero-le, max-none _)
 
-array-read-if1 : tie.Need-array-read-if1 Inv-loop μ-loop
-array-read-if1 c = search needs
+largest-of-rank-requires : tie.Need-largest-of-rank-requires Inv-loop μ-loop
+largest-of-rank-requires c κs = search needs
 
-returns : tie.Need-returns Inv-loop μ-loop
-returns c = 
-    let pieces = c .before .before .before .args .t1 in
-    let long : length pieces ≡ 64 = search needs in
-    sym (c .before .before .loop .inv .1 ∙ most-over 12 pieces (c .before .before .loop .i) (omega arith) (c .if1 .taken))
+larger-requires : tie.Need-larger-requires Inv-loop μ-loop
+larger-requires c κs = search needs
 
-add-i : tie.Need-add-i Inv-loop μ-loop
-add-i c = search needs
+add-rank : tie.Need-add-rank Inv-loop μ-loop
+add-rank c = search needs
 
 loop-less : tie.Need-loop-less Inv-loop μ-loop
 loop-less c = search needs
 
 loop-again : tie.Need-loop-again Inv-loop μ-loop
 loop-again c = 
-    let pieces = c .before .before .before .args .t1 in
-    let long : length pieces ≡ 64 = search needs in
-    (omega arith, c .before .before .loop .inv .1 ∙ most-turn 12 pieces (c .before .before .loop .i) (omega arith) (c .if1 .left))
+    let pieces = c .before .before .before .before .before .args .t1 in
+    let r = c .before .before .before .before .loop .rank in
+    let next : r * 8 + 8 ≡ (r + 1) * 8 = omega arith in
+    (omega arith, ap (λ (m : ℕ). max m (largest (drop ((r + 1) * 8) pieces))) (c .larger .ensures ∙ ap (max (c .before .before .before .before .loop .most)) (c .before .largest-of-rank .ensures)) ∙ ap (λ (k : ℕ). max (max (c .before .before .before .before .loop .most) (largest (take 8 (drop (r * 8) pieces)))) (largest (drop k pieces))) (sym next) ∙ sym (largest-part pieces (c .before .before .before .before .loop .most) (r * 8) 8) ∙ c .before .before .before .before .loop .inv .1)
 
-returns-2 : tie.Need-returns-2 Inv-loop μ-loop
-returns-2 c = 
+returns : tie.Need-returns Inv-loop μ-loop
+returns c = 
     let pieces = c .before .before .args .t1 in
     let long : length pieces ≡ 64 = search needs in
-    sym (c .before .loop .inv .1 ∙ most-end 12 pieces (c .before .loop .i) (omega arith))
+    let h : length pieces ≤ c .before .loop .rank * 8 = omega arith in
+    ap (λ (m : ℕ). leb m 12) (sym (largest-end pieces (c .before .loop .most) (c .before .loop .rank * 8) h) ∙ c .before .loop .inv .1) ∙ largest-at-most 12 pieces
 
 pub codes-in-range-spec : {M : Type 1} → statement M
 codes-in-range-spec =
@@ -52,9 +51,9 @@ codes-in-range-spec =
     Inv-loop
     μ-loop
     loop-holds
-    array-read-if1
-    returns
-    add-i
+    largest-of-rank-requires
+    larger-requires
+    add-rank
     loop-less
     loop-again
-    returns-2)
+    returns)

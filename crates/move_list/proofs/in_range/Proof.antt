@@ -1,30 +1,23 @@
 use borrow.Author.Needs.{needs}
 use borrow.Author.Tests.{le-leb, lt-leb}
-use mathlib.Core.Path.{_≡_, _∙_, sym, ap}
+use mathlib.Core.Path.{_∙_, sym, ap}
 use Prim.Native.Nat.{ℕ}
 use lib.Dec.{leb}
-use Rattle.move_list.proofs.Maxima.{largest-at-most}
+use Rattle.square.proofs.Maxima.{largest-at-most}
 use Rattle.move_list.specs.MoveList.{listInRange}
 use Rattle.move_list.proofs.in_range.Statement.{statement}
 use Rattle.move_list.proofs.in_range.Tie as tie
-use Rattle.move_list.proofs.in_range.Reads as reads
-use Rattle.move_list.proofs.in_range.Lts as lts
-use Rattle.move_list.proofs.largest.Reads as largest-reads
 
--- src/lib.rt:33:9
 returns : tie.Need-returns
 unfolding listInRange
 returns c = simp (lt-leb _ _ (c .if1 .taken))
 
--- src/lib.rt:35:5
 largest-requires : tie.Need-largest-requires
 largest-requires c κs = search needs
 
--- src/lib.rt:35:5
 cast-result : tie.Need-cast-result
 cast-result c = search needs
 
--- src/lib.rt:29:1
 returns-2 : tie.Need-returns-2
 unfolding listInRange
 returns-2 c = ap (λ (k : ℕ). leb k 28671) (c .largest .ensures) ∙ largest-at-most 28671 (c .before .before .before .args .moves .now) ∙ sym (simp (le-leb _ _ (c .before .if1 .left)))

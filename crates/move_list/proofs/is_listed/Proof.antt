@@ -1,15 +1,12 @@
 use borrow.Author.Needs.{needs}
-use mathlib.Core.Path.{_≡_, _∙_, sym, ap, refl}
+use mathlib.Core.Path.{_≡_, _∙_, sym, refl}
 use native.Mathlib.Omega.{arith}
-use Prim.Native.Nat.{ℕ, _+_, _-_, _≤_, _<_, max, zero-le}
+use Prim.Native.Nat.{_-_, _≤_, zero-le}
 use lib.ListN.{length, drop}
-use Rattle.move_list.specs.MoveList.{largest, listed}
+use Rattle.move_list.specs.MoveList.{listed}
 use Rattle.move_list.proofs.Listed.{listed-turn, listed-stop, listed-end}
 use Rattle.move_list.proofs.is_listed.Statement.{statement}
 use Rattle.move_list.proofs.is_listed.Tie as tie
-use Rattle.move_list.proofs.is_listed.Reads as reads
-use Rattle.move_list.proofs.is_listed.Lts as lts
-use Rattle.move_list.proofs.wide.Reads as wide-reads
 
 abbrev Inv-loop : tie.InvT-loop
 Inv-loop moves m i₀ i = (i ≤ length moves) × (listed m moves ≡ listed m (drop i moves))
@@ -17,39 +14,30 @@ Inv-loop moves m i₀ i = (i ≤ length moves) × (listed m moves ≡ listed m (
 abbrev μ-loop : tie.MeasureT-loop
 μ-loop moves m i₀ i = length moves - i
 
--- src/lib.rt:48:5
 loop-holds : tie.Need-loop-holds Inv-loop μ-loop
 loop-holds c = (zero-le, refl)
 
--- src/lib.rt:49:17
 mul-wide : tie.Need-mul-wide Inv-loop μ-loop
 mul-wide c = search needs
 
--- src/lib.rt:49:17
 shared-slice-read-wide : tie.Need-shared-slice-read-wide Inv-loop μ-loop
 shared-slice-read-wide c = search needs
 
--- src/lib.rt:49:12
 wide-requires : tie.Need-wide-requires Inv-loop μ-loop
 wide-requires c κs = search needs
 
--- src/lib.rt:50:13
 returns : tie.Need-returns Inv-loop μ-loop
 returns c = sym (c .before .before .before .before .loop .inv .1 ∙ listed-stop (c .before .before .before .before .before .before .args .m) (c .before .before .before .before .before .before .args .moves .now) (c .before .before .before .before .loop .i) (c .before .before .before .loop-test .taken) (sym (c .before .wide .ensures) ∙ c .if1 .taken))
 
--- src/lib.rt:52:9
 add-i : tie.Need-add-i Inv-loop μ-loop
 add-i c = search needs
 
--- src/lib.rt:48:5
 loop-less : tie.Need-loop-less Inv-loop μ-loop
 loop-less c = search needs
 
--- src/lib.rt:48:5
 loop-again : tie.Need-loop-again Inv-loop μ-loop
 loop-again c = (omega arith, c .before .before .before .before .loop .inv .1 ∙ listed-turn (c .before .before .before .before .before .before .args .m) (c .before .before .before .before .before .before .args .moves .now) (c .before .before .before .before .loop .i) (c .before .before .before .loop-test .taken) (λ e. c .if1 .left (c .before .wide .ensures ∙ e)))
 
--- src/lib.rt:44:1
 returns-2 : tie.Need-returns-2 Inv-loop μ-loop
 returns-2 c = sym (c .before .loop .inv .1 ∙ listed-end (c .before .before .before .args .m) (c .before .before .before .args .moves .now) (c .before .loop .i) (c .loop-test .left))
 

@@ -1,15 +1,12 @@
 use borrow.Author.Needs.{needs}
-use mathlib.Core.Path.{_≡_, _∙_, sym, ap, refl}
+use mathlib.Core.Path.{_≡_, _∙_, sym, ap}
 use native.Mathlib.Omega.{arith}
-use Prim.Native.Nat.{ℕ, _+_, _-_, _≤_, _<_, max, zero-le}
+use Prim.Native.Nat.{ℕ, _+_, _-_, _≤_, max, zero-le}
 use lib.ListN.{length, drop}
-use Rattle.move_list.specs.MoveList.{largest, listed}
-use Rattle.move_list.proofs.Maxima.{max-none, largest-turn, largest-end}
+use Rattle.square.specs.Numbers.{largest}
+use Rattle.square.proofs.Maxima.{max-none, largest-turn, largest-end}
 use Rattle.move_list.proofs.largest.Statement.{statement}
 use Rattle.move_list.proofs.largest.Tie as tie
-use Rattle.move_list.proofs.largest.Reads as reads
-use Rattle.move_list.proofs.largest.Lts as lts
-use Rattle.move_list.proofs.larger.Reads as larger-reads
 
 abbrev Inv-loop : tie.InvT-loop
 Inv-loop moves most₀ i₀ most i = (i ≤ length moves) × (max most (largest (drop i moves)) ≡ largest moves)
@@ -17,38 +14,30 @@ Inv-loop moves most₀ i₀ most i = (i ≤ length moves) × (max most (largest 
 abbrev μ-loop : tie.MeasureT-loop
 μ-loop moves most₀ i₀ most i = length moves - i
 
--- src/lib.rt:21:5
 loop-holds : tie.Need-loop-holds Inv-loop μ-loop
 loop-holds c = (zero-le, max-none (largest (c .before .args .moves .now)))
 
--- src/lib.rt:22:29
 mul-larger : tie.Need-mul-larger Inv-loop μ-loop
 mul-larger c = search needs
 
--- src/lib.rt:22:29
 shared-slice-read-larger : tie.Need-shared-slice-read-larger Inv-loop μ-loop
 shared-slice-read-larger c = search needs
 
--- src/lib.rt:22:9
 larger-requires : tie.Need-larger-requires Inv-loop μ-loop
 larger-requires c κs = search needs
 
--- src/lib.rt:23:9
 add-i : tie.Need-add-i Inv-loop μ-loop
 add-i c = search needs
 
--- src/lib.rt:21:5
 loop-less : tie.Need-loop-less Inv-loop μ-loop
 loop-less c = search needs
 
--- src/lib.rt:21:5
 loop-again : tie.Need-loop-again Inv-loop μ-loop
 loop-again c = 
     let moves = c .before .before .before .before .before .args .moves .now in
     let i = c .before .before .before .loop .i in
     (omega arith, ap (λ (m : ℕ). max m (largest (drop (i + 1) moves))) (c .larger .ensures) ∙ sym (largest-turn moves (c .before .before .before .loop .most) i (c .before .before .loop-test .taken)) ∙ c .before .before .before .loop .inv .1)
 
--- src/lib.rt:16:1
 returns : tie.Need-returns Inv-loop μ-loop
 returns c = sym (largest-end (c .before .before .before .args .moves .now) (c .before .loop .most) (c .before .loop .i) (c .loop-test .left)) ∙ c .before .loop .inv .1
 

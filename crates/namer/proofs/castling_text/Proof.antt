@@ -4,57 +4,41 @@ use lib.Dec.{lit≤}
 use Rattle.san_text.specs.Text.{kingSideText, queenSideText}
 use Rattle.san_text.specs.Name.{castlingName}
 use Rattle.namer.proofs.Finds.{found-none, found-written}
-use Rattle.namer.proofs.Finds.{found-none, found-written}
 use Rattle.namer.proofs.castling_text.Statement.{statement}
 use Rattle.namer.proofs.castling_text.Tie as tie
-use Rattle.namer.proofs.castling_text.Reads as reads
-use Rattle.namer.proofs.castling_text.Lts as lts
-use Rattle.san.proofs.castling_move.Reads as castling-move-reads
-use Rattle.square.proofs.write_text.Reads as write-text-reads
 
--- src/lib.rt:47:8
 castling-move-requires : tie.Need-castling-move-requires
 castling-move-requires c κs = search needs
 
--- src/lib.rt:48:28
 slice-aggregate-write-text : tie.Need-slice-aggregate-write-text
 slice-aggregate-write-text c = search needs
 
--- src/lib.rt:48:9
 write-text-requires : tie.Need-write-text-requires
 write-text-requires c κs = search needs
 
--- src/lib.rt:49:9
 same-length : tie.Need-same-length
 same-length c = search needs
 
--- src/lib.rt:49:9
 returns : tie.Need-returns
 unfolding castlingName
 returns c = rw (← c .before .before .before .before .before .before .castling-move .ensures, eq-eqb _ _ (c .before .before .before .before .before .if1 .taken)) (found-written kingSideText (c .before .before .before .before .before .before .before .before .args .bytes .now) _ (lit≤ tt, lit≤ tt) (c .before .before .before .before .before .before .before .before .pre) (c .before .before .write-text .ensures .1))
 
--- src/lib.rt:51:8
 castling-move-requires-2 : tie.Need-castling-move-requires-2
 castling-move-requires-2 c κs = search needs
 
--- src/lib.rt:52:28
 slice-aggregate-write-text-2 : tie.Need-slice-aggregate-write-text-2
 slice-aggregate-write-text-2 c = search needs
 
--- src/lib.rt:52:9
 write-text-requires-2 : tie.Need-write-text-requires-2
 write-text-requires-2 c κs = search needs
 
--- src/lib.rt:53:9
 same-length-2 : tie.Need-same-length-2
 same-length-2 c = search needs
 
--- src/lib.rt:53:9
 returns-2 : tie.Need-returns-2
 unfolding castlingName
 returns-2 c = rw (← c .before .before .before .before .before .before .before .before .castling-move .ensures, ne-eqb _ _ (c .before .before .before .before .before .before .before .if1 .left), ← c .before .before .before .before .before .before .castling-move2 .ensures, eq-eqb _ _ (c .before .before .before .before .before .if2 .taken)) (found-written queenSideText (c .before .before .before .before .before .before .before .before .before .before .args .bytes .now) _ (lit≤ tt, lit≤ tt) (c .before .before .before .before .before .before .before .before .before .before .pre) (c .before .before .write-text2 .ensures .1))
 
--- src/lib.rt:43:1
 returns-3 : tie.Need-returns-3
 unfolding castlingName
 returns-3 c = rw (← c .before .before .before .castling-move .ensures, ne-eqb _ _ (c .before .before .if1 .left), ← c .before .castling-move2 .ensures, ne-eqb _ _ (c .if2 .left)) (found-none (c .before .before .before .before .before .args .bytes .now) (c .before .before .before .before .before .pre))

@@ -1,31 +1,21 @@
 use borrow.Author.Needs.{needs}
 use mathlib.Core.Path.{sym, _∙_}
 use Rattle.namer.proofs.Finds.{found-none}
-use Rattle.namer.proofs.Finds.{found-none}
 use Rattle.namer.proofs.king_name.Statement.{statement}
 use Rattle.namer.proofs.king_name.Tie as tie
-use Rattle.namer.proofs.king_name.Reads as reads
-use Rattle.namer.proofs.king_name.Lts as lts
-use Rattle.namer.proofs.castling_text.Reads as castling-text-reads
-use Rattle.namer.proofs.is_king_on_source.Reads as is-king-on-source-reads
 
--- src/lib.rt:138:8
 is-king-on-source-requires : tie.Need-is-king-on-source-requires
 is-king-on-source-requires c κs = search needs
 
--- src/lib.rt:139:9
 castling-text-requires : tie.Need-castling-text-requires
 castling-text-requires c κs = search needs
 
--- src/lib.rt:139:9
 same-length : tie.Need-same-length
 same-length c = search needs
 
--- src/lib.rt:139:9
 returns : tie.Need-returns
 returns c = rw (sym (c .before .before .before .before .before .is-king-on-source .ensures) ∙ c .before .before .before .before .if1 .taken) (c .before .before .castling-text .ensures)
 
--- src/lib.rt:133:1
 returns-2 : tie.Need-returns-2
 returns-2 c = rw (sym (c .before .is-king-on-source .ensures) ∙ c .if1 .left) (found-none (c .before .before .before .before .before .args .bytes .now) (c .before .before .before .before .before .pre))
 

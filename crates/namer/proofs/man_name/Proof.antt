@@ -1,73 +1,56 @@
 use borrow.Author.Needs.{needs}
 use Rattle.namer.proofs.Finds.{stays, goes-on}
 use Rattle.namer.proofs.Naming.{man-names}
-use Rattle.namer.proofs.Finds.{stays, goes-on}
-use Rattle.namer.proofs.Naming.{man-names}
 use Rattle.namer.proofs.man_name.Statement.{statement}
 use Rattle.namer.proofs.man_name.Tie as tie
-use Rattle.namer.proofs.man_name.Reads as reads
-use Rattle.namer.proofs.man_name.Lts as lts
-use Rattle.namer.proofs.try_text.Reads as try-text-reads
 
--- src/lib.rt:79:9
 try-text-requires : tie.Need-try-text-requires
 try-text-requires c κs = search needs
 
--- src/lib.rt:81:9
 same-length : tie.Need-same-length
 same-length c = search needs
 
--- src/lib.rt:81:9
 returns : tie.Need-returns
-returns c = 
+returns c =
     let a = c .before .before .before .before .before .before .before .args in
     let bare = c .before .before .before .try-text .ensures in
     rw (man-names (a .board) (a .moves .now) (a .m), stays bare (c .if1 .taken)) bare
 
--- src/lib.rt:83:9
 try-text-requires-2 : tie.Need-try-text-requires-2
 try-text-requires-2 c κs = search needs
 
--- src/lib.rt:85:9
 same-length-2 : tie.Need-same-length-2
 same-length-2 c = search needs
 
--- src/lib.rt:85:9
 returns-2 : tie.Need-returns-2
-returns-2 c = 
+returns-2 c =
     let a = c .before .before .before .before .before .before .before .before .before .before .before .before .args in
     let bare = c .before .before .before .before .before .before .before .before .try-text .ensures in
     let file = c .before .before .before .try-text2 .ensures in
     rw (man-names (a .board) (a .moves .now) (a .m), goes-on bare (c .before .before .before .before .before .if1 .left), stays file (c .if2 .taken)) file
 
--- src/lib.rt:87:9
 try-text-requires-3 : tie.Need-try-text-requires-3
 try-text-requires-3 c κs = search needs
 
--- src/lib.rt:89:9
 same-length-3 : tie.Need-same-length-3
 same-length-3 c = search needs
 
--- src/lib.rt:89:9
 returns-3 : tie.Need-returns-3
-returns-3 c = 
+returns-3 c =
     let a = c .before .before .before .before .before .before .before .before .before .before .before .before .before .before .before .before .before .args in
     let bare = c .before .before .before .before .before .before .before .before .before .before .before .before .before .try-text .ensures in
     let file = c .before .before .before .before .before .before .before .before .try-text2 .ensures in
     let rank = c .before .before .before .try-text3 .ensures in
     rw (man-names (a .board) (a .moves .now) (a .m), goes-on bare (c .before .before .before .before .before .before .before .before .before .before .if1 .left), goes-on file (c .before .before .before .before .before .if2 .left), stays rank (c .if3 .taken)) rank
 
--- src/lib.rt:91:5
 try-text-requires-4 : tie.Need-try-text-requires-4
 try-text-requires-4 c κs = search needs
 
--- src/lib.rt:73:1
 same-length-4 : tie.Need-same-length-4
 same-length-4 c = search needs
 
--- src/lib.rt:73:1
 returns-4 : tie.Need-returns-4
-returns-4 c = 
+returns-4 c =
     let a = c .before .before .before .before .before .before .before .before .before .before .before .before .before .before .before .before .before .before .before .before .before .args in
     let bare = c .before .before .before .before .before .before .before .before .before .before .before .before .before .before .before .before .before .try-text .ensures in
     let file = c .before .before .before .before .before .before .before .before .before .before .before .before .try-text2 .ensures in

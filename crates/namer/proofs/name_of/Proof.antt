@@ -1,58 +1,42 @@
 use borrow.Author.Needs.{needs}
 use Rattle.namer.proofs.Finds.{stays, goes-on}
 use Rattle.namer.proofs.Naming.{name-parts}
-use Rattle.namer.proofs.Finds.{stays, goes-on}
-use Rattle.namer.proofs.Naming.{name-parts}
 use Rattle.namer.proofs.name_of.Statement.{statement}
 use Rattle.namer.proofs.name_of.Tie as tie
-use Rattle.namer.proofs.name_of.Reads as reads
-use Rattle.namer.proofs.name_of.Lts as lts
-use Rattle.namer.proofs.castling_text.Reads as castling-text-reads
-use Rattle.namer.proofs.king_name.Reads as king-name-reads
-use Rattle.namer.proofs.other_name.Reads as other-name-reads
 
--- src/lib.rt:151:9
 king-name-requires : tie.Need-king-name-requires
 king-name-requires c κs = search needs
 
--- src/lib.rt:153:9
 same-length : tie.Need-same-length
 same-length c = search needs
 
--- src/lib.rt:153:9
 returns : tie.Need-returns
-returns c = 
+returns c =
     let a = c .before .before .before .before .before .before .before .args in
     let king = c .before .before .before .king-name .ensures in
     rw (name-parts (a .board) (a .moves .now) (a .m), stays king (c .if1 .taken)) king
 
--- src/lib.rt:155:9
 other-name-requires : tie.Need-other-name-requires
 other-name-requires c κs = search needs
 
--- src/lib.rt:157:9
 same-length-2 : tie.Need-same-length-2
 same-length-2 c = search needs
 
--- src/lib.rt:157:9
 returns-2 : tie.Need-returns-2
-returns-2 c = 
+returns-2 c =
     let a = c .before .before .before .before .before .before .before .before .before .before .before .before .args in
     let king = c .before .before .before .before .before .before .before .before .king-name .ensures in
     let other = c .before .before .before .other-name .ensures in
     rw (name-parts (a .board) (a .moves .now) (a .m), goes-on king (c .before .before .before .before .before .if1 .left), stays other (c .if2 .taken)) other
 
--- src/lib.rt:159:5
 castling-text-requires : tie.Need-castling-text-requires
 castling-text-requires c κs = search needs
 
--- src/lib.rt:145:1
 same-length-3 : tie.Need-same-length-3
 same-length-3 c = search needs
 
--- src/lib.rt:145:1
 returns-3 : tie.Need-returns-3
-returns-3 c = 
+returns-3 c =
     let a = c .before .before .before .before .before .before .before .before .before .before .before .before .before .before .before .before .args in
     let king = c .before .before .before .before .before .before .before .before .before .before .before .before .king-name .ensures in
     let other = c .before .before .before .before .before .before .before .other-name .ensures in

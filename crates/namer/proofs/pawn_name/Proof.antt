@@ -1,40 +1,29 @@
 use borrow.Author.Needs.{needs}
 use Rattle.namer.proofs.Finds.{stays, goes-on}
 use Rattle.namer.proofs.Naming.{pawn-names}
-use Rattle.namer.proofs.Finds.{stays, goes-on}
-use Rattle.namer.proofs.Naming.{pawn-names}
 use Rattle.namer.proofs.pawn_name.Statement.{statement}
 use Rattle.namer.proofs.pawn_name.Tie as tie
-use Rattle.namer.proofs.pawn_name.Reads as reads
-use Rattle.namer.proofs.pawn_name.Lts as lts
-use Rattle.namer.proofs.try_text.Reads as try-text-reads
 
--- src/lib.rt:65:9
 try-text-requires : tie.Need-try-text-requires
 try-text-requires c κs = search needs
 
--- src/lib.rt:67:9
 same-length : tie.Need-same-length
 same-length c = search needs
 
--- src/lib.rt:67:9
 returns : tie.Need-returns
-returns c = 
+returns c =
     let a = c .before .before .before .before .before .before .before .args in
     let file = c .before .before .before .try-text .ensures in
     rw (pawn-names (a .board) (a .moves .now) (a .m), stays file (c .if1 .taken)) file
 
--- src/lib.rt:69:5
 try-text-requires-2 : tie.Need-try-text-requires-2
 try-text-requires-2 c κs = search needs
 
--- src/lib.rt:59:1
 same-length-2 : tie.Need-same-length-2
 same-length-2 c = search needs
 
--- src/lib.rt:59:1
 returns-2 : tie.Need-returns-2
-returns-2 c = 
+returns-2 c =
     let a = c .before .before .before .before .before .before .before .before .before .before .before .args in
     let file = c .before .before .before .before .before .before .before .try-text .ensures in
     rw (pawn-names (a .board) (a .moves .now) (a .m), goes-on file (c .before .before .before .before .if1 .left)) (c .before .before .try-text2 .ensures)

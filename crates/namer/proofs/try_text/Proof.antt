@@ -2,51 +2,35 @@ use borrow.Author.Needs.{needs}
 use mathlib.Core.Path.{_∙_, sym, ap}
 use native.Mathlib.Omega.{arith}
 use lib.ListN.{length}
-use Rattle.san_text.specs.Paper.{sanText}
-use Rattle.san_text.proofs.Lengths.{text-sized}
 use Rattle.namer.proofs.Trying.{text-in-room, try-refused, try-other, try-named}
-use Rattle.namer.proofs.Finds.{answered}
-use Rattle.namer.proofs.Trying.{try-refused, try-other, try-named}
-use Rattle.namer.proofs.Finds.{answered}
-use Rattle.namer.proofs.Trying.{try-refused, try-other, try-named}
 use Rattle.namer.proofs.try_text.Statement.{statement}
 use Rattle.namer.proofs.try_text.Tie as tie
-use Rattle.namer.proofs.try_text.Reads as reads
-use Rattle.namer.proofs.try_text.Lts as lts
-use Rattle.san.proofs.from_san.Reads as from-san-reads
-use Rattle.san_writer.proofs.write_san.Reads as write-san-reads
 
--- src/lib.rt:30:9
 write-san-requires : tie.Need-write-san-requires
 write-san-requires c κs = search needs
 
--- src/lib.rt:32:44
 slice-reshare-prefix-from-san : tie.Need-slice-reshare-prefix-from-san
-slice-reshare-prefix-from-san c = 
+slice-reshare-prefix-from-san c =
     let a = c .before .before .before .before .before .before .args in
     let w = c .before .before .write-san in
     let i = text-in-room (a .board .pieces) (a .m) (a .file) (a .rank) (a .bytes .now) _ (w .result) (c .before .before .before .before .before .before .pre .1 .1) (w .ensures .0) (w .ensures .1) in
     omega (arith, i .long, i .most, i .count)
 
--- src/lib.rt:32:44
 slice-aggregate-from-san : tie.Need-slice-aggregate-from-san
-slice-aggregate-from-san c = 
+slice-aggregate-from-san c =
     let a = c .before .before .before .before .before .before .before .args in
     let w = c .before .before .before .write-san in
     let i = text-in-room (a .board .pieces) (a .m) (a .file) (a .rank) (a .bytes .now) _ (w .result) (c .before .before .before .before .before .before .before .pre .1 .1) (w .ensures .0) (w .ensures .1) in
     i .count ∙ ap length (sym (i .front))
 
--- src/lib.rt:32:9
 from-san-requires : tie.Need-from-san-requires
 from-san-requires c κs = search needs
 
--- src/lib.rt:34:9
 same-length : tie.Need-same-length
 same-length c = search needs
 
--- src/lib.rt:34:9
 returns : tie.Need-returns
-returns c = 
+returns c =
     let a = c .before .before .before .before .before .before .before .before .before .before .args in
     let w = c .before .before .before .before .before .before .write-san in
     let i = text-in-room (a .board .pieces) (a .m) (a .file) (a .rank) (a .bytes .now) _ (w .result) (c .before .before .before .before .before .before .before .before .before .before .pre .1 .1) (w .ensures .0) (w .ensures .1) in
@@ -54,13 +38,11 @@ returns c =
     let read = c .before .before .from-san in
     try-refused (a .board) (a .moves .now) (a .m) (pre .0) (pre .1 .0) i (read .result) (read .ensures) (c .if1 .taken)
 
--- src/lib.rt:37:9
 same-length-2 : tie.Need-same-length-2
 same-length-2 c = search needs
 
--- src/lib.rt:37:9
 returns-2 : tie.Need-returns-2
-returns-2 c = 
+returns-2 c =
     let a = c .before .before .before .before .before .before .before .before .before .before .before .before .args in
     let w = c .before .before .before .before .before .before .before .before .write-san in
     let i = text-in-room (a .board .pieces) (a .m) (a .file) (a .rank) (a .bytes .now) _ (w .result) (c .before .before .before .before .before .before .before .before .before .before .before .before .pre .1 .1) (w .ensures .0) (w .ensures .1) in
@@ -68,13 +50,11 @@ returns-2 c =
     let read = c .before .before .before .before .from-san in
     try-other (a .board) (a .moves .now) (a .m) (pre .0) (pre .1 .0) i (read .result) (read .ensures) (c .before .before .if1 .left) (c .if2 .taken)
 
--- src/lib.rt:24:1
 same-length-3 : tie.Need-same-length-3
 same-length-3 c = search needs
 
--- src/lib.rt:24:1
 returns-3 : tie.Need-returns-3
-returns-3 c = 
+returns-3 c =
     let a = c .before .before .before .before .before .before .before .before .before .before .before .before .args in
     let w = c .before .before .before .before .before .before .before .before .write-san in
     let i = text-in-room (a .board .pieces) (a .m) (a .file) (a .rank) (a .bytes .now) _ (w .result) (c .before .before .before .before .before .before .before .before .before .before .before .before .pre .1 .1) (w .ensures .0) (w .ensures .1) in

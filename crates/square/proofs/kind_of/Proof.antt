@@ -3,19 +3,14 @@ use borrow.Author.Tests.{le-leb, lt-leb}
 use Rattle.square.specs.Piece.{kindOf}
 use Rattle.square.proofs.kind_of.Statement.{statement}
 use Rattle.square.proofs.kind_of.Tie as tie
-use Rattle.square.proofs.kind_of.Reads as reads
-use Rattle.square.proofs.kind_of.Lts as lts
 
--- src/lib.rt:187:34
 sub-result : tie.Need-sub-result
 sub-result c = search needs
 
--- src/lib.rt:184:1
 returns : tie.Need-returns
 unfolding kindOf
 returns c = simp (le-leb _ _ (c .if1 .taken))
 
--- src/lib.rt:184:1
 returns-2 : tie.Need-returns-2
 unfolding kindOf
 returns-2 c = simp (lt-leb _ _ (c .if1 .left))

@@ -1,17 +1,16 @@
 -- The largest number of a list, turn by turn, and what it says of each number: all are at most n exactly if the largest is.
 -- Assumes nothing.
-use mathlib.Core.Path.{_≡_, refl, ap, _∙_}
+use mathlib.Core.Path.{_≡_, refl, sym, ap, _∙_}
 use mathlib.Core.Bool.{Bool, true, false, _&&_}
-use mathlib.Core.List.{List, [], _∷_}
+use mathlib.Core.List.{List, [], _∷_, _++_}
 use Prim.Native.Nat.{ℕ, suc, _+_, _≤_, _<_, max}
 use native.Mathlib.Numerals.{add-one}
 use native.Mathlib.Omega.{arith}
 use lib.Dec.{leb}
-use lib.ListN.{length, drop, getD, drop-of-length-le}
-use lib.Seq.{drop-cons}
+use lib.ListN.{length, take, drop, getD, drop-of-length-le, take-append-drop}
+use lib.Seq.{drop-cons, drop-drop}
 use borrow.Author.Tests.{le-leb, lt-leb, leb-true, leb-false}
-use Rattle.square.specs.Numbers.{allAtMost}
-use Rattle.move_list.specs.MoveList.{largest}
+use Rattle.square.specs.Numbers.{allAtMost, largest}
 
 max-assoc : (a b c : ℕ) → max a (max b c) ≡ max (max a b) c
 max-assoc a b c = omega arith
@@ -49,3 +48,16 @@ pub largest-at-most : (n : ℕ) (s : List ℕ) → leb (largest s) n ≡ allAtMo
 unfolding largest allAtMost
 largest-at-most n [] = le-leb 0 n (omega arith)
 largest-at-most n (x ∷ s) = leb-max x (largest s) n ∙ ap (λ (t : Bool). leb x n && t) (largest-at-most n s)
+
+-- of two lists one after the other, and of a list taken by parts
+pub largest-both : (xs ys : List ℕ) → largest (xs ++ ys) ≡ max (largest xs) (largest ys)
+unfolding largest
+largest-both [] ys = sym (max-none (largest ys))
+largest-both (x ∷ xs) ys = ap (max x) (largest-both xs ys) ∙ max-assoc x (largest xs) (largest ys)
+
+pub largest-part : (s : List ℕ) (m i n : ℕ) → max m (largest (drop i s)) ≡ max (max m (largest (take n (drop i s)))) (largest (drop (i + n) s))
+largest-part s m i n =
+    ap (λ (l : List ℕ). max m (largest l)) (sym (take-append-drop n (drop i s)))
+    ∙ ap (max m) (largest-both (take n (drop i s)) (drop n (drop i s)))
+    ∙ max-assoc m (largest (take n (drop i s))) (largest (drop n (drop i s)))
+    ∙ ap (λ (l : List ℕ). max (max m (largest (take n (drop i s)))) (largest l)) (drop-drop n i s)
