@@ -30,5 +30,5 @@ numbers-are-the-record a b r s e =
     let black : a .«black_castle_rights» ≡ b .«black_castle_rights» = cc in
     let file : a .«en_passant» ≡ b .«en_passant» = cc in
     let same : board (a .pieces) (a .«side_to_move») (a .«white_castle_rights») (a .«black_castle_rights») (a .«en_passant»)
-        ≡ board (b .pieces) (b .«side_to_move») (b .«white_castle_rights») (b .«black_castle_rights») (b .«en_passant») = cc in
+    ≡ board (b .pieces) (b .«side_to_move») (b .«white_castle_rights») (b .«black_castle_rights») (b .«en_passant») = cc in
     same

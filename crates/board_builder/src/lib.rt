@@ -164,7 +164,10 @@ impl BoardBuilder {
     fn stepped(self, number: u64) -> Stepped
         ensures { λ r. ⌜ r ≡ stepped number self ⌝ }
     {
-        Stepped { number, board: self }
+        Stepped {
+            number,
+            board: self,
+        }
     }
 
     pub fn side_to_move(mut self, color: u8) -> Stepped

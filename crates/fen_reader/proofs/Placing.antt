@@ -118,7 +118,7 @@ stopped-bad s i h e n k =
     let rest : List ℕ = take (placeOf 32 (drop (suc i) s)) (drop (suc i) s) in
     let p : Placement = placeAll start (take i s) in
     let whole : take (placeOf 32 s) s ≡ take i s ++ (getD s i 0 ∷ rest) =
-        ap (λ (m : ℕ). take m s) (e ∙ ap (λ (m : ℕ). i + m) (place-past s i h n)) ∙ past s i (placeOf 32 (drop (suc i) s)) h in
+    ap (λ (m : ℕ). take m s) (e ∙ ap (λ (m : ℕ). i + m) (place-past s i h n)) ∙ past s i (placeOf 32 (drop (suc i) s)) h in
     bad-token s
     (rw (whole, place-append start (take i s) (getD s i 0 ∷ rest))
     (stays-bad (placeByte p (getD s i 0)) rest (spoils p (getD s i 0) k)))

@@ -6,7 +6,9 @@ ghost use Rattle.fen_reader.specs.Class.{classOf, noteAll, signs, pieceA
 
 // A byte's class: a piece's code, DIGIT and how many files it adds, SLASH, or REFUSED.
 const REFUSED: u8 = 0;
+
 const DIGIT: u8 = 16;
+
 const SLASH: u8 = 32;
 
 fn class_of(b: u8) -> u8

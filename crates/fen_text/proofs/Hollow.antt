@@ -58,7 +58,7 @@ one-constant-text-fails w read same-answer same-room back =
     let e = back emptyBoard room empty-in-range room-long in
     let i = back initialBoard room initial-in-range room-long in
     let texts : take (w .answer emptyBoard (length room) .value) (w .room emptyBoard room) ≡ take (w .answer initialBoard (length room) .value) (w .room initialBoard room)
-        = ap₂ (λ (a : Answer) (l : List ℕ). take (a .value) l) (same-answer emptyBoard initialBoard (length room)) (same-room emptyBoard initialBoard room) in
+    = ap₂ (λ (a : Answer) (l : List ℕ). take (a .value) l) (same-answer emptyBoard initialBoard (length room)) (same-room emptyBoard initialBoard room) in
     let boards : fenOf emptyBoard ≡ fenOf initialBoard = sym (e .back) ∙ ap read texts ∙ i .back in
     let rights : _≡_ {A = ℕ} 0 3 = ap (λ (f : Fen). f .board .«white_castle_rights») boards in
     omega arith

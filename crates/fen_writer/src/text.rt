@@ -159,7 +159,12 @@ fn tail(bytes: &mut [u8; 85], at: usize, board: BoardBuilder) -> usize
     let a = push(bytes, at, b' ');
     let b = side(bytes, a, board.side_to_move);
     let c = push(bytes, b, b' ');
-    let d = rights(bytes, c, board.white_castle_rights, board.black_castle_rights);
+    let d = rights(
+        bytes,
+        c,
+        board.white_castle_rights,
+        board.black_castle_rights,
+    );
     let e = push(bytes, d, b' ');
     let f = en_passant(bytes, e, board.side_to_move, board.en_passant);
     let g = push(bytes, f, b' ');

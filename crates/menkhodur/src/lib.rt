@@ -115,7 +115,12 @@ pub extern "C" fn menkhodur_san_read(b: BoardBuilder, list: &[u16], text: &[u8])
 }
 
 #[no_mangle]
-pub extern "C" fn menkhodur_san_name(b: BoardBuilder, list: &[u16], n: u64, out: &mut [u8]) -> Answer
+pub extern "C" fn menkhodur_san_name(
+    b: BoardBuilder,
+    list: &[u16],
+    n: u64,
+    out: &mut [u8],
+) -> Answer
     ensures answer { λ r. ⌜ r ≡ nameAnswer b (now (list .entry)) n (length (now (out .entry))) ⌝ }
     ensures bytes { λ r. ⌜ now (out .exit) ≡ nameBytes b (now (list .entry)) n (now (out .entry)) ⌝ }
 {

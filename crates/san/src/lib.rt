@@ -2,8 +2,8 @@
 mod resolve;
 mod text;
 
-pub use resolve::castling_move;
 use board_builder::BoardBuilder;
+pub use resolve::castling_move;
 use square::Answer;
 use square::BAD_LIST;
 use square::OUT_OF_RANGE;

@@ -103,7 +103,15 @@ fn piece_or(kind: u8) -> u8
     if kind == 0 { 1 } else { kind }
 }
 
-fn read_end(kind: u8, file: u8, rank: u8, takes: bool, square: u8, promotion: u8, s: &[u8]) -> SanText
+fn read_end(
+    kind: u8,
+    file: u8,
+    rank: u8,
+    takes: bool,
+    square: u8,
+    promotion: u8,
+    s: &[u8],
+) -> SanText
     requires { ⌜ 1 ≤ square ⌝ }
     ensures { λ r. ⌜ r ≡ readEnd kind file rank takes square promotion (now (s .entry)) ⌝ }
 {
@@ -124,7 +132,15 @@ fn read_promotion(kind: u8, file: u8, rank: u8, takes: bool, square: u8, s: &[u8
     ensures { λ r. ⌜ r ≡ readPromotion kind file rank takes square (now (s .entry)) ⌝ }
 {
     let promotion = promotion_kind(byte_at(s, 0));
-    read_end(kind, file, rank, takes, square, promotion, skip(promotion != 0, s))
+    read_end(
+        kind,
+        file,
+        rank,
+        takes,
+        square,
+        promotion,
+        skip(promotion != 0, s),
+    )
 }
 
 // A square, else file and rank together are the destination and no longer a source, else refused.

@@ -66,7 +66,11 @@ fn promotion_byte(kind: u8) -> u8
 fn piece_byte(kind: u8) -> u8
     ensures { λ r. ⌜ r ≡ pieceByte kind ⌝ }
 {
-    if kind == 6 { b'K' } else { promotion_byte(kind) }
+    if kind == 6 {
+        b'K'
+    } else {
+        promotion_byte(kind)
+    }
 }
 
 // The letter, the source's file and rank as far as they are wanted, and `x`.
@@ -128,7 +132,20 @@ pub fn write_san(board: BoardBuilder, m: u16, file: bool, rank: bool, out: &mut 
     let is_empty = board.pieces[dest as usize] == 0;
     let changes_files = both(kind == 1, source % 8 != dest % 8);
     let mut bytes = [0u8; 12];
-    let n = head(&mut bytes, kind, source, file, rank, either(!is_empty, changes_files));
-    let all = end(&mut bytes, n, dest, promotion, both(changes_files, is_empty));
+    let n = head(
+        &mut bytes,
+        kind,
+        source,
+        file,
+        rank,
+        either(!is_empty, changes_files),
+    );
+    let all = end(
+        &mut bytes,
+        n,
+        dest,
+        promotion,
+        both(changes_files, is_empty),
+    );
     square::write_text(&bytes[..all], out)
 }

@@ -13,14 +13,23 @@ pub struct Answer {
 }
 
 pub const ACCEPTED: u64 = 0;
+
 pub const INVALID_FEN: u64 = 1;
+
 pub const INVALID_SQUARE: u64 = 2;
+
 pub const INVALID_UCI_MOVE: u64 = 3;
+
 pub const INVALID_SAN_MOVE: u64 = 4;
+
 pub const OUT_OF_RANGE: u64 = 5;
+
 pub const BAD_LIST: u64 = 6;
+
 pub const OUTPUT_TOO_SHORT: u64 = 7;
+
 pub const NO_NAME: u64 = 8;
+
 pub const NOT_LISTED: u64 = 11;
 
 pub fn accepted(value: u64) -> Answer

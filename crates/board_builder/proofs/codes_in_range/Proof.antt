@@ -31,14 +31,14 @@ loop-less : tie.Need-loop-less Inv-loop μ-loop
 loop-less c = search needs
 
 loop-again : tie.Need-loop-again Inv-loop μ-loop
-loop-again c = 
+loop-again c =
     let pieces = c .before .before .before .before .before .args .t1 in
     let r = c .before .before .before .before .loop .rank in
     let next : r * 8 + 8 ≡ (r + 1) * 8 = omega arith in
     (omega arith, ap (λ (m : ℕ). max m (largest (drop ((r + 1) * 8) pieces))) (c .larger .ensures ∙ ap (max (c .before .before .before .before .loop .most)) (c .before .largest-of-rank .ensures)) ∙ ap (λ (k : ℕ). max (max (c .before .before .before .before .loop .most) (largest (take 8 (drop (r * 8) pieces)))) (largest (drop k pieces))) (sym next) ∙ sym (largest-part pieces (c .before .before .before .before .loop .most) (r * 8) 8) ∙ c .before .before .before .before .loop .inv .1)
 
 returns : tie.Need-returns Inv-loop μ-loop
-returns c = 
+returns c =
     let pieces = c .before .before .args .t1 in
     let long : length pieces ≡ 64 = search needs in
     let h : length pieces ≤ c .before .loop .rank * 8 = omega arith in

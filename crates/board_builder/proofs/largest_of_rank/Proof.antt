@@ -38,7 +38,7 @@ loop-less : tie.Need-loop-less Inv-loop μ-loop
 loop-less c = search needs
 
 loop-again : tie.Need-loop-again Inv-loop μ-loop
-loop-again c = 
+loop-again c =
     let pieces = c .before .before .before .before .args .pieces .now in
     let from = c .before .before .before .before .args .rank * 8 in
     let row : List ℕ = take 8 (drop from pieces) in
@@ -50,7 +50,7 @@ loop-again c =
     (omega arith, ap (λ (m : ℕ). max m (largest (drop (i + 1) row))) (c .larger .ensures ∙ ap (max (c .before .before .before .loop .most)) (sym here)) ∙ sym (largest-turn row (c .before .before .before .loop .most) i h) ∙ c .before .before .before .loop .inv .1)
 
 returns : tie.Need-returns Inv-loop μ-loop
-returns c = 
+returns c =
     let pieces = c .before .before .args .pieces .now in
     let from = c .before .before .args .rank * 8 in
     let row : List ℕ = take 8 (drop from pieces) in

@@ -15,7 +15,7 @@ no-fen-requires : tie.Need-no-fen-requires
 no-fen-requires c κs = search needs
 
 returns : tie.Need-returns
-returns c = 
+returns c =
     c .no-fen .ensures
     ∙ no-side (c .before .before .before .before .before .before .args .pieces) (c .before .before .side .result) (c .before .before .before .before .before .before .args .castling .now) (c .before .before .before .before .before .before .args .ep .now) (c .before .if1 .taken)
     ∙ ap (λ (s : ℕ). assembled (placed (c .before .before .before .before .before .before .args .pieces)) s (c .before .before .before .before .before .before .args .castling .now) (c .before .before .before .before .before .before .args .ep .now)) (c .before .before .side .ensures)
@@ -27,7 +27,7 @@ en-passant-requires : tie.Need-en-passant-requires
 en-passant-requires c κs = search needs
 
 returns-2 : tie.Need-returns-2
-returns-2 c = 
+returns-2 c =
     let white = ap (λ (r : Sides). r .white) (c .before .rights .ensures) in
     let black = ap (λ (r : Sides). r .black) (c .before .rights .ensures) in
     made (c .before .before .before .before .before .before .before .args .pieces) (c .before .before .before .side .result) (c .before .rights .result .white) (c .before .rights .result .black) (c .en-passant .result) (c .before .before .before .before .before .before .before .args .castling .now) (c .before .before .before .before .before .before .before .args .ep .now) (c .before .before .if1 .left) white black (c .en-passant .ensures)

@@ -37,7 +37,7 @@ no-fen-requires-3 : tie.Need-no-fen-requires-3
 no-fen-requires-3 c κs = search needs
 
 returns-3 : tie.Need-returns-3
-returns-3 c = 
+returns-3 c =
     c .no-fen3 .ensures
     ∙ sym
     (two-tokens
@@ -54,7 +54,7 @@ no-fen-requires-4 : tie.Need-no-fen-requires-4
 no-fen-requires-4 c κs = search needs
 
 returns-4 : tie.Need-returns-4
-returns-4 c = 
+returns-4 c =
     c .no-fen4 .ensures
     ∙ sym
     (three-tokens
@@ -81,7 +81,7 @@ assemble-requires : tie.Need-assemble-requires
 assemble-requires c κs = search needs
 
 returns-5 : tie.Need-returns-5
-returns-5 c = 
+returns-5 c =
     c .assemble .ensures
     ∙ same-assembled (placed (c .before .before .before .before .before .before .before .before .before .before .before .before .before .before .before .before .place .result .pieces)) (placeAll start (take (c .before .before .before .before .before .before .before .before .before .before .before .before .before .before .before .before .place .result .end) (c .before .before .before .before .before .before .before .before .before .before .before .before .before .before .before .before .before .before .args .text .now))) _ _ _ (sym (c .before .before .before .before .before .before .before .before .before .before .before .before .before .before .before .before .place .ensures .pieces)) (sym (c .before .before .before .before .before .before .before .before .before .before .before .before .before .before .before .before .place .ensures .good))
     ∙ sym

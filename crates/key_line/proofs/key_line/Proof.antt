@@ -44,25 +44,25 @@ write-fen-requires c κs = search needs
 
 -- src/lib.rt:36:5
 array-write-text : tie.Need-array-write-text
-array-write-text c = 
+array-write-text c =
     let k = kept (c .before .before .before .before .before .before .before .before .before .args .line .now) (c .before .before .before .before .before .before .read-fen .result) (c .before .write-fen .result) (c .before .write-fen .last .1 .0) (c .before .before .before .before .before .before .read-fen .ensures) (c .before .before .before .before .if1 .left) (c .before .write-fen .ensures .0) (c .before .write-fen .ensures .1) in
     omega (arith, k .small)
 
 -- src/lib.rt:37:15
 add-all : tie.Need-add-all
-add-all c = 
+add-all c =
     let k = kept (c .before .before .before .before .before .before .before .before .before .args .line .now) (c .before .before .before .before .before .before .read-fen .result) (c .before .write-fen .result) (c .before .write-fen .last .1 .0) (c .before .before .before .before .before .before .read-fen .ensures) (c .before .before .before .before .if1 .left) (c .before .write-fen .ensures .0) (c .before .write-fen .ensures .1) in
     omega (arith, k .small)
 
 -- src/lib.rt:38:24
 array-share-prefix-text : tie.Need-array-share-prefix-text
-array-share-prefix-text c = 
+array-share-prefix-text c =
     let k = kept (c .before .before .before .before .before .before .before .before .before .args .line .now) (c .before .before .before .before .before .before .read-fen .result) (c .before .write-fen .result) (c .before .write-fen .last .1 .0) (c .before .before .before .before .before .before .read-fen .ensures) (c .before .before .before .before .if1 .left) (c .before .write-fen .ensures .0) (c .before .write-fen .ensures .1) in
     simp length-set (omega (arith, k .small, k .long))
 
 -- src/lib.rt:38:24
 slice-aggregate-write-text : tie.Need-slice-aggregate-write-text
-slice-aggregate-write-text c = 
+slice-aggregate-write-text c =
     let k = kept (c .before .before .before .before .before .before .before .before .before .before .args .line .now) (c .before .before .before .before .before .before .before .read-fen .result) (c .before .before .write-fen .result) (c .before .before .write-fen .last .1 .0) (c .before .before .before .before .before .before .before .read-fen .ensures) (c .before .before .before .before .before .if1 .left) (c .before .before .write-fen .ensures .0) (c .before .before .write-fen .ensures .1) in
     let fits : c .before .before .write-fen .result .value + 1 ≤ length (set (c .before .before .write-fen .last .1 .0) (c .before .before .write-fen .result .value) 10) = simp length-set (omega (arith, k .small, k .long)) in
     sym (length-take-le _ _ fits)
@@ -77,7 +77,7 @@ same-length-2 c = search needs
 
 -- src/lib.rt:24:1
 returns-2 : tie.Need-returns-2
-returns-2 c = 
+returns-2 c =
     let k = kept (c .before .before .before .before .before .before .before .before .before .before .before .before .before .before .args .line .now) (c .before .before .before .before .before .before .before .before .before .before .before .read-fen .result) (c .before .before .before .before .before .before .write-fen .result) (c .before .before .before .before .before .before .write-fen .last .1 .0) (c .before .before .before .before .before .before .before .before .before .before .before .read-fen .ensures) (c .before .before .before .before .before .before .before .before .before .if1 .left) (c .before .before .before .before .before .before .write-fen .ensures .0) (c .before .before .before .before .before .before .write-fen .ensures .1) in
     let text : keyOf (c .before .before .before .before .before .before .before .before .before .before .before .before .before .before .args .line .now) ++ newline ≡ take (c .before .before .before .before .before .before .write-fen .result .value + 1) (set (c .before .before .before .before .before .before .write-fen .last .1 .0) (c .before .before .before .before .before .before .write-fen .result .value) 10) = sym (ended _ _ _ k) in
     rw (line-accepted (c .before .before .before .before .before .before .before .before .before .before .before .before .before .before .args .line .now) (c .before .before .before .before .before .before .before .before .before .before .before .read-fen .result) (c .before .before .before .before .before .before .before .before .before .before .before .read-fen .ensures) (c .before .before .before .before .before .before .before .before .before .if1 .left), text) (c .before .before .write-text .ensures .0, c .before .before .write-text .ensures .1)

@@ -33,7 +33,7 @@ loop-less : tie.Need-loop-less Inv-loop μ-loop
 loop-less c = search needs
 
 loop-again : tie.Need-loop-again Inv-loop μ-loop
-loop-again c = 
+loop-again c =
     let moves = c .before .before .before .before .before .args .moves .now in
     let i = c .before .before .before .loop .i in
     (omega arith, ap (λ (m : ℕ). max m (largest (drop (i + 1) moves))) (c .larger .ensures) ∙ sym (largest-turn moves (c .before .before .before .loop .most) i (c .before .before .loop-test .taken)) ∙ c .before .before .before .loop .inv .1)

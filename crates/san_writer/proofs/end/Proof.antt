@@ -28,12 +28,12 @@ push-if-requires : tie.Need-push-if-requires
 push-if-requires c κs = (c .before .push2 .ensures .long, omega (arith, c .before .before .before .push .ensures .pushed .count, c .before .push2 .ensures .pushed .count))
 
 push-mark-requires : tie.Need-push-mark-requires
-push-mark-requires c κs = 
+push-mark-requires c κs =
     let h = one-put (not (eqb (c .before .before .before .before .before .before .before .promotion-byte .result) 0)) (c .before .before .before .before .before .before .before .promotion-byte .result) (c .before .push-if .ensures) in
     (c .before .push-if .ensures .long, omega (arith, c .before .before .before .before .before .push .ensures .pushed .count, c .before .before .before .push2 .ensures .pushed .count))
 
 returns : tie.Need-returns
-returns c = 
+returns c =
     let letter = ap letterIf (c .before .before .before .before .before .before .before .before .promotion-byte .ensures) ∙ letter-promotion (c .before .before .before .before .before .before .before .before .before .args .promotion) in
     put-both (c .before .before .before .before .before .before .push .ensures) (put-both (c .before .before .before .before .push2 .ensures) (put-both (put-as letter (c .before .before .push-if .ensures)) (c .push-mark .ensures)))
 

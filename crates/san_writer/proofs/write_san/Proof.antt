@@ -44,18 +44,18 @@ both-requires-2 : tie.Need-both-requires-2
 both-requires-2 c κs = search needs
 
 end-requires : tie.Need-end-requires
-end-requires c κs = 
+end-requires c κs =
     let h = head-most (c .before .before .before .before .before .before .before .kind-of .result) (c .before .before .before .before .before .before .before .before .before .before .narrow .result) (c .before .before .before .before .before .before .before .before .before .before .before .before .args .file) (c .before .before .before .before .before .before .before .before .before .before .before .before .args .rank) (c .before .before .before .either .result) in
     let d : c .before .before .before .before .before .before .before .before .before .narrow2 .result ≡ c .before .before .before .before .before .before .before .before .before .before .before .before .args .m / 64 % 64 = c .before .before .before .before .before .before .before .before .before .narrow2 .ensures in
     (c .before .before .head .ensures .long, (omega (arith, c .before .before .head .ensures .pushed .count), omega arith))
 
 array-share-prefix-bytes : tie.Need-array-share-prefix-bytes
-array-share-prefix-bytes c = 
+array-share-prefix-bytes c =
     let p = put-both (c .before .before .before .head .ensures) (c .end .ensures) in
     whole-within p
 
 slice-aggregate-write-text : tie.Need-slice-aggregate-write-text
-slice-aggregate-write-text c = 
+slice-aggregate-write-text c =
     let p = put-both (c .before .before .before .before .head .ensures) (c .before .end .ensures) in
     whole-count p
 
@@ -66,7 +66,7 @@ same-length : tie.Need-same-length
 same-length c = search needs
 
 returns : tie.Need-returns
-returns c = 
+returns c =
     let p = put-both (c .before .before .before .before .before .before .before .before .head .ensures) (c .before .before .before .before .before .end .ensures) in
     let text = push-whole (p .pushed) .1 ∙ whole (c .before .before .before .before .before .before .before .before .before .before .before .before .before .before .before .before .before .before .args .t1 .pieces) (c .before .before .before .before .before .before .before .before .before .before .before .before .before .before .before .before .before .before .args .m) (c .before .before .before .before .before .before .before .before .before .before .before .before .before .before .before .before .before .before .args .file) (c .before .before .before .before .before .before .before .before .before .before .before .before .before .before .before .before .before .before .args .rank) (c .before .before .before .before .before .before .before .before .before .before .before .before .before .kind-of .result) (c .before .before .before .before .before .before .before .before .before .before .before .before .before .before .before .before .narrow .result) (c .before .before .before .before .before .before .before .before .before .before .before .before .before .before .before .narrow2 .result) (c .before .before .before .before .before .before .before .before .before .either .result) (c .before .before .before .before .before .before .before .before .before .before .before .both .result) (c .before .before .before .before .before .before .both2 .result) (c .before .before .before .before .before .before .before .before .before .before .before .before .before .before .before .before .narrow .ensures) (c .before .before .before .before .before .before .before .before .before .before .before .before .before .before .before .narrow2 .ensures) (c .before .before .before .before .before .before .before .before .before .before .before .before .before .kind-of .ensures) (c .before .before .before .before .before .before .before .before .before .before .before .both .ensures) (c .before .before .before .before .before .before .before .before .before .either .ensures) (c .before .before .before .before .before .before .both2 .ensures) in
     rw (← text) (c .before .before .write-text .ensures .0, c .before .before .write-text .ensures .1)

@@ -15,7 +15,7 @@ refused-requires : tie.Need-refused-requires
 refused-requires c κs = search needs
 
 returns : tie.Need-returns
-returns c = 
+returns c =
     let bad : inRange (c .before .before .before .args .self) ≡ false = sym (c .before .before .in-range .ensures) ∙ not-true (c .before .before .in-range .result) (c .before .if1 .taken) in
     c .refused .ensures ∙ simp bad
 
@@ -29,17 +29,17 @@ refused-requires-2 : tie.Need-refused-requires-2
 refused-requires-2 c κs = search needs
 
 returns-2 : tie.Need-returns-2
-returns-2 c = 
+returns-2 c =
     let good : inRange (c .before .before .before .before .args .self) ≡ true = sym (c .before .before .before .in-range .ensures) ∙ not-false (c .before .before .before .in-range .result) (c .before .before .if1 .left) in
     c .accepted-byte .ensures ∙ simp (good, c .before .match .keys1)
 
 returns-3 : tie.Need-returns-3
-returns-3 c = 
+returns-3 c =
     let good : inRange (c .before .before .before .before .args .self) ≡ true = sym (c .before .before .before .in-range .ensures) ∙ not-false (c .before .before .before .in-range .result) (c .before .before .if1 .left) in
     c .accepted-byte2 .ensures ∙ simp (good, c .before .match .keys2)
 
 returns-4 : tie.Need-returns-4
-returns-4 c = 
+returns-4 c =
     let good : inRange (c .before .before .before .before .args .self) ≡ true = sym (c .before .before .before .in-range .ensures) ∙ not-false (c .before .before .before .in-range .result) (c .before .before .if1 .left) in
     let two : 1 < c .before .before .before .before .args .color = omega (arith, c .before .match .rest .0 .1, c .before .match .rest .1) in
     c .refused2 .ensures ∙ simp (good, lt-leb _ 1 two)

@@ -16,7 +16,7 @@ refused-requires : tie.Need-refused-requires
 refused-requires c κs = search needs
 
 returns : tie.Need-returns
-returns c = 
+returns c =
     let bad : inRange (c .before .before .before .args .self) ≡ false = sym (c .before .before .in-range .ensures) ∙ not-true (c .before .before .in-range .result) (c .before .if1 .taken) in
     c .refused .ensures ∙ simp bad
 
@@ -24,7 +24,7 @@ accepted-requires : tie.Need-accepted-requires
 accepted-requires c κs = search needs
 
 returns-2 : tie.Need-returns-2
-returns-2 c = 
+returns-2 c =
     let good : inRange (c .before .before .before .before .args .self) ≡ true = sym (c .before .before .before .in-range .ensures) ∙ not-false (c .before .before .before .in-range .result) (c .before .before .if1 .left) in
     c .accepted .ensures ∙ simp (good, eq-eqb _ _ (c .before .if2 .taken))
 
@@ -35,7 +35,7 @@ sub-accepted-byte : tie.Need-sub-accepted-byte
 sub-accepted-byte c = search needs
 
 add-accepted-byte : tie.Need-add-accepted-byte
-add-accepted-byte c = 
+add-accepted-byte c =
     let good : inRange (c .before .before .before .before .before .args .self) ≡ true = sym (c .before .before .before .before .in-range .ensures) ∙ not-false (c .before .before .before .before .in-range .result) (c .before .before .before .if1 .left) in
     let h = in-range (c .before .before .before .before .before .args .self) good .file in omega arith
 
@@ -43,7 +43,7 @@ accepted-byte-requires : tie.Need-accepted-byte-requires
 accepted-byte-requires c κs = search needs
 
 returns-3 : tie.Need-returns-3
-returns-3 c = 
+returns-3 c =
     let good : inRange (c .before .before .before .before .before .before .args .self) ≡ true = sym (c .before .before .before .before .before .in-range .ensures) ∙ not-false (c .before .before .before .before .before .in-range .result) (c .before .before .before .before .if1 .left) in
     c .accepted-byte .ensures ∙ simp (good, ne-eqb _ _ (c .before .before .before .if2 .left), eq-eqb _ _ (c .before .if3 .taken))
 
@@ -54,7 +54,7 @@ sub-accepted-byte-2 : tie.Need-sub-accepted-byte-2
 sub-accepted-byte-2 c = search needs
 
 add-accepted-byte-2 : tie.Need-add-accepted-byte-2
-add-accepted-byte-2 c = 
+add-accepted-byte-2 c =
     let good : inRange (c .before .before .before .before .before .args .self) ≡ true = sym (c .before .before .before .before .in-range .ensures) ∙ not-false (c .before .before .before .before .in-range .result) (c .before .before .before .if1 .left) in
     let h = in-range (c .before .before .before .before .before .args .self) good .file in omega arith
 
@@ -62,7 +62,7 @@ accepted-byte-requires-2 : tie.Need-accepted-byte-requires-2
 accepted-byte-requires-2 c κs = search needs
 
 returns-4 : tie.Need-returns-4
-returns-4 c = 
+returns-4 c =
     let good : inRange (c .before .before .before .before .before .before .args .self) ≡ true = sym (c .before .before .before .before .before .in-range .ensures) ∙ not-false (c .before .before .before .before .before .in-range .result) (c .before .before .before .before .if1 .left) in
     c .accepted-byte2 .ensures ∙ simp (good, ne-eqb _ _ (c .before .before .before .if2 .left), ne-eqb _ _ (c .before .if3 .left))
 

@@ -13,7 +13,7 @@ refused-requires : tie.Need-refused-requires
 refused-requires c κs = search needs
 
 returns : tie.Need-returns
-returns c = 
+returns c =
     let bad : inRange (c .before .before .before .args .t1) ≡ false = sym (c .before .before .in-range .ensures) ∙ not-true (c .before .before .in-range .result) (c .before .if1 .taken) in
     c .refused .ensures ∙ simp bad
 
@@ -21,7 +21,7 @@ refused-requires-2 : tie.Need-refused-requires-2
 refused-requires-2 c κs = search needs
 
 returns-2 : tie.Need-returns-2
-returns-2 c = 
+returns-2 c =
     let good : inRange (c .before .before .before .before .args .t1) ≡ true = sym (c .before .before .before .in-range .ensures) ∙ not-false (c .before .before .before .in-range .result) (c .before .before .if1 .left) in
     c .refused2 .ensures ∙ simp (good, lt-leb _ _ (c .before .if2 .taken))
 
@@ -32,7 +32,7 @@ accepted-byte-requires : tie.Need-accepted-byte-requires
 accepted-byte-requires c κs = search needs
 
 returns-3 : tie.Need-returns-3
-returns-3 c = 
+returns-3 c =
     let good : inRange (c .before .before .before .before .before .args .t1) ≡ true = sym (c .before .before .before .before .in-range .ensures) ∙ not-false (c .before .before .before .before .in-range .result) (c .before .before .before .if1 .left) in
     c .accepted-byte .ensures ∙ simp (good, le-leb _ _ (c .before .before .if2 .left))
 

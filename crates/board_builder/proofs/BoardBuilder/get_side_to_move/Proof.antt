@@ -13,7 +13,7 @@ refused-requires : tie.Need-refused-requires
 refused-requires c κs = search needs
 
 returns : tie.Need-returns
-returns c = 
+returns c =
     let bad : inRange (c .before .before .before .args .self) ≡ false = sym (c .before .before .in-range .ensures) ∙ not-true (c .before .before .in-range .result) (c .before .if1 .taken) in
     c .refused .ensures ∙ simp bad
 
@@ -21,7 +21,7 @@ accepted-byte-requires : tie.Need-accepted-byte-requires
 accepted-byte-requires c κs = search needs
 
 returns-2 : tie.Need-returns-2
-returns-2 c = 
+returns-2 c =
     let good : inRange (c .before .before .before .args .self) ≡ true = sym (c .before .before .in-range .ensures) ∙ not-false (c .before .before .in-range .result) (c .before .if1 .left) in
     c .accepted-byte .ensures ∙ simp good
 

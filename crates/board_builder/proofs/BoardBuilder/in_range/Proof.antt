@@ -8,25 +8,25 @@ use Rattle.board_builder.proofs.BoardBuilder.in_range.Tie as tie
 
 returns : tie.Need-returns
 unfolding inRange
-returns c = 
+returns c =
     let long : length (c .before .before .before .args .self .pieces) ≡ 64 = search needs in
     simp (eq-eqb _ _ long, lt-leb _ _ (c .if1 .taken))
 
 returns-2 : tie.Need-returns-2
 unfolding inRange
-returns-2 c = 
+returns-2 c =
     let long : length (c .before .before .before .before .before .args .self .pieces) ≡ 64 = search needs in
     simp (eq-eqb _ _ long, le-leb _ _ (c .before .before .if1 .left), lt-leb _ _ (c .if2 .taken))
 
 returns-3 : tie.Need-returns-3
 unfolding inRange
-returns-3 c = 
+returns-3 c =
     let long : length (c .before .before .before .before .before .before .before .args .self .pieces) ≡ 64 = search needs in
     simp (eq-eqb _ _ long, le-leb _ _ (c .before .before .before .before .if1 .left), le-leb _ _ (c .before .before .if2 .left), lt-leb _ _ (c .if3 .taken))
 
 returns-4 : tie.Need-returns-4
 unfolding inRange
-returns-4 c = 
+returns-4 c =
     let long : length (c .before .before .before .before .before .before .before .before .before .args .self .pieces) ≡ 64 = search needs in
     simp (eq-eqb _ _ long, le-leb _ _ (c .before .before .before .before .before .before .if1 .left), le-leb _ _ (c .before .before .before .before .if2 .left), le-leb _ _ (c .before .before .if3 .left), lt-leb _ _ (c .if4 .taken))
 
@@ -35,7 +35,7 @@ codes-in-range-requires c κs = search needs
 
 returns-5 : tie.Need-returns-5
 unfolding inRange
-returns-5 c = 
+returns-5 c =
     let long : length (c .before .before .before .before .before .before .before .before .before .before .args .self .pieces) ≡ 64 = search needs in
     c .codes-in-range .ensures ∙ sym (simp (eq-eqb _ _ long, le-leb _ _ (c .before .before .before .before .before .before .before .if1 .left), le-leb _ _ (c .before .before .before .before .before .if2 .left), le-leb _ _ (c .before .before .before .if3 .left), le-leb _ _ (c .before .if4 .left)))
 

@@ -68,7 +68,7 @@ unfolding classOf pieceOf
 returns-13 c = sym (ap classOf (c .match .keys13))
 
 returns-14 : tie.Need-returns-14
-returns-14 c = 
+returns-14 c =
     let b = c .before .before .before .args .b in
     let l : 49 ≤ b = c .before .if1 .left in
     let h : b ≤ 56 = omega arith in

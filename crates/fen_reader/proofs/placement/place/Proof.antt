@@ -34,7 +34,7 @@ wide-requires : tie.Need-wide-requires Inv-loop μ-loop
 wide-requires c κs = search needs
 
 array-read-class : tie.Need-array-read-class Inv-loop μ-loop
-array-read-class c = 
+array-read-class c =
     let b : ℕ = getD (c .before .before .before .before .before .before .before .args .text .now) (c .before .before .before .loop .i) 0 in
     let byte : b < 256 = omega (arith, c .before .shared-slice-known2 .given (c .before .before .before .loop .i)) in
     let place : c .wide .result ≡ b = c .wide .ensures in
@@ -42,7 +42,7 @@ array-read-class c =
     omega arith
 
 returns : tie.Need-returns Inv-loop μ-loop
-returns c = 
+returns c =
     let s : List ℕ = c .before .before .before .before .before .before .before .before .args .text .now in
     let i : ℕ = c .before .before .before .before .loop .i in
     let b : ℕ = getD s i 0 in
@@ -84,7 +84,7 @@ loop-less : tie.Need-loop-less Inv-loop μ-loop
 loop-less c = search needs
 
 loop-again : tie.Need-loop-again Inv-loop μ-loop
-loop-again c = 
+loop-again c =
     let s : List ℕ = c .before .before .before .before .before .before .before .before .before .before .before .args .text .now in
     let i : ℕ = c .before .before .before .before .before .before .before .loop .i in
     let b : ℕ = getD s i 0 in
@@ -106,12 +106,12 @@ loop-again c =
 
 returns-2 : tie.Need-returns-2 Inv-loop μ-loop
 returns-2 c = record {
-      within = c .before .loop .inv .0;
-      space = c .before .loop .inv .5;
-      pieces = ap (λ (p : Placement). p .pieces) (c .before .loop .inv .4);
-      good = ap (λ (p : Placement). p .good) (c .before .loop .inv .4);
-      stop = λ h. absurd (omega (arith, h, c .loop-test .left));
-    }
+  within = c .before .loop .inv .0;
+  space = c .before .loop .inv .5;
+  pieces = ap (λ (p : Placement). p .pieces) (c .before .loop .inv .4);
+  good = ap (λ (p : Placement). p .good) (c .before .loop .inv .4);
+  stop = λ h. absurd (omega (arith, h, c .loop-test .left));
+}
 
 pub place-spec : {M : Type 1} → statement M
 place-spec =

@@ -24,12 +24,12 @@ slice-aggregate-result : tie.Need-slice-aggregate-result
 slice-aggregate-result c = search needs
 
 returns : tie.Need-returns
-returns c = 
+returns c =
     let a = c .before .before .args in
     take-all (length (a .s .now) - (a .at + 1)) (drop (a .at + 1) (a .s .now)) (le-of-eq (length-drop (a .at + 1) (a .s .now)))
 
 returns-2 : tie.Need-returns-2
-returns-2 c = 
+returns-2 c =
     let a = c .before .before .args in
     let h : length (a .s .now) ≤ a .at + 1 = omega arith in
     sym (drop-of-length-le (a .s .now) h)

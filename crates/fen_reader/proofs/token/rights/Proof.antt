@@ -47,7 +47,7 @@ loop-less : tie.Need-loop-less Inv-loop μ-loop
 loop-less c = search needs
 
 loop-again : tie.Need-loop-again Inv-loop μ-loop
-loop-again c = 
+loop-again c =
     let s = c .before .before .before .before .before .before .before .before .args .token .now in
     let i = c .before .before .before .before .before .before .loop .i in
     let b = getD s i 0 in (
@@ -75,7 +75,7 @@ add-t15 : tie.Need-add-t15 Inv-loop μ-loop
 add-t15 c = search needs
 
 returns : tie.Need-returns Inv-loop μ-loop
-returns c = 
+returns c =
     let s = c .before .before .before .args .token .now in
     let l = c .before .loop in
     both-sides s (rights-of 75 81 s (l .i) (l .white-king) (l .white-queen) (c .loop-test .left) (l .inv .5) (l .inv .6))

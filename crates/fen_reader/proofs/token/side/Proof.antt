@@ -15,19 +15,19 @@ shared-slice-read-b : tie.Need-shared-slice-read-b
 shared-slice-read-b c = search needs
 
 returns-2 : tie.Need-returns-2
-returns-2 c = 
+returns-2 c =
     let s = c .before .before .before .args .token .now in
     let h : length s ≡ 1 = search needs in
     ⊎-elim (λ e. sym (side-one s h ∙ ap sideByte e)) (λ e. sym (side-one s h ∙ ap sideByte e)) (c .match .keys1)
 
 returns-3 : tie.Need-returns-3
-returns-3 c = 
+returns-3 c =
     let s = c .before .before .before .args .token .now in
     let h : length s ≡ 1 = search needs in
     ⊎-elim (λ e. sym (side-one s h ∙ ap sideByte e)) (λ e. sym (side-one s h ∙ ap sideByte e)) (c .match .keys2)
 
 returns-4 : tie.Need-returns-4
-returns-4 c = 
+returns-4 c =
     let s = c .before .before .before .args .token .now in
     let h : length s ≡ 1 = search needs in
     sym
