@@ -1,0 +1,94 @@
+use borrow.Author.Needs.{needs}
+use Rattle.action.specs.Layout.{actionBytes, actionCheck}
+use Rattle.action.proofs.to_bytes.Statement.{statement}
+use Rattle.action.proofs.to_bytes.Tie as tie
+
+enum-known-action : tie.Need-enum-known-action
+enum-known-action c = search needs
+
+write-move-requires : tie.Need-write-move-requires
+write-move-requires c κs = search needs
+
+enum-known-action-2 : tie.Need-enum-known-action-2
+enum-known-action-2 c = search needs
+
+write-colour-requires : tie.Need-write-colour-requires
+write-colour-requires c κs = search needs
+
+enum-told : tie.Need-enum-told
+enum-told c = search needs
+
+write-colour-requires-2 : tie.Need-write-colour-requires-2
+write-colour-requires-2 c κs = search needs
+
+enum-told-2 : tie.Need-enum-told-2
+enum-told-2 c = search needs
+
+write-colour-requires-3 : tie.Need-write-colour-requires-3
+write-colour-requires-3 c κs = search needs
+
+enum-known-action-3 : tie.Need-enum-known-action-3
+enum-known-action-3 c = search needs
+
+write-colour-requires-4 : tie.Need-write-colour-requires-4
+write-colour-requires-4 c κs = search needs
+
+same-length : tie.Need-same-length
+same-length c = search needs
+
+returns : tie.Need-returns
+unfolding actionBytes actionCheck
+returns c = rw (c .before .before .before .before .before .action .given .1) (c .before .before .write-move .ensures .0, c .before .before .write-move .ensures .1)
+
+same-length-2 : tie.Need-same-length-2
+same-length-2 c = search needs
+
+returns-2 : tie.Need-returns-2
+unfolding actionBytes actionCheck
+returns-2 c = rw (c .before .before .before .before .before .action2 .given .1) (c .before .before .write-colour .ensures .0, c .before .before .write-colour .ensures .1)
+
+same-length-3 : tie.Need-same-length-3
+same-length-3 c = search needs
+
+returns-3 : tie.Need-returns-3
+unfolding actionBytes actionCheck
+returns-3 c = rw (c .before .before .before .before .enum-told .given .1) (c .before .before .write-colour2 .ensures .0, c .before .before .write-colour2 .ensures .1)
+
+same-length-4 : tie.Need-same-length-4
+same-length-4 c = search needs
+
+returns-4 : tie.Need-returns-4
+unfolding actionBytes actionCheck
+returns-4 c = rw (c .before .before .before .before .enum-told2 .given .1) (c .before .before .write-colour3 .ensures .0, c .before .before .write-colour3 .ensures .1)
+
+same-length-5 : tie.Need-same-length-5
+same-length-5 c = search needs
+
+returns-5 : tie.Need-returns-5
+unfolding actionBytes actionCheck
+returns-5 c = rw (c .before .before .before .before .before .action3 .given .1) (c .before .before .write-colour4 .ensures .0, c .before .before .write-colour4 .ensures .1)
+
+pub to-bytes-spec : {M : Type 1} → statement M
+to-bytes-spec =
+    tie.close
+    (tie.spec
+    enum-known-action
+    write-move-requires
+    enum-known-action-2
+    write-colour-requires
+    enum-told
+    write-colour-requires-2
+    enum-told-2
+    write-colour-requires-3
+    enum-known-action-3
+    write-colour-requires-4
+    same-length
+    returns
+    same-length-2
+    returns-2
+    same-length-3
+    returns-3
+    same-length-4
+    returns-4
+    same-length-5
+    returns-5)

@@ -1,0 +1,41 @@
+use borrow.Author.Needs.{needs}
+use borrow.Author.Tests.{le-leb, lt-leb}
+use mathlib.Core.Path.{_≡_, _∙_}
+use native.Mathlib.Omega.{arith}
+use Rattle.square.proofs.Writes.{write-refused}
+use Rattle.action.specs.Layout.{fields, colourCheck}
+use Rattle.action.proofs.write_colour.Statement.{statement}
+use Rattle.action.proofs.write_colour.Tie as tie
+
+refused-requires : tie.Need-refused-requires
+refused-requires c κs = search needs
+
+returns : tie.Need-returns
+returns c = let a = c .before .before .before .args in
+    let k : colourCheck (a .colour) ≡ 5 = simp (lt-leb _ _ (c .before .if1 .taken)) in
+    let w = write-refused 5 (fields (a .kind) (a .colour) 0) (a .out .now) (λ e. omega arith) in
+    rw k (c .refused .ensures ∙ w .answer, w .bytes)
+
+slice-aggregate-write-text : tie.Need-slice-aggregate-write-text
+slice-aggregate-write-text c = search needs
+
+write-text-requires : tie.Need-write-text-requires
+write-text-requires c κs = search needs
+
+same-length : tie.Need-same-length
+same-length c = search needs
+
+returns-2 : tie.Need-returns-2
+returns-2 c = let k : colourCheck (c .before .before .before .before .before .before .before .args .colour) ≡ 0 = simp (le-leb _ _ (c .before .before .before .before .before .if1 .left)) in
+    rw k (c .before .before .write-text .ensures .0, c .before .before .write-text .ensures .1)
+
+pub write-colour-spec : {M : Type 1} → statement M
+write-colour-spec =
+    tie.close
+    (tie.spec
+    refused-requires
+    returns
+    slice-aggregate-write-text
+    write-text-requires
+    same-length
+    returns-2)
