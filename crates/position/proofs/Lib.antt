@@ -1,0 +1,5 @@
+pub mod Same
+pub mod Moves
+pub mod Repeats
+pub mod Pairs
+pub mod Used

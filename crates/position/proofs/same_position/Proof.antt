@@ -1,0 +1,82 @@
+use mathlib.Core.Path.{sym, _∙_}
+use native.Mathlib.Omega.{arith}
+use borrow.Author.Needs.{needs}
+use borrow.Author.Tests.{not-true, not-false}
+use lib.ListN.{length-take}
+use Rattle.position.specs.Layout.{lengthAt}
+use Rattle.position.proofs.Moves.{same-lists, equal-not, equal-lists}
+use Rattle.position.proofs.same_position.Statement.{statement}
+use Rattle.position.proofs.same_position.Tie as tie
+
+slice-aggregate-same-bytes : tie.Need-slice-aggregate-same-bytes
+slice-aggregate-same-bytes c = simp length-take (omega arith)
+
+slice-aggregate-same-bytes-2 : tie.Need-slice-aggregate-same-bytes-2
+slice-aggregate-same-bytes-2 c = simp length-take (omega arith)
+
+same-bytes-requires : tie.Need-same-bytes-requires
+same-bytes-requires c κs = search needs
+
+returns : tie.Need-returns
+returns c = sym (equal-not _ _ (sym (c .before .same-bytes .ensures) ∙ not-true _ (c .if1 .taken)))
+
+shared-slice-read-end : tie.Need-shared-slice-read-end
+shared-slice-read-end c = search needs
+
+cast-end : tie.Need-cast-end
+cast-end c = omega (arith, c .shared-slice-known3 .given lengthAt)
+
+mul-end : tie.Need-mul-end
+mul-end c = omega (arith, c .shared-slice-known3 .given lengthAt)
+
+add-end : tie.Need-add-end
+add-end c = omega (arith, c .shared-slice-known3 .given lengthAt)
+
+sub-same-bytes : tie.Need-sub-same-bytes
+sub-same-bytes c = search needs
+
+part-same-bytes-start : tie.Need-part-same-bytes-start
+part-same-bytes-start c = search needs
+
+part-same-bytes-end : tie.Need-part-same-bytes-end
+part-same-bytes-end c = omega (arith, c .shared-slice-known3 .given lengthAt)
+
+sub-same-bytes-2 : tie.Need-sub-same-bytes-2
+sub-same-bytes-2 c = search needs
+
+part-same-bytes-start-2 : tie.Need-part-same-bytes-start-2
+part-same-bytes-start-2 c = search needs
+
+part-same-bytes-end-2 : tie.Need-part-same-bytes-end-2
+part-same-bytes-end-2 c = omega (arith, c .before .shared-slice-known3 .given lengthAt)
+
+same-bytes-requires-2 : tie.Need-same-bytes-requires-2
+same-bytes-requires-2 c κs = search needs
+
+returns-2 : tie.Need-returns-2
+returns-2 c =
+    c .same-bytes2 .ensures
+    ∙ same-lists (c .before .before .before .before .before .before .before .before .before .before .args .p .now) (c .before .before .before .before .before .before .before .before .before .before .args .q .now)
+    (λ i. c .before .before .before .shared-slice-known3 .given i .fits) (λ i. c .before .before .before .before .before .before .before .before .shared-slice-known2 .given i .fits) (c .before .before .before .before .before .before .before .before .before .before .pre .0) (c .before .before .before .before .before .before .before .before .before .before .pre .1)
+    ∙ sym (equal-lists (c .before .before .before .before .before .before .before .before .before .before .args .p .now) (c .before .before .before .before .before .before .before .before .before .before .args .q .now) (sym (c .before .before .before .before .before .same-bytes .ensures) ∙ not-false _ (c .before .before .before .before .if1 .left)))
+
+pub same-position-spec : {M : Type 1} → statement M
+same-position-spec =
+    tie.close
+    (tie.spec
+    slice-aggregate-same-bytes
+    slice-aggregate-same-bytes-2
+    same-bytes-requires
+    returns
+    shared-slice-read-end
+    cast-end
+    mul-end
+    add-end
+    sub-same-bytes
+    part-same-bytes-start
+    part-same-bytes-end
+    sub-same-bytes-2
+    part-same-bytes-start-2
+    part-same-bytes-end-2
+    same-bytes-requires-2
+    returns-2)

@@ -1,0 +1,66 @@
+-- Positions in the log (document 01, "Numbers of the record, the move and the log"): the record, an in-check byte, a list length, 255 moves of two
+-- bytes low first.
+-- Assumes nothing.
+use mathlib.Core.Path.{_≡_}
+use mathlib.Core.Bool.{Bool, true, false, _&&_}
+use mathlib.Core.List.{List, [], _∷_}
+use Prim.Native.Nat.{ℕ, zero, suc, _+_, _*_}
+use lib.Dec.{eqb}
+use lib.ListN.{length, getD, take, drop}
+use Rattle.board_builder.specs.BoardBuilder.{recordSize}
+use Rattle.move_list.specs.MoveList.{longestList}
+
+abbrev pub checkAt : ℕ
+checkAt = recordSize
+
+abbrev pub lengthAt : ℕ
+lengthAt = recordSize + 1
+
+abbrev pub movesAt : ℕ
+movesAt = recordSize + 2
+
+abbrev pub positionSize : ℕ
+positionSize = movesAt + 2 * longestList
+
+-- the two lists are equal
+unfoldable pub same : List ℕ → List ℕ → Bool
+same [] [] = true
+same [] (b ∷ bs) = false
+same (a ∷ xs) [] = false
+same (a ∷ xs) (b ∷ bs) = eqb a b && same xs bs
+
+-- item k of a part that holds items of a size, one after the other
+abbrev pub item : ℕ → List ℕ → ℕ → List ℕ
+item size bs k = take size (drop (size * k) bs)
+
+-- a slice is item k of a size, and whole
+pub record IsItem (size : ℕ) (bs : List ℕ) (k : ℕ) (part : List ℕ) : Type 0 where
+  pub is : part ≡ item size bs k
+  pub whole : length part ≡ size
+
+-- two bytes, low first
+abbrev pub number : ℕ → ℕ → ℕ
+number low high = low + 256 * high
+
+-- so many moves of two bytes from a place on
+unfoldable pub movesFrom : List ℕ → ℕ → ℕ → List ℕ
+movesFrom p at zero = []
+movesFrom p at (suc k) = number (getD p at 0) (getD p (at + 1) 0) ∷ movesFrom p (at + 2) k
+
+pub record Position : Type 0 where
+  pub board : List ℕ
+  pub check : ℕ
+  pub moves : List ℕ
+
+-- the position that 580 bytes stand for
+unfoldable pub positionOf : List ℕ → Position
+positionOf p =
+    record { board = take recordSize p; check = getD p checkAt 0; moves = movesFrom p movesAt (getD p lengthAt 0) }
+
+-- position k of the part; and so many positions from one on, newest first
+abbrev pub positionAt : List ℕ → ℕ → Position
+positionAt ps k = positionOf (item positionSize ps k)
+
+unfoldable pub positionsFrom : List ℕ → ℕ → ℕ → List Position
+positionsFrom ps first zero = []
+positionsFrom ps first (suc k) = positionAt ps (first + k) ∷ positionsFrom ps first k

@@ -1,0 +1,85 @@
+// The positions part of a log, after game.rs: where a position lies, when two are equal, and whether the last equals two earlier ones.
+use move_list::LONGEST_LIST;
+ghost use mathlib.Core.Path.{_≡_};
+ghost use Prim.Native.Nat.{_+_, _*_, _-_, _≤_};
+ghost use lib.Dec.{leb};
+ghost use lib.ListN.{length};
+ghost use Rattle.position.specs.Layout.{IsItem, positionSize, same, positionOf, positionAt, positionsFrom};
+ghost use Rattle.position.specs.Repeats.{equal, times, equalsTwoEarlier};
+
+// A record, the in-check byte, the list's length, and two bytes for each move that a list may have.
+pub const RECORD_SIZE: usize = 68;
+
+pub const LENGTH_AT: usize = RECORD_SIZE + 1;
+
+pub const MOVES_AT: usize = RECORD_SIZE + 2;
+
+pub const POSITION_SIZE: usize = MOVES_AT + 2 * LONGEST_LIST;
+
+fn same_bytes(a: &[u8], b: &[u8]) -> bool
+    ensures { λ r. ⌜ r ≡ same (now (a .entry)) (now (b .entry)) ⌝ }
+{
+    if a.len() != b.len() {
+        return false;
+    }
+    let mut i = 0;
+    while i < a.len() {
+        if a[i] != b[i] {
+            return false;
+        }
+        i += 1;
+    }
+    true
+}
+
+fn position(ps: &[u8], k: usize) -> &[u8]
+    requires { ⌜ positionSize * k + positionSize ≤ length (now ps) ⌝ }
+    ensures { λ r. ⌜ IsItem positionSize (now (ps .entry)) k (now r) ⌝ }
+{
+    let at = POSITION_SIZE * k;
+    &ps[at..at + POSITION_SIZE]
+}
+
+// In place, and up to the first byte that differs: the record, then the list with its length in front. The in-check byte between them is not looked at.
+fn same_position(p: &[u8], q: &[u8]) -> bool
+    requires { ⌜ (length (now p) ≡ positionSize) × (length (now q) ≡ positionSize) ⌝ }
+    ensures { λ r. ⌜ r ≡ equal (positionOf (now (p .entry))) (positionOf (now (q .entry))) ⌝ }
+{
+    if !same_bytes(&p[..RECORD_SIZE], &q[..RECORD_SIZE]) {
+        return false;
+    }
+    let end = MOVES_AT + 2 * (p[LENGTH_AT] as usize);
+    same_bytes(&p[LENGTH_AT..end], &q[LENGTH_AT..end])
+}
+
+fn repeated(ps: &[u8], first: usize, last: usize) -> bool
+    requires { ⌜ (first ≤ last) × (positionSize * last + positionSize ≤ length (now ps)) ⌝ }
+    ensures { λ r. ⌜ r ≡ leb 2 (times (positionAt (now (ps .entry)) last) (positionsFrom (now (ps .entry)) first (last - first))) ⌝ }
+{
+    let current = position(ps, last);
+    let mut found = false;
+    'pairs: for i in first..last {
+        if same_position(position(ps, i), current) {
+            for j in first..i {
+                if same_position(position(ps, j), current) {
+                    found = true;
+                    break 'pairs;
+                }
+            }
+        }
+    }
+    found
+}
+
+// Whether position `last` equals two earlier ones, none before `first`. Positions that do not lie in the part equal none.
+pub fn equals_two_earlier(ps: &[u8], first: usize, last: usize) -> bool
+    ensures { λ r. ⌜ r ≡ equalsTwoEarlier (now (ps .entry)) first last ⌝ }
+{
+    if ps.len() / POSITION_SIZE <= last {
+        return false;
+    }
+    if last < first {
+        return false;
+    }
+    repeated(ps, first, last)
+}
