@@ -3,13 +3,13 @@
 use mathlib.Core.Path.{_≡_, refl, ap, _∙_}
 use mathlib.Core.Bool.{Bool, true, false, _&&_}
 use mathlib.Core.List.{List}
-use Prim.Native.Nat.{ℕ, _+_, _*_}
+use Prim.Native.Nat.{ℕ}
 use lib.Dec.{leb}
 use lib.ListN.{length, getD}
 use borrow.Author.Tests.{eq-eqb, ne-eqb}
 use Rattle.square.specs.Answer.{inRangeOr5}
 use Rattle.chess_move.specs.declared.ChessMove.{ChessMove}
-use Rattle.chess_move.specs.Number.{numberOf, numberAnswer}
+use Rattle.chess_move.specs.Number.{numberOf, ofBytes, numberAnswer}
 use Rattle.action.specs.declared.Action.the-variants.{OfferDraw, AcceptDraw, DeclareDraw, Resign}
 use Rattle.action.specs.declared.Stored.the-variants.{Nothing}
 use Rattle.action.specs.Layout.{movesHere, standsAlone, actionOfFields, actionOf}
@@ -33,24 +33,24 @@ no-kind k c n a b d e f = rw (ne-eqb _ _ a, ne-eqb _ _ b, ne-eqb _ _ d, ne-eqb _
 
 -- four bytes, by their kind
 module _ (s : List ℕ) (four : length s ≡ 4) where
-  of-four : actionOf s ≡ actionOfFields (getD s 0 0) (getD s 1 0) (getD s 2 0 + 256 * getD s 3 0)
+  of-four : actionOf s ≡ actionOfFields (getD s 0 0) (getD s 1 0) (ofBytes (getD s 2 0) (getD s 3 0))
   unfolding actionOf
   of-four = rw (eq-eqb _ _ four) refl
 
-  pub of-move : getD s 0 0 ≡ 1 → actionOf s ≡ movesHere (getD s 1 0) (getD s 2 0 + 256 * getD s 3 0)
-  of-move e = of-four ∙ ap (λ (k : ℕ). actionOfFields k (getD s 1 0) (getD s 2 0 + 256 * getD s 3 0)) e
+  pub of-move : getD s 0 0 ≡ 1 → actionOf s ≡ movesHere (getD s 1 0) (ofBytes (getD s 2 0) (getD s 3 0))
+  of-move e = of-four ∙ ap (λ (k : ℕ). actionOfFields k (getD s 1 0) (ofBytes (getD s 2 0) (getD s 3 0))) e
 
-  pub of-offer : getD s 0 0 ≡ 2 → actionOf s ≡ standsAlone 1 (getD s 1 0) (getD s 2 0 + 256 * getD s 3 0) (OfferDraw (getD s 1 0))
-  of-offer e = of-four ∙ ap (λ (k : ℕ). actionOfFields k (getD s 1 0) (getD s 2 0 + 256 * getD s 3 0)) e
+  pub of-offer : getD s 0 0 ≡ 2 → actionOf s ≡ standsAlone 1 (getD s 1 0) (ofBytes (getD s 2 0) (getD s 3 0)) (OfferDraw (getD s 1 0))
+  of-offer e = of-four ∙ ap (λ (k : ℕ). actionOfFields k (getD s 1 0) (ofBytes (getD s 2 0) (getD s 3 0))) e
 
-  pub of-accept : getD s 0 0 ≡ 3 → actionOf s ≡ standsAlone 0 (getD s 1 0) (getD s 2 0 + 256 * getD s 3 0) AcceptDraw
-  of-accept e = of-four ∙ ap (λ (k : ℕ). actionOfFields k (getD s 1 0) (getD s 2 0 + 256 * getD s 3 0)) e
+  pub of-accept : getD s 0 0 ≡ 3 → actionOf s ≡ standsAlone 0 (getD s 1 0) (ofBytes (getD s 2 0) (getD s 3 0)) AcceptDraw
+  of-accept e = of-four ∙ ap (λ (k : ℕ). actionOfFields k (getD s 1 0) (ofBytes (getD s 2 0) (getD s 3 0))) e
 
-  pub of-declare : getD s 0 0 ≡ 4 → actionOf s ≡ standsAlone 0 (getD s 1 0) (getD s 2 0 + 256 * getD s 3 0) DeclareDraw
-  of-declare e = of-four ∙ ap (λ (k : ℕ). actionOfFields k (getD s 1 0) (getD s 2 0 + 256 * getD s 3 0)) e
+  pub of-declare : getD s 0 0 ≡ 4 → actionOf s ≡ standsAlone 0 (getD s 1 0) (ofBytes (getD s 2 0) (getD s 3 0)) DeclareDraw
+  of-declare e = of-four ∙ ap (λ (k : ℕ). actionOfFields k (getD s 1 0) (ofBytes (getD s 2 0) (getD s 3 0))) e
 
-  pub of-resign : getD s 0 0 ≡ 5 → actionOf s ≡ standsAlone 1 (getD s 1 0) (getD s 2 0 + 256 * getD s 3 0) (Resign (getD s 1 0))
-  of-resign e = of-four ∙ ap (λ (k : ℕ). actionOfFields k (getD s 1 0) (getD s 2 0 + 256 * getD s 3 0)) e
+  pub of-resign : getD s 0 0 ≡ 5 → actionOf s ≡ standsAlone 1 (getD s 1 0) (ofBytes (getD s 2 0) (getD s 3 0)) (Resign (getD s 1 0))
+  of-resign e = of-four ∙ ap (λ (k : ℕ). actionOfFields k (getD s 1 0) (ofBytes (getD s 2 0) (getD s 3 0))) e
 
   pub of-none : (getD s 0 0 ≡ 1 → ⊥) → (getD s 0 0 ≡ 2 → ⊥) → (getD s 0 0 ≡ 3 → ⊥) → (getD s 0 0 ≡ 4 → ⊥) → (getD s 0 0 ≡ 5 → ⊥) → actionOf s ≡ Nothing
-  of-none a b d e f = of-four ∙ no-kind (getD s 0 0) (getD s 1 0) (getD s 2 0 + 256 * getD s 3 0) a b d e f
+  of-none a b d e f = of-four ∙ no-kind (getD s 0 0) (getD s 1 0) (ofBytes (getD s 2 0) (getD s 3 0)) a b d e f

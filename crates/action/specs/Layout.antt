@@ -1,13 +1,13 @@
 -- An action in the log (document 01, "Numbers of the record, the move and the log"): 4 bytes, kind 1 to 5 in the order of `Action`, colour, move low
 -- byte, move high byte, unused fields 0.
 -- Assumes nothing.
-use Prim.Native.Nat.{ℕ, _+_, _*_, _/_, _%_}
+use Prim.Native.Nat.{ℕ}
 use mathlib.Core.Bool.{cond, _&&_}
 use mathlib.Core.List.{List, [], _∷_}
 use lib.Dec.{eqb, leb}
 use lib.ListN.{length, getD}
 use Rattle.square.specs.Answer.{outOfRange}
-use Rattle.chess_move.specs.Number.{lastMove, moveOf, numberAnswer}
+use Rattle.chess_move.specs.Number.{lastMove, lowByte, highByte, ofBytes, moveOf, numberAnswer}
 use Rattle.action.specs.declared.Action.{Action}
 use Rattle.action.specs.declared.Action.the-variants.{MakeMove, OfferDraw, AcceptDraw, DeclareDraw, Resign}
 use Rattle.action.specs.declared.Stored.{Stored}
@@ -18,7 +18,7 @@ actionSize = 4
 
 -- kind, colour, move low byte, move high byte
 abbrev pub fields : ℕ → ℕ → ℕ → List ℕ
-fields kind colour move = kind ∷ colour ∷ move % 256 ∷ move / 256 ∷ []
+fields kind colour move = kind ∷ colour ∷ lowByte move ∷ highByte move ∷ []
 
 unfoldable pub actionBytes : Action → List ℕ
 actionBytes (MakeMove m) = fields 1 0 (numberAnswer m .value)
@@ -57,4 +57,4 @@ actionOfFields kind colour move =
 -- the action that some bytes hold
 unfoldable pub actionOf : List ℕ → Stored
 actionOf s =
-    cond (eqb (length s) actionSize) (actionOfFields (getD s 0 0) (getD s 1 0) (getD s 2 0 + 256 * getD s 3 0)) Nothing
+    cond (eqb (length s) actionSize) (actionOfFields (getD s 0 0) (getD s 1 0) (ofBytes (getD s 2 0) (getD s 3 0))) Nothing

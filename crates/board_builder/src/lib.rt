@@ -14,6 +14,9 @@ ghost use Rattle.board_builder.specs.BoardBuilder.{inRange, emptyBoard, 
 ghost use Rattle.board_builder.specs.Steps.{stepped, setPiece, clearSquare, setSide, setRights, setEnPassant};
 ghost use Rattle.board_builder.specs.Getters.{pieceOn, sideOf, rightsOf, enPassantSquare};
 
+// How many numbers a record has.
+pub const RECORD_SIZE: usize = 68;
+
 #[repr(C)]
 pub struct BoardBuilder {
     pub pieces: [u8; 64],

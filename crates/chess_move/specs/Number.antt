@@ -23,6 +23,16 @@ promotionOf n = n / 4096
 abbrev pub numberOf : ℕ → ℕ → ℕ → ℕ
 numberOf source dest promotion = source + 64 * dest + 4096 * promotion
 
+-- a number as two bytes, low first
+abbrev pub lowByte : ℕ → ℕ
+lowByte n = n % 256
+
+abbrev pub highByte : ℕ → ℕ
+highByte n = n / 256
+
+abbrev pub ofBytes : ℕ → ℕ → ℕ
+ofBytes low high = low + 256 * high
+
 -- the three parts of a number, and the number of three parts in range
 abbrev pub moveOf : ℕ → ChessMove
 moveOf n = record { source = sourceOf n; dest = destOf n; promotion = promotionOf n }

@@ -11,7 +11,8 @@ use lib.Dec.{eqb}
 use lib.ListN.{length, drop, take, getD}
 use lib.Seq.{drop-cons}
 use borrow.Author.Tests.{eq-eqb, ne-eqb, eqb-true, eqb-false}
-use Rattle.position.specs.Layout.{lengthAt, movesAt, positionSize, same, movesFrom, number, positionOf}
+use Rattle.chess_move.specs.Number.{ofBytes}
+use Rattle.position.specs.Layout.{lengthAt, movesAt, positionSize, same, movesFrom, positionOf}
 use Rattle.position.specs.Repeats.{equal}
 use Rattle.position.proofs.Same.{same-length}
 
@@ -25,16 +26,16 @@ length-moves p at zero = refl
 length-moves p at (suc k) = ap suc (length-moves p (at + 2) k)
 
 -- two numbers of two bytes are equal exactly when both bytes are
-pub eqb-number : (a b c d : ℕ) → a < 256 → c < 256 → eqb (number a b) (number c d) ≡ (eqb a c && eqb b d)
+pub eqb-number : (a b c d : ℕ) → a < 256 → c < 256 → eqb (ofBytes a b) (ofBytes c d) ≡ (eqb a c && eqb b d)
 eqb-number a b c d ha hc = go (eqb a c) (eqb b d) refl refl
   where
-    go : (s t : Bool) → eqb a c ≡ s → eqb b d ≡ t → eqb (number a b) (number c d) ≡ (s && t)
+    go : (s t : Bool) → eqb a c ≡ s → eqb b d ≡ t → eqb (ofBytes a b) (ofBytes c d) ≡ (s && t)
     go true true e f =
         let e' : a ≡ c = eqb-true a c e in
         let f' : b ≡ d = eqb-true b d f in
-        eq-eqb (number a b) (number c d) (omega arith)
-    go true false e f = ne-eqb (number a b) (number c d) (λ h. eqb-false b d f (omega (arith, eqb-true a c e)))
-    go false t e f = ne-eqb (number a b) (number c d) (λ h. eqb-false a c e (omega arith))
+        eq-eqb (ofBytes a b) (ofBytes c d) (omega arith)
+    go true false e f = ne-eqb (ofBytes a b) (ofBytes c d) (λ h. eqb-false b d f (omega (arith, eqb-true a c e)))
+    go false t e f = ne-eqb (ofBytes a b) (ofBytes c d) (λ h. eqb-false a c e (omega arith))
 
 pub take-two : (p : List ℕ) (at k : ℕ) → at + 2 * suc k ≤ length p
     → take (2 * suc k) (drop at p) ≡ getD p at 0 ∷ getD p (at + 1) 0 ∷ take (2 * k) (drop (at + 2) p)

@@ -8,6 +8,7 @@ use Prim.Native.Nat.{ℕ, zero, suc, _+_, _*_}
 use lib.Dec.{eqb}
 use lib.ListN.{length, getD, take, drop}
 use Rattle.board_builder.specs.BoardBuilder.{recordSize}
+use Rattle.chess_move.specs.Number.{ofBytes}
 use Rattle.move_list.specs.MoveList.{longestList}
 
 abbrev pub checkAt : ℕ
@@ -38,14 +39,10 @@ pub record IsItem (size : ℕ) (bs : List ℕ) (k : ℕ) (part : List ℕ) : Typ
   pub is : part ≡ item size bs k
   pub whole : length part ≡ size
 
--- two bytes, low first
-abbrev pub number : ℕ → ℕ → ℕ
-number low high = low + 256 * high
-
 -- so many moves of two bytes from a place on
 unfoldable pub movesFrom : List ℕ → ℕ → ℕ → List ℕ
 movesFrom p at zero = []
-movesFrom p at (suc k) = number (getD p at 0) (getD p (at + 1) 0) ∷ movesFrom p (at + 2) k
+movesFrom p at (suc k) = ofBytes (getD p at 0) (getD p (at + 1) 0) ∷ movesFrom p (at + 2) k
 
 pub record Position : Type 0 where
   pub board : List ℕ

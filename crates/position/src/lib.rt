@@ -1,4 +1,5 @@
 // The positions part of a log, after game.rs: where a position lies, when two are equal, and whether the last equals two earlier ones.
+use board_builder::RECORD_SIZE;
 use move_list::LONGEST_LIST;
 ghost use mathlib.Core.Path.{_≡_};
 ghost use Prim.Native.Nat.{_+_, _*_, _-_, _≤_};
@@ -8,7 +9,6 @@ ghost use Rattle.position.specs.Layout.{IsItem, positionSize, same, posi
 ghost use Rattle.position.specs.Repeats.{equal, times, equalsTwoEarlier};
 
 // A record, the in-check byte, the list's length, and two bytes for each move that a list may have.
-pub const RECORD_SIZE: usize = 68;
 
 pub const LENGTH_AT: usize = RECORD_SIZE + 1;
 
