@@ -14,12 +14,12 @@ use Rattle.square.specs.Square.{squareOf, between, readSquare}
 use Rattle.square.specs.Piece.{pieceOf}
 use Rattle.castle_rights.specs.CastleRights.{rights}
 use Rattle.board_builder.specs.declared.BoardBuilder.{BoardBuilder}
-use Rattle.square.specs.Numbers.{allAtMost}
+use Rattle.square.specs.Numbers.{allAtMost, among}
 use Rattle.board_builder.specs.BoardBuilder.{squares, inRange}
 use Rattle.square.proofs.Numbers.{both-right, most-set}
 use Rattle.board_builder.proofs.Ranges.{range-holds}
 use Rattle.fen_text.specs.declared.Fen.{Fen}
-use Rattle.fen_text.specs.Token.{occurs, tokens}
+use Rattle.fen_text.specs.Token.{tokens}
 use Rattle.fen_text.specs.Placement.{Placement, start, down, skip, fill, spoil, placeCode, placeByte, placeAll}
 use Rattle.fen_text.specs.Read.{sideOf, rightsOf, fileRead, noFen, fenOf, assembled, ofTokens, readFen}
 use Rattle.fen_text.specs.Write.{fenText}
@@ -86,7 +86,7 @@ start-sound = record { long = refl; codes = refl }
 
 rights-most : (k q : ℕ) (t : List ℕ) → rightsOf k q t ≤ 3
 unfolding rightsOf
-rights-most k q t = go (occurs k t) (occurs q t)
+rights-most k q t = go (among k t) (among q t)
   where
     go : (a b : Bool) → rights (cond a 1 0) (cond b 1 0) ≤ 3
     go true true = lit≤ tt

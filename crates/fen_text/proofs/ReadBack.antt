@@ -12,18 +12,18 @@ use Rattle.square.specs.Square.{readSquare}
 use Rattle.castle_rights.specs.CastleRights.{lettersOf, lettersText}
 use Rattle.square.proofs.Below.{fails, every, below, belows, same}
 use Rattle.board_builder.specs.declared.BoardBuilder.{BoardBuilder}
-use Rattle.square.specs.Numbers.{allAtMost}
+use Rattle.square.specs.Numbers.{allAtMost, among}
 use Rattle.board_builder.specs.BoardBuilder.{inRange}
 use Rattle.square.proofs.Numbers.{most-head, most-tail}
 use Rattle.board_builder.proofs.Ranges.{InRange, in-range}
-use Rattle.fen_text.specs.Token.{occurs, onto, joined, tokens}
+use Rattle.fen_text.specs.Token.{onto, joined, tokens}
 use Rattle.fen_text.specs.Read.{sideOf, rightsOf, enPassantOf, fenOf, assembled, ofTokens, readFen}
 use Rattle.fen_text.specs.Write.{digitText, runText, rowOf, slashText, ranksText, sideLetter, rightsText, enPassantText, tailText, fenText}
 use Rattle.fen_text.proofs.Placed.{row-codes, placed-back}
 
 -- ---- no part of a FEN has a space in it
 abbrev Free : List ℕ → Type 0
-Free xs = occurs 32 xs ≡ false
+Free xs = among 32 xs ≡ false
 
 or-left : (a b : Bool) → a || b ≡ false → a ≡ false
 or-left true b e = e
@@ -34,16 +34,16 @@ or-right true b e = absurd (mathlib.Core.Bool.true≢false e)
 or-right false b e = e
 
 free-cons : (x : ℕ) (xs : List ℕ) → eqb x 32 ≡ false → Free xs → Free (x ∷ xs)
-unfolding occurs
+unfolding among
 free-cons x xs e f = rw (e, f)
 
 free-append : (xs ys : List ℕ) → Free xs → Free ys → Free (xs ++ ys)
-unfolding occurs
+unfolding among
 free-append [] ys f g = g
-free-append (x ∷ xs) ys f g = free-cons x (xs ++ ys) (or-left (eqb x 32) (occurs 32 xs) f) (free-append xs ys (or-right (eqb x 32) (occurs 32 xs) f) g)
+free-append (x ∷ xs) ys f g = free-cons x (xs ++ ys) (or-left (eqb x 32) (among 32 xs) f) (free-append xs ys (or-right (eqb x 32) (among 32 xs) f) g)
 
 free-digit : (n : ℕ) → Free (digitText n)
-unfolding occurs digitText
+unfolding among digitText
 free-digit zero = refl
 free-digit (suc n) =
     let other : 48 + suc n ≡ 32 → ⊥ = λ e. omega arith in
@@ -65,31 +65,31 @@ free-run n (suc x ∷ xs) ok =
     (free-cons (letterOf (suc x)) (runText 0 xs) (letter-free (suc x) (lt-suc (most-head 12 (suc x) xs ok))) (free-run 0 xs (most-tail 12 (suc x) xs ok)))
 
 free-slash : (n : ℕ) → Free (slashText n)
-unfolding slashText occurs
+unfolding slashText among
 free-slash zero = refl
 free-slash (suc n) = refl
 
 free-ranks : (n : ℕ) (pieces : List ℕ) → allAtMost 12 pieces ≡ true → Free (ranksText n pieces)
-unfolding ranksText occurs
+unfolding ranksText among
 free-ranks zero pieces ok = refl
 free-ranks (suc n) pieces ok =
     free-append (runText 0 (rowOf n pieces)) (slashText n ++ ranksText n pieces) (free-run 0 (rowOf n pieces) (row-codes n pieces ok))
     (free-append (slashText n) (ranksText n pieces) (free-slash n) (free-ranks n pieces ok))
 
 -- a part that hangs on two numbers, each pair computed
-free-part : (f : ℕ → ℕ → List ℕ) (m n : ℕ) → T (every (λ (j : ℕ). every (λ (k : ℕ). not (occurs 32 (f j k))) n) m) → (j k : ℕ) → j < m → k < n → Free (f j k)
-free-part f m n t j k h l = fails (occurs 32 (f j k)) (belows (λ (a b : ℕ). not (occurs 32 (f a b))) m n t j k h l)
+free-part : (f : ℕ → ℕ → List ℕ) (m n : ℕ) → T (every (λ (j : ℕ). every (λ (k : ℕ). not (among 32 (f j k))) n) m) → (j k : ℕ) → j < m → k < n → Free (f j k)
+free-part f m n t j k h l = fails (among 32 (f j k)) (belows (λ (a b : ℕ). not (among 32 (f a b))) m n t j k h l)
 
 free-side : (side : ℕ) → side < 2 → Free (sideLetter side ∷ [])
-unfolding occurs
-free-side side h = fails _ (below (λ (s : ℕ). not (occurs 32 (sideLetter s ∷ []))) 2 tt side h)
+unfolding among
+free-side side h = fails _ (below (λ (s : ℕ). not (among 32 (sideLetter s ∷ []))) 2 tt side h)
 
 free-rights : (w b : ℕ) → w < 4 → b < 4 → Free (rightsText w b)
-unfolding occurs rightsText lettersText lettersOf
+unfolding among rightsText lettersText lettersOf
 free-rights = free-part rightsText 4 4 tt
 
 free-en-passant : (side file : ℕ) → side < 2 → file < 9 → Free (enPassantText side file)
-unfolding occurs enPassantText
+unfolding among enPassantText
 free-en-passant = free-part enPassantText 2 9 tt
 
 -- ---- the tokens
@@ -98,10 +98,10 @@ unfolding joined onto
 token-step x xs ys t e f = rw (e, f)
 
 token : (xs ys : List ℕ) → Free xs → tokens (xs ++ (32 ∷ ys)) ≡ xs ∷ tokens ys
-unfolding tokens occurs joined
+unfolding tokens among joined
 token [] ys f = refl
 token (x ∷ xs) ys f =
-    token-step x xs ys (eqb x 32) (or-left (eqb x 32) (occurs 32 xs) f) (token xs ys (or-right (eqb x 32) (occurs 32 xs) f))
+    token-step x xs ys (eqb x 32) (or-left (eqb x 32) (among 32 xs) f) (token xs ys (or-right (eqb x 32) (among 32 xs) f))
 
 -- the two counts that end each FEN
 counts : tokens (48 ∷ 32 ∷ 49 ∷ []) ≡ (48 ∷ []) ∷ (49 ∷ []) ∷ []
@@ -114,11 +114,11 @@ unfolding sideOf
 side-back side h = eqb→eq _ side (below (λ (s : ℕ). eqb (sideOf (sideLetter s ∷ [])) s) 2 tt side h)
 
 white-back : (w b : ℕ) → w < 4 → b < 4 → rightsOf 75 81 (rightsText w b) ≡ w
-unfolding occurs rightsOf rightsText lettersText lettersOf
+unfolding among rightsOf rightsText lettersText lettersOf
 white-back = same (λ (w b : ℕ). rightsOf 75 81 (rightsText w b)) (λ (w b : ℕ). w) 4 4 tt
 
 black-back : (w b : ℕ) → w < 4 → b < 4 → rightsOf 107 113 (rightsText w b) ≡ b
-unfolding occurs rightsOf rightsText lettersText lettersOf
+unfolding among rightsOf rightsText lettersText lettersOf
 black-back = same (λ (w b : ℕ). rightsOf 107 113 (rightsText w b)) (λ (w b : ℕ). b) 4 4 tt
 
 en-passant-back : (side file : ℕ) → side < 2 → file < 9 → enPassantOf (enPassantText side file) ≡ file

@@ -7,11 +7,12 @@ use lib.Dec.{eqb, ltb}
 use Rattle.square.specs.declared.Answer.{Answer}
 use Rattle.square.specs.Answer.{invalidFen}
 use Rattle.square.specs.Square.{readSquare}
+use Rattle.square.specs.Numbers.{among}
 use Rattle.castle_rights.specs.CastleRights.{rights}
 use Rattle.board_builder.specs.declared.BoardBuilder.{BoardBuilder}
 use Rattle.board_builder.specs.BoardBuilder.{board, emptyBoard}
 use Rattle.fen_text.specs.declared.Fen.{Fen}
-use Rattle.fen_text.specs.Token.{occurs, tokens}
+use Rattle.fen_text.specs.Token.{tokens}
 use Rattle.fen_text.specs.Placement.{Placement, start, placeAll}
 
 -- side is `w`, `W`, `b` or `B`: 0, 0, 1, 1, and 2 for any other byte
@@ -25,7 +26,7 @@ sideOf (b ∷ c ∷ bs) = 2
 
 -- each right holds if its letter, k or q, occurs anywhere in the third token
 unfoldable pub rightsOf : ℕ → ℕ → List ℕ → ℕ
-rightsOf k q t = rights (cond (occurs k t) 1 0) (cond (occurs q t) 1 0)
+rightsOf k q t = rights (cond (among k t) 1 0) (cond (among q t) 1 0)
 
 -- the file, from 1, of a square that was read; none where none was
 abbrev pub fileRead : Answer → ℕ

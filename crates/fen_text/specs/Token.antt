@@ -1,7 +1,7 @@
 -- Tokens (document 01, "FEN, read and written"): a text is split at each single space, and empty tokens count.
 -- Assumes nothing.
 use Prim.Native.Nat.{ℕ, zero, suc}
-use mathlib.Core.Bool.{Bool, true, false, _||_}
+use mathlib.Core.Bool.{Bool, true, false}
 use mathlib.Core.List.{List, [], _∷_}
 use lib.Dec.{eqb}
 
@@ -21,11 +21,6 @@ unfoldable pub tokens : List ℕ → List (List ℕ)
 unfolding joined
 tokens [] = [] ∷ []
 tokens (x ∷ xs) = joined (eqb x 32) x (tokens xs)
-
--- a byte occurs anywhere in a token
-unfoldable pub occurs : ℕ → List ℕ → Bool
-occurs b [] = false
-occurs b (x ∷ xs) = eqb x b || occurs b xs
 
 -- the place of the first b, by whether the first byte is b, and the place in the rest
 unfoldable pub placeAfter : Bool → ℕ → ℕ

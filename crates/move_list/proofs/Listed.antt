@@ -10,33 +10,33 @@ use lib.Dec.{eqb, leb}
 use lib.ListN.{length, getD, drop, drop-of-length-le}
 use lib.Seq.{drop-cons}
 use borrow.Author.Tests.{eq-eqb, ne-eqb, eqb-true}
-use Rattle.square.specs.Numbers.{allAtMost}
+use Rattle.square.specs.Numbers.{allAtMost, among}
 use Rattle.square.proofs.Numbers.{both-right, most-head, most-tail}
 use Rattle.chess_move.specs.Number.{lastMove}
-use Rattle.move_list.specs.MoveList.{longestList, listInRange, listed}
+use Rattle.move_list.specs.MoveList.{longestList, listInRange}
 
-pub listed-turn : (m : ℕ) (l : List ℕ) (i : ℕ) → i < length l → (getD l i 0 ≡ m → ⊥) → listed m (drop i l) ≡ listed m (drop (i + 1) l)
-unfolding listed
+pub listed-turn : (m : ℕ) (l : List ℕ) (i : ℕ) → i < length l → (getD l i 0 ≡ m → ⊥) → among m (drop i l) ≡ among m (drop (i + 1) l)
+unfolding among
 listed-turn m l i h n = rw (add-one i, drop-cons l i 0 h) (simp (ne-eqb _ _ n))
 
-pub listed-stop : (m : ℕ) (l : List ℕ) (i : ℕ) → i < length l → getD l i 0 ≡ m → listed m (drop i l) ≡ true
-unfolding listed
+pub listed-stop : (m : ℕ) (l : List ℕ) (i : ℕ) → i < length l → getD l i 0 ≡ m → among m (drop i l) ≡ true
+unfolding among
 listed-stop m l i h e = rw (drop-cons l i 0 h) (simp (eq-eqb _ _ e))
 
-pub listed-end : (m : ℕ) (l : List ℕ) (i : ℕ) → length l ≤ i → listed m (drop i l) ≡ false
-unfolding listed
+pub listed-end : (m : ℕ) (l : List ℕ) (i : ℕ) → length l ≤ i → among m (drop i l) ≡ false
+unfolding among
 listed-end m l i h = rw (drop-of-length-le l h)
 
 -- what is listed is at most what every entry is at most
-pub listed-most : (n m : ℕ) (l : List ℕ) → allAtMost n l ≡ true → listed m l ≡ true → m ≤ n
-unfolding listed
+pub listed-most : (n m : ℕ) (l : List ℕ) → allAtMost n l ≡ true → among m l ≡ true → m ≤ n
+unfolding among
 listed-most n m [] a e = absurd (false≢true e)
 listed-most n m (x ∷ xs) a e = go (listed-most n m xs (most-tail n x xs a)) (eqb x m) refl e
   where
-    go : (listed m xs ≡ true → m ≤ n) → (t : Bool) → eqb x m ≡ t → t || listed m xs ≡ true → m ≤ n
+    go : (among m xs ≡ true → m ≤ n) → (t : Bool) → eqb x m ≡ t → t || among m xs ≡ true → m ≤ n
     go ih true q k = omega (arith, eqb-true x m q, most-head n x xs a)
     go ih false q k = ih k
 
-pub listed-in-range : (m : ℕ) (l : List ℕ) → listInRange l ≡ true → listed m l ≡ true → m ≤ lastMove
+pub listed-in-range : (m : ℕ) (l : List ℕ) → listInRange l ≡ true → among m l ≡ true → m ≤ lastMove
 unfolding listInRange
 listed-in-range m l r e = listed-most lastMove m l (both-right (leb (length l) longestList) (allAtMost lastMove l) r) e

@@ -1,9 +1,9 @@
 -- A lent list of moves (document 01, "Answer numbers" 6): at most 255 entries, each at most 28,671. And counting, on which "one entry alone fits" rests.
 -- Assumes nothing.
 use Prim.Native.Nat.{ℕ, suc}
-use mathlib.Core.Bool.{Bool, false, cond, _&&_, _||_}
+use mathlib.Core.Bool.{Bool, cond, _&&_}
 use mathlib.Core.List.{List, [], _∷_}
-use lib.Dec.{eqb, leb}
+use lib.Dec.{leb}
 use lib.ListN.{length}
 use Rattle.square.specs.Numbers.{allAtMost}
 use Rattle.chess_move.specs.Number.{lastMove}
@@ -14,11 +14,6 @@ longestList = 255
 
 unfoldable pub listInRange : List ℕ → Bool
 listInRange moves = leb (length moves) longestList && allAtMost lastMove moves
-
--- a move is in the list
-unfoldable pub listed : ℕ → List ℕ → Bool
-listed m [] = false
-listed m (x ∷ xs) = eqb x m || listed m xs
 
 -- how many entries pass a test, equal ones counted each; and the first of them, or 0
 unfoldable pub count : (ℕ → Bool) → List ℕ → ℕ

@@ -3,8 +3,9 @@
 use Prim.Native.Nat.{ℕ}
 use mathlib.Core.List.{List}
 use Rattle.square.specs.Determined.{Determined, Is}
-use Rattle.move_list.specs.MoveList.{listInRange, listed}
+use Rattle.square.specs.Numbers.{among}
+use Rattle.move_list.specs.MoveList.{listInRange}
 
 pub record MoveListDetermined : Type 0 where
   pub in-range : (l : List ℕ) → Determined (Is (listInRange l))
-  pub is-listed : (l : List ℕ) (m : ℕ) → Determined (Is (listed m l))
+  pub is-listed : (l : List ℕ) (m : ℕ) → Determined (Is (among m l))

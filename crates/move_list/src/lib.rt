@@ -1,8 +1,8 @@
 // A lent list of moves, in the host's order: its range, and whether a move is in it.
 ghost use mathlib.Core.Path.{_≡_};
 ghost use Prim.Native.Nat.{max};
-ghost use Rattle.square.specs.Numbers.{largest};
-ghost use Rattle.move_list.specs.MoveList.{listInRange, listed};
+ghost use Rattle.square.specs.Numbers.{largest, among};
+ghost use Rattle.move_list.specs.MoveList.{listInRange};
 
 // The most entries that a list may have.
 pub const LONGEST_LIST: usize = 255;
@@ -43,7 +43,7 @@ fn wide(x: u16) -> u64
 }
 
 pub fn is_listed(moves: &[u16], m: u64) -> bool
-    ensures { λ r. ⌜ r ≡ listed m (now (moves .entry)) ⌝ }
+    ensures { λ r. ⌜ r ≡ among m (now (moves .entry)) ⌝ }
 {
     let mut i: usize = 0;
     while i < moves.len() {

@@ -9,10 +9,11 @@ use native.Mathlib.Omega.{arith}
 use lib.Dec.{eqb}
 use lib.ListN.{length, take}
 use Rattle.square.specs.Answer.{outOfRange, badList, notListed}
+use Rattle.square.specs.Numbers.{among}
 use Rattle.board_builder.specs.declared.BoardBuilder.{BoardBuilder}
 use Rattle.board_builder.specs.BoardBuilder.{inRange}
 use Rattle.chess_move.specs.Number.{sourceOf}
-use Rattle.move_list.specs.MoveList.{listInRange, listed}
+use Rattle.move_list.specs.MoveList.{listInRange}
 use Rattle.san_text.specs.Resolve.{kindAt}
 use Rattle.san_text.specs.Name.{changesFiles, candidates, names, castlingName, firstName, kingFirst, nameOf, noneIs8, nameText, nameCheck}
 use Rattle.san_text.specs.Paper.{sanText, paper}
@@ -77,14 +78,14 @@ module _ (b : BoardBuilder) (l : List ℕ) (m : ℕ) where
   -- ---- the checks 5, 6 and 11; then 8 and the text
 
   abbrev pub check : ℕ
-  check = firstCheck (inRange b) (listInRange l) (listed m l)
+  check = firstCheck (inRange b) (listInRange l) (among m l)
 
-  pub check-made : {r : ℕ} {x y z : Bool} → x ≡ inRange b → y ≡ listInRange l → z ≡ listed m l → r ≡ firstCheck x y z → r ≡ check
+  pub check-made : {r : ℕ} {x y z : Bool} → x ≡ inRange b → y ≡ listInRange l → z ≡ among m l → r ≡ firstCheck x y z → r ≡ check
   check-made p q s e = cc
 
   pub check-refuses : (check ≡ 0 → ⊥) → nameCheck paper b l m ≡ check
   unfolding nameCheck firstCheck
-  check-refuses n = go (inRange b) (listInRange l) (listed m l) n
+  check-refuses n = go (inRange b) (listInRange l) (among m l) n
     where
       go : (x y z : Bool) → (firstCheck x y z ≡ 0 → ⊥) → cond x (cond y (cond z (noneIs8 (nameOf paper b l m)) notListed) badList) outOfRange ≡ firstCheck x y z
       go true true true n = absurd (n refl)
@@ -94,7 +95,7 @@ module _ (b : BoardBuilder) (l : List ℕ) (m : ℕ) where
 
   pub check-ready : check ≡ 0 → Ready b l m
   unfolding firstCheck
-  check-ready e = let h = go (inRange b) (listInRange l) (listed m l) e in record { record-in-range = h .0; list-in-range = h .1; move-listed = h .2 }
+  check-ready e = let h = go (inRange b) (listInRange l) (among m l) e in record { record-in-range = h .0; list-in-range = h .1; move-listed = h .2 }
     where
       go : (x y z : Bool) → firstCheck x y z ≡ 0 → (x ≡ true) × (y ≡ true) × (z ≡ true)
       go true true true e = (refl, refl, refl)

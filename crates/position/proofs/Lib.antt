@@ -1,4 +1,3 @@
-pub mod Same
 pub mod Moves
 pub mod Repeats
 pub mod Pairs

@@ -11,10 +11,11 @@ use lib.Dec.{eqb}
 use lib.ListN.{length, drop, take, getD}
 use lib.Seq.{drop-cons}
 use borrow.Author.Tests.{eq-eqb, ne-eqb, eqb-true, eqb-false}
+use Rattle.square.specs.Numbers.{same}
+use Rattle.square.proofs.Same.{same-lengths}
 use Rattle.chess_move.specs.Number.{ofBytes}
-use Rattle.position.specs.Layout.{lengthAt, movesAt, positionSize, same, movesFrom, positionOf}
+use Rattle.position.specs.Layout.{lengthAt, movesAt, positionSize, movesFrom, positionOf}
 use Rattle.position.specs.Repeats.{equal}
-use Rattle.position.proofs.Same.{same-length}
 
 -- every element is a byte
 abbrev pub AllBytes : List ℕ → Type 0
@@ -77,7 +78,7 @@ same-lists p q bp bq hp hq =
     go true e =
         rw (← eqb-true (getD p lengthAt 0) (getD q lengthAt 0) e) (same-moves p q bp bq (getD p lengthAt 0) movesAt (omega (arith, bp lengthAt)) (omega (arith, bp lengthAt)))
     go false e =
-        sym (same-length (movesFrom p movesAt (getD p lengthAt 0)) (movesFrom q movesAt (getD q lengthAt 0))
+        sym (same-lengths (movesFrom p movesAt (getD p lengthAt 0)) (movesFrom q movesAt (getD q lengthAt 0))
         (λ h. eqb-false _ _ e (sym (length-moves p movesAt _) ∙ h ∙ length-moves q movesAt _)))
 
 -- positions are compared by their records first, and then by their lists

@@ -8,12 +8,13 @@ use native.Mathlib.Omega.{arith}
 use lib.Dec.{leb}
 use lib.ListN.{length}
 use borrow.Author.Tests.{le-leb, leb-true}
+use Rattle.square.specs.Numbers.{same}
 use Rattle.square.proofs.Numbers.{both-left, both-right}
+use Rattle.square.proofs.Same.{same-refl, same-eq}
 use Rattle.square.proofs.Determined.{determined}
-use Rattle.position.specs.Layout.{Position, positionSize, same, positionAt, positionsFrom}
+use Rattle.position.specs.Layout.{Position, positionSize, positionAt, positionsFrom}
 use Rattle.position.specs.Repeats.{equal, times, equalsTwoEarlier}
 use Rattle.position.specs.Promises.{EqualIsAlike, AlikeIsEqual, FindsTwo, TwoAreFound, PositionDetermined}
-use Rattle.position.proofs.Same.{same-refl, same-eq}
 use Rattle.position.proofs.Repeats.{there, two-found}
 
 pub equal-is-alike : EqualIsAlike

@@ -2,10 +2,8 @@
 -- bytes low first.
 -- Assumes nothing.
 use mathlib.Core.Path.{_≡_}
-use mathlib.Core.Bool.{Bool, true, false, _&&_}
 use mathlib.Core.List.{List, [], _∷_}
 use Prim.Native.Nat.{ℕ, zero, suc, _+_, _*_}
-use lib.Dec.{eqb}
 use lib.ListN.{length, getD, take, drop}
 use Rattle.board_builder.specs.BoardBuilder.{recordSize}
 use Rattle.chess_move.specs.Number.{ofBytes}
@@ -22,13 +20,6 @@ movesAt = recordSize + 2
 
 abbrev pub positionSize : ℕ
 positionSize = movesAt + 2 * longestList
-
--- the two lists are equal
-unfoldable pub same : List ℕ → List ℕ → Bool
-same [] [] = true
-same [] (b ∷ bs) = false
-same (a ∷ xs) [] = false
-same (a ∷ xs) (b ∷ bs) = eqb a b && same xs bs
 
 -- item k of a part that holds items of a size, one after the other
 abbrev pub item : ℕ → List ℕ → ℕ → List ℕ

@@ -5,7 +5,8 @@ use mathlib.Core.List.{List, [], _∷_}
 use Prim.Native.Nat.{ℕ, _+_, _*_, _-_}
 use lib.Dec.{leb}
 use lib.ListN.{length}
-use Rattle.position.specs.Layout.{Position, positionSize, same, positionAt, positionsFrom}
+use Rattle.square.specs.Numbers.{same}
+use Rattle.position.specs.Layout.{Position, positionSize, positionAt, positionsFrom}
 
 unfoldable pub equal : Position → Position → Bool
 equal p q = same (p .board) (q .board) && same (p .moves) (q .moves)

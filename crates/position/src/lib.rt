@@ -1,11 +1,12 @@
 // The positions part of a log, after game.rs: where a position lies, when two are equal, and whether the last equals two earlier ones.
 use board_builder::RECORD_SIZE;
 use move_list::LONGEST_LIST;
+use square::same_bytes;
 ghost use mathlib.Core.Path.{_≡_};
 ghost use Prim.Native.Nat.{_+_, _*_, _-_, _≤_};
 ghost use lib.Dec.{leb};
 ghost use lib.ListN.{length};
-ghost use Rattle.position.specs.Layout.{IsItem, positionSize, same, positionOf, positionAt, positionsFrom};
+ghost use Rattle.position.specs.Layout.{IsItem, positionSize, positionOf, positionAt, positionsFrom};
 ghost use Rattle.position.specs.Repeats.{equal, times, equalsTwoEarlier};
 
 // A record, the in-check byte, the list's length, and two bytes for each move that a list may have.
@@ -15,22 +16,6 @@ pub const LENGTH_AT: usize = RECORD_SIZE + 1;
 pub const MOVES_AT: usize = RECORD_SIZE + 2;
 
 pub const POSITION_SIZE: usize = MOVES_AT + 2 * LONGEST_LIST;
-
-fn same_bytes(a: &[u8], b: &[u8]) -> bool
-    ensures { λ r. ⌜ r ≡ same (now (a .entry)) (now (b .entry)) ⌝ }
-{
-    if a.len() != b.len() {
-        return false;
-    }
-    let mut i = 0;
-    while i < a.len() {
-        if a[i] != b[i] {
-            return false;
-        }
-        i += 1;
-    }
-    true
-}
 
 fn position(ps: &[u8], k: usize) -> &[u8]
     requires { ⌜ positionSize * k + positionSize ≤ length (now ps) ⌝ }

@@ -3,12 +3,12 @@
 use mathlib.Core.Path.{_≡_, refl}
 use Rattle.square.specs.Answer.{writeAnswer, writeBytes}
 use Rattle.square.specs.Ascii.{ascii}
-use Rattle.square.specs.Numbers.{allAtMost}
+use Rattle.square.specs.Numbers.{allAtMost, same, among}
 use Rattle.square.specs.Piece.{kindOf, pieceOf, letterOf}
 use Rattle.board_builder.specs.BoardBuilder.{inRange}
-use Rattle.move_list.specs.MoveList.{listInRange, listed, count, firstOf}
+use Rattle.move_list.specs.MoveList.{listInRange, count, firstOf}
 use Rattle.san_text.specs.Place.{placeFrom, squareAt}
-use Rattle.san_text.specs.Text.{sameText, promotionKind, pieceKind, isCheck, after, pieceOr, readTakes, readRank, readFile, readPiece, readEnd, readPromotion, readDest, readText}
+use Rattle.san_text.specs.Text.{promotionKind, pieceKind, isCheck, after, pieceOr, readTakes, readRank, readFile, readPiece, readEnd, readPromotion, readDest, readText}
 use Rattle.san_text.specs.Resolve.{agrees, fits, captureTest, soleThat, castlingMove, castle}
 use Rattle.san_text.specs.Form.{castled, resolved, readAnswer}
 use Rattle.san_text.specs.Name.{optional, promotionLetter, pieceLetter, changesFiles, takesOf, headOf, candidates, names, castlingName, firstName, kingFirst, nameOf, nameText, nameCheck}
@@ -16,14 +16,14 @@ use Rattle.san_text.specs.Paper.{markOf, endOf, sanText}
 use Rattle.square.specs.Square.{readSquare}
 use Rattle.castle_rights.specs.CastleRights.{lettersOf, lettersText}
 use Rattle.chess_move.specs.Coordinate.{promotionNamed, readMove}
-use Rattle.fen_text.specs.Token.{occurs, onto, joined, tokens}
+use Rattle.fen_text.specs.Token.{onto, joined, tokens}
 use Rattle.fen_text.specs.Placement.{placeByte, placeAll}
 use Rattle.fen_text.specs.Read.{sideOf, rightsOf, assembled, ofTokens, readFen}
 use Rattle.fen_text.specs.Write.{digitText, runText, slashText, ranksText, rightsText, enPassantText, tailText, fenText}
 use Rattle.rows.specs.Rows.{SixteenRows}
 
 pub sixteen-rows : SixteenRows
-unfolding writeAnswer writeBytes ascii allAtMost kindOf inRange listInRange listed count firstOf placeFrom squareAt sameText promotionKind pieceKind isCheck after pieceOr readTakes readRank readFile readPiece readEnd readPromotion readDest readText agrees fits captureTest soleThat castlingMove castle castled resolved readAnswer optional promotionLetter pieceLetter changesFiles takesOf headOf candidates names castlingName firstName kingFirst nameOf nameText nameCheck markOf endOf sanText readSquare pieceOf letterOf lettersOf lettersText occurs onto joined tokens placeByte placeAll sideOf rightsOf assembled ofTokens readFen digitText runText slashText ranksText rightsText enPassantText tailText fenText promotionNamed readMove
+unfolding writeAnswer writeBytes ascii allAtMost kindOf inRange listInRange among count firstOf placeFrom squareAt same promotionKind pieceKind isCheck after pieceOr readTakes readRank readFile readPiece readEnd readPromotion readDest readText agrees fits captureTest soleThat castlingMove castle castled resolved readAnswer optional promotionLetter pieceLetter changesFiles takesOf headOf candidates names castlingName firstName kingFirst nameOf nameText nameCheck markOf endOf sanText readSquare pieceOf letterOf lettersOf lettersText onto joined tokens placeByte placeAll sideOf rightsOf assembled ofTokens readFen digitText runText slashText ranksText rightsText enPassantText tailText fenText promotionNamed readMove
 sixteen-rows = record {
   row1 = (refl, refl);
   row2 = refl;

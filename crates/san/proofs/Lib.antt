@@ -1,4 +1,3 @@
-pub mod Texts
 pub mod Said
 pub mod Arrivals
 pub mod Counts

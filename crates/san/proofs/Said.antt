@@ -6,11 +6,12 @@ use mathlib.Core.Bool.{Bool, true, false, cond}
 use mathlib.Core.List.{List}
 use native.Mathlib.Omega.{arith}
 use lib.ListN.{getD, drop}
+use Rattle.square.specs.Numbers.{same}
 use Rattle.san_text.specs.declared.San.{San}
 use Rattle.san_text.specs.declared.SanText.{SanText}
 use Rattle.san_text.specs.declared.SanText.the-variants.{KingSide, QueenSide, Move, Refused}
 use Rattle.san_text.specs.Place.{given, filePlace, rankPlace, squareAt}
-use Rattle.san_text.specs.Text.{sameText, kingSideText, queenSideText, readEnd, readPromotion, readDest, readTakes, readRank, readFile, readPiece, readText}
+use Rattle.san_text.specs.Text.{kingSideText, queenSideText, readEnd, readPromotion, readDest, readTakes, readRank, readFile, readPiece, readText}
 use Rattle.san.specs.Fitting.{Sayable}
 use Rattle.san_text.proofs.Places.{place-most, square-most}
 
@@ -36,7 +37,7 @@ said-piece s = said-dest _ _ _ _ _ (place-most 96 _) (place-most 48 _)
 
 pub said-text : (s : List ℕ) → Sayable (readText s)
 unfolding readText
-said-text s = go (sameText s kingSideText) (sameText s queenSideText)
+said-text s = go (same s kingSideText) (same s queenSideText)
   where
     go : (p q : Bool) → Sayable (cond p KingSide (cond q QueenSide (readPiece readDest s)))
     go true q = tt

@@ -1,11 +1,12 @@
 // Reads a SAN text, left to right, one function a part. 0 is none for a kind, a place, and a byte past the end, which begins no part.
 use san_text::San;
 use san_text::SanText;
+use square::same_bytes;
 ghost use mathlib.Core.Path.{_≡_};
 ghost use Prim.Native.Nat.{_≤_};
 ghost use lib.ListN.{getD, drop};
 ghost use Rattle.san_text.specs.Place.{placeFrom, squareAt};
-ghost use Rattle.san_text.specs.Text.{sameText, promotionKind, pieceKind, isCheck, after, pieceOr, readEnd, readPromotion, readDest, readTakes, readRank, readFile, readPiece, readText};
+ghost use Rattle.san_text.specs.Text.{promotionKind, pieceKind, isCheck, after, pieceOr, readEnd, readPromotion, readDest, readTakes, readRank, readFile, readPiece, readText};
 
 fn byte_at(s: &[u8], i: usize) -> u8
     ensures { λ r. ⌜ r ≡ getD (now (s .entry)) i 0 ⌝ }
@@ -25,22 +26,6 @@ fn skip(there: bool, s: &[u8]) -> &[u8]
     ensures { λ r. ⌜ now r ≡ after there (now (s .entry)) ⌝ }
 {
     if there { rest(s, 1) } else { s }
-}
-
-fn same_text(s: &[u8], t: &[u8]) -> bool
-    ensures { λ r. ⌜ r ≡ sameText (now (s .entry)) (now (t .entry)) ⌝ }
-{
-    if s.len() != t.len() {
-        return false;
-    }
-    let mut i: usize = 0;
-    while i < s.len() {
-        if s[i] != t[i] {
-            return false;
-        }
-        i += 1;
-    }
-    true
 }
 
 // 1 to 8 for the eight bytes after `base`.
@@ -123,7 +108,7 @@ fn read_end(
         takes,
         dest: square - 1,
         promotion,
-        mark: same_text(left, b" e.p."),
+        mark: same_bytes(left, b" e.p."),
     })
 }
 
@@ -195,10 +180,10 @@ fn read_piece(s: &[u8]) -> SanText
 pub(crate) fn read_text(s: &[u8]) -> SanText
     ensures { λ r. ⌜ r ≡ readText (now (s .entry)) ⌝ }
 {
-    if same_text(s, b"O-O") {
+    if same_bytes(s, b"O-O") {
         return SanText::KingSide;
     }
-    if same_text(s, b"O-O-O") {
+    if same_bytes(s, b"O-O-O") {
         return SanText::QueenSide;
     }
     read_piece(s)

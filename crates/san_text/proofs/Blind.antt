@@ -10,8 +10,9 @@ use lib.Dec.{eqb}
 use borrow.Author.Tests.{eqb-true}
 use Rattle.square.specs.declared.Answer.{Answer}
 use Rattle.square.specs.Answer.{accepted, refused, invalidSanMove}
+use Rattle.square.specs.Numbers.{among}
 use Rattle.board_builder.specs.declared.BoardBuilder.{BoardBuilder}
-use Rattle.move_list.specs.MoveList.{listed, count, firstOf}
+use Rattle.move_list.specs.MoveList.{count, firstOf}
 use Rattle.move_list.proofs.Counting.{count-same, first-listed}
 use Rattle.san_text.specs.declared.San.{San}
 use Rattle.san_text.specs.declared.SanText.{SanText}
@@ -23,7 +24,7 @@ use Rattle.san_text.specs.Paper.{paper}
 use Rattle.san_text.specs.Promises.{Alike, SameSanAnswer}
 
 -- tests that agree on the listed entries find the same one, in whatever form
-pub sole-alike : (f f′ g g′ : ℕ → Bool) (l : List ℕ) → ((m : ℕ) → listed m l ≡ true → f m ≡ f′ m) → ((m : ℕ) → listed m l ≡ true → g m ≡ g′ m) → soleThat f g l ≡ soleThat f′ g′ l
+pub sole-alike : (f f′ g g′ : ℕ → Bool) (l : List ℕ) → ((m : ℕ) → among m l ≡ true → f m ≡ f′ m) → ((m : ℕ) → among m l ≡ true → g m ≡ g′ m) → soleThat f g l ≡ soleThat f′ g′ l
 unfolding soleThat
 sole-alike f f′ g g′ l hf hg =
     let s = count-same f f′ l hf in
@@ -39,11 +40,11 @@ sole-alike f f′ g g′ l hf hg =
     go false e = refl
 
 module _ (b c : BoardBuilder) (l : List ℕ) (a : Alike b c l) where
-  pub fits-same : (u : San) (m : ℕ) → listed m l ≡ true → fits (b .pieces) u m ≡ fits (c .pieces) u m
+  pub fits-same : (u : San) (m : ℕ) → among m l ≡ true → fits (b .pieces) u m ≡ fits (c .pieces) u m
   unfolding fits
   fits-same u m h = rw (a .kinds m h)
 
-  capture-same : (u : San) (m : ℕ) → listed m l ≡ true → captureTest (b .pieces) u m ≡ captureTest (c .pieces) u m
+  capture-same : (u : San) (m : ℕ) → among m l ≡ true → captureTest (b .pieces) u m ≡ captureTest (c .pieces) u m
   unfolding captureTest
   capture-same u m h = rw (a .empty m h)
 

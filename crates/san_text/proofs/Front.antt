@@ -7,10 +7,11 @@ use mathlib.Core.List.{List, [], _∷_, _++_, append-assoc}
 use native.Mathlib.Omega.{arith}
 use lib.Dec.{eqb}
 use borrow.Author.Tests.{ne-eqb}
+use Rattle.square.specs.Numbers.{same}
 use Rattle.chess_move.specs.Number.{sourceOf, destOf, promotionOf}
 use Rattle.san_text.specs.declared.San.{San}
 use Rattle.san_text.specs.Place.{filePlace, rankPlace, squareAt, fileByte, rankByte}
-use Rattle.san_text.specs.Text.{Dest, sameText, promotionKind, pieceKind, first, after, pieceOr, readTakes, readRank, readFile, readPiece}
+use Rattle.san_text.specs.Text.{Dest, promotionKind, pieceKind, first, after, pieceOr, readTakes, readRank, readFile, readPiece}
 use Rattle.san_text.specs.Resolve.{kindAt}
 use Rattle.san_text.specs.Name.{optional, promotionLetter, pieceLetter, takesOf, headOf}
 use Rattle.san_text.proofs.Places.{place-of-byte, square-of-places}
@@ -86,8 +87,8 @@ no-letter sq =
     )
 
 -- no name but a castling text begins with `O`
-pub no-castling : {k : ℕ} → Moves k → (sq : ℕ) (s t : List ℕ) → sameText (pieceLetter k ++ (fileByte sq ∷ s)) (79 ∷ t) ≡ false
-unfolding pieceLetter promotionLetter sameText
+pub no-castling : {k : ℕ} → Moves k → (sq : ℕ) (s t : List ℕ) → same (pieceLetter k ++ (fileByte sq ∷ s)) (79 ∷ t) ≡ false
+unfolding pieceLetter promotionLetter same
 no-castling Moves.pawn sq s t = rw (ne-eqb (fileByte sq) 79 (omega arith))
 no-castling Moves.knight sq s t = refl
 no-castling Moves.bishop sq s t = refl

@@ -11,14 +11,14 @@ use lib.Dec.{lit≤}
 use lib.ListN.{length, take, replicate}
 use Rattle.square.specs.declared.Answer.{Answer}
 use Rattle.square.specs.Answer.{accepted, writeBytes}
-use Rattle.square.specs.Numbers.{allAtMost}
+use Rattle.square.specs.Numbers.{allAtMost, same, among}
 use Rattle.square.proofs.Below.{fails, below}
 use Rattle.board_builder.specs.declared.BoardBuilder.{BoardBuilder}
 use Rattle.board_builder.specs.BoardBuilder.{inRange, emptyBoard}
 use Rattle.board_builder.specs.Steps.{withPiece}
-use Rattle.move_list.specs.MoveList.{listInRange, listed}
+use Rattle.move_list.specs.MoveList.{listInRange}
 use Rattle.san_text.specs.Place.{placeFrom, squareAt}
-use Rattle.san_text.specs.Text.{kingSideText, queenSideText, sameText, promotionKind, pieceKind, after, readTakes, readRank, readFile, readPiece, readDest, readText}
+use Rattle.san_text.specs.Text.{kingSideText, queenSideText, promotionKind, pieceKind, after, readTakes, readRank, readFile, readPiece, readDest, readText}
 use Rattle.square.specs.Piece.{kindOf}
 use Rattle.san_text.specs.Resolve.{castlingMove, castle}
 use Rattle.san_text.specs.Form.{castled, resolved, readAnswer}
@@ -46,19 +46,19 @@ room-long : 11 ≤ length room
 room-long = lit≤ tt
 
 short-ready : Ready king both short
-unfolding inRange allAtMost listInRange listed
+unfolding inRange allAtMost listInRange among
 short-ready = record { record-in-range = refl; list-in-range = refl; move-listed = refl }
 
 long-ready : Ready king both long
-unfolding inRange allAtMost listInRange listed
+unfolding inRange allAtMost listInRange among
 long-ready = record { record-in-range = refl; list-in-range = refl; move-listed = refl }
 
 short-reads : fromSan king both kingSideText ≡ accepted short
-unfolding readAnswer inRange allAtMost listInRange listed resolved castled castle castlingMove readText sameText
+unfolding readAnswer inRange allAtMost listInRange among resolved castled castle castlingMove readText same
 short-reads = refl
 
 long-reads : fromSan king both queenSideText ≡ accepted long
-unfolding readAnswer inRange allAtMost listInRange listed resolved castled castle castlingMove readText sameText
+unfolding readAnswer inRange allAtMost listInRange among resolved castled castle castlingMove readText same
 long-reads = refl
 
 -- so a namer that keeps demand 3 names both
@@ -82,7 +82,7 @@ refusing-namer-fails w refuses keeps = refuses king both short (length room) (na
 
 -- no front of the room as it was reads as the move
 silent : (n : ℕ) → n < 12 → isMove (fromSan king both (take n room)) short ≡ false
-unfolding readAnswer inRange allAtMost listInRange listed resolved castled castle castlingMove readText sameText readPiece readFile readRank readTakes readDest pieceKind promotionKind placeFrom squareAt after
+unfolding readAnswer inRange allAtMost listInRange among resolved castled castle castlingMove readText same readPiece readFile readRank readTakes readDest pieceKind promotionKind placeFrom squareAt after
 silent n h = fails _ (below (λ (k : ℕ). not (isMove (fromSan king both (take k room)) short)) 12 tt n h)
 
 lt-suc : {n : ℕ} → n ≤ 11 → n < 12
@@ -103,7 +103,7 @@ silent-namer-fails w writes-nothing keeps =
 
 -- no one length does for both names
 invented : (n : ℕ) → n < 12 → isMove (fromSan king both (take n (nameBytes king both short room))) short && isMove (fromSan king both (take n (nameBytes king both long room))) long ≡ false
-unfolding readAnswer inRange allAtMost listInRange listed resolved castled castle castlingMove readText sameText readPiece readFile readRank readTakes readDest pieceKind promotionKind placeFrom squareAt after writeBytes nameCheck nameText nameOf kingFirst castlingName kindOf
+unfolding readAnswer inRange allAtMost listInRange among resolved castled castle castlingMove readText same readPiece readFile readRank readTakes readDest pieceKind promotionKind placeFrom squareAt after writeBytes nameCheck nameText nameOf kingFirst castlingName kindOf
 invented n h =
     fails _
     (below (λ (k : ℕ). not (isMove (fromSan king both (take k (nameBytes king both short room))) short && isMove (fromSan king both (take k (nameBytes king both long room))) long)) 12 tt n h)

@@ -10,10 +10,10 @@ use native.Mathlib.Omega.{arith}
 use lib.Dec.{eqb}
 use borrow.Author.Tests.{eq-eqb, eqb-true}
 use Rattle.square.specs.Answer.{accepted, refused, invalidSanMove}
+use Rattle.square.specs.Numbers.{among}
 use Rattle.board_builder.specs.declared.BoardBuilder.{BoardBuilder}
 use Rattle.chess_move.specs.Number.{sourceOf}
 use Rattle.chess_move.proofs.Numbers.{source-of-number}
-use Rattle.move_list.specs.MoveList.{listed}
 use Rattle.san_text.specs.declared.San.{San}
 use Rattle.san_text.specs.declared.SanText.{SanText}
 use Rattle.san_text.specs.declared.SanText.the-variants.{KingSide, QueenSide, Move, Refused}
@@ -82,7 +82,7 @@ pair-source side m h (inr e) = ap sourceOf (sym e) ∙ castling-source side 2 h 
 
 -- ---- over a lawful form
 
-module _ (F : Form) (law : Lawful F) (b : BoardBuilder) (l : List ℕ) (m : ℕ) (low : b .«side_to_move» ≤ 1) (h : listed m l ≡ true) where
+module _ (F : Form) (law : Lawful F) (b : BoardBuilder) (l : List ℕ) (m : ℕ) (low : b .«side_to_move» ≤ 1) (h : among m l ≡ true) where
   -- the text resolves to the move
   abbrev pub Resolves : List ℕ → Type 0
   Resolves t = resolved F b l (F .read t) ≡ accepted m

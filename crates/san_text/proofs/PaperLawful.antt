@@ -6,10 +6,11 @@ use mathlib.Core.Bool.{Bool, true, false, cond, not, _&&_, _||_}
 use mathlib.Core.List.{List, [], _∷_, _++_}
 use native.Mathlib.Omega.{arith}
 use lib.ListN.{getD, drop}
+use Rattle.square.specs.Numbers.{same}
 use Rattle.chess_move.specs.Number.{sourceOf, destOf, promotionOf}
 use Rattle.san_text.specs.declared.SanText.the-variants.{Move}
 use Rattle.san_text.specs.Place.{given, filePlace, rankPlace, squareAt, fileByte, rankByte}
-use Rattle.san_text.specs.Text.{kingSideText, queenSideText, markText, sameText, promotionKind, isCheck, first, after, pieceOr, readEnd, readPromotion, readDest, readText}
+use Rattle.san_text.specs.Text.{kingSideText, queenSideText, markText, promotionKind, isCheck, first, after, pieceOr, readEnd, readPromotion, readDest, readText}
 use Rattle.san_text.specs.Resolve.{kindAt, emptyAt, captureTest}
 use Rattle.san_text.specs.Name.{optional, promotionLetter, changesFiles, takesOf}
 use Rattle.san_text.specs.Paper.{markOf, endOf, sanText, paper}
@@ -32,7 +33,7 @@ say-dest k f r x s h =
 
 says : (s : List ℕ) → Says (readText s)
 unfolding readText
-says s = says-cond (sameText s kingSideText) Says.king-side (says-cond (sameText s queenSideText) Says.queen-side (says-piece readDest say-dest s))
+says s = says-cond (same s kingSideText) Says.king-side (says-cond (same s queenSideText) Says.queen-side (says-piece readDest say-dest s))
 
 -- ---- the text with both source parts
 
@@ -42,7 +43,7 @@ read-dest k f r x sq s h = rw (square-back sq h, there sq)
 
 read-tail : (k f r : ℕ) (x : Bool) (sq : ℕ) {p : ℕ} → Promotes p → (mark : Bool) → readPromotion k f r x (sq + 1) (promotionLetter p ++ optional mark markText)
     ≡ Move (record { piece = pieceOr k; file = f; rank = r; takes = x; dest = sq; promotion = p; mark = mark })
-unfolding readPromotion readEnd promotionLetter promotionKind isCheck after sameText optional
+unfolding readPromotion readEnd promotionLetter promotionKind isCheck after same optional
 read-tail k f r x sq Promotes.nothing true = rw (less sq)
 read-tail k f r x sq Promotes.nothing false = rw (less sq)
 read-tail k f r x sq Promotes.knight true = rw (less sq)
@@ -82,7 +83,7 @@ both-captures pieces m = go (emptyAt pieces (destOf m)) (changesFiles pieces m)
     go false false = refl
 
 pub paper-lawful : Lawful paper
-unfolding readText sameText
+unfolding readText same
 paper-lawful = record {
   says = says;
   both = λ pieces m k p. record { takes = takesOf pieces m; mark = markOf pieces m; reads = read-both pieces m k p; passes = both-captures pieces m };

@@ -10,9 +10,10 @@ use lib.Dec.{eqb, leb}
 use lib.ListN.{length}
 use borrow.Author.Tests.{eqb-true, leb-false, le-leb}
 use Rattle.square.specs.Answer.{accepted, outOfRange, badList, notListed, outputTooShort, writeAnswer}
+use Rattle.square.specs.Numbers.{among}
 use Rattle.board_builder.specs.declared.BoardBuilder.{BoardBuilder}
 use Rattle.board_builder.specs.BoardBuilder.{inRange}
-use Rattle.move_list.specs.MoveList.{listInRange, listed}
+use Rattle.move_list.specs.MoveList.{listInRange}
 use Rattle.san_text.specs.Form.{Form}
 use Rattle.san_text.specs.Name.{noneIs8, nameOf, nameText, nameCheck}
 use Rattle.san_text.specs.Paper.{paper}
@@ -21,7 +22,7 @@ use Rattle.san_text.specs.Promises.{SevenIsTrue}
 -- the checks before 7 never give 7
 pub check-not-seven : (F : Form) (b : BoardBuilder) (l : List ℕ) (m : ℕ) → nameCheck F b l m ≡ outputTooShort → ⊥
 unfolding nameCheck
-check-not-seven F b l m e = go (inRange b) (listInRange l) (listed m l) (nameOf F b l m) e
+check-not-seven F b l m e = go (inRange b) (listInRange l) (among m l) (nameOf F b l m) e
   where
     go : (p q r : Bool) (o : Option (List ℕ)) → cond p (cond q (cond r (noneIs8 o) notListed) badList) outOfRange ≡ outputTooShort → ⊥
     go true true true none z = omega arith

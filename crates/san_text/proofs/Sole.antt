@@ -9,10 +9,11 @@ use lib.Dec.{eqb}
 use borrow.Author.Tests.{eq-eqb, ne-eqb, eqb-true}
 use Rattle.square.specs.declared.Answer.{Answer}
 use Rattle.square.specs.Answer.{accepted, refused, invalidSanMove}
+use Rattle.square.specs.Numbers.{among}
 use Rattle.square.proofs.Numbers.{both-left, both-right}
 use Rattle.chess_move.specs.Number.{sourceOf, destOf, promotionOf}
 use Rattle.chess_move.proofs.Numbers.{same-number, same-square}
-use Rattle.move_list.specs.MoveList.{listed, count, firstOf}
+use Rattle.move_list.specs.MoveList.{count, firstOf}
 use Rattle.move_list.proofs.Counting.{first-passes, sole}
 use Rattle.san_text.specs.declared.San.{San}
 use Rattle.san_text.specs.Resolve.{kindAt, agrees, fits, soleThat, castlingMove, castle}
@@ -41,7 +42,7 @@ is-move m = eq-eqb m m refl
 
 pub castle-is : (side : ℕ) (l : List ℕ) (file m : ℕ) → castle side l file ≡ accepted m → castlingMove side file ≡ m
 unfolding castle
-castle-is side l file m e = go (listed (castlingMove side file) l) e
+castle-is side l file m e = go (among (castlingMove side file) l) e
   where
     go : (b : Bool) → cond b (accepted (castlingMove side file)) (refused invalidSanMove) ≡ accepted m → castlingMove side file ≡ m
     go true p = accepted-is p
@@ -128,7 +129,7 @@ module _ (pieces : List ℕ) (m : ℕ) (takes mark : Bool) where
       part e = omega arith
 
   -- whatever text fits the move alone, the text with both source parts does, if it passes the form's test
-  pub both-sole : (l : List ℕ) (u : San) (g g′ : ℕ → Bool) → listed m l ≡ true → g′ m ≡ true → soleThat (fits pieces u) g l ≡ accepted m → soleThat (fits pieces (bothWith pieces m takes mark)) g′ l ≡ accepted m
+  pub both-sole : (l : List ℕ) (u : San) (g g′ : ℕ → Bool) → among m l ≡ true → g′ m ≡ true → soleThat (fits pieces u) g l ≡ accepted m → soleThat (fits pieces (bothWith pieces m takes mark)) g′ l ≡ accepted m
   unfolding soleThat
   both-sole l u g g′ h c e =
       let f = fits pieces (bothWith pieces m takes mark) in

@@ -8,10 +8,11 @@ use mathlib.Core.Option.{Option, none, some}
 use lib.Dec.{eqb}
 use Rattle.square.specs.declared.Answer.{Answer}
 use Rattle.square.specs.Answer.{outOfRange, badList, notListed, noName}
+use Rattle.square.specs.Numbers.{among}
 use Rattle.board_builder.specs.declared.BoardBuilder.{BoardBuilder}
 use Rattle.board_builder.specs.BoardBuilder.{inRange}
 use Rattle.chess_move.specs.Number.{sourceOf, destOf}
-use Rattle.move_list.specs.MoveList.{listInRange, listed}
+use Rattle.move_list.specs.MoveList.{listInRange}
 use Rattle.san_text.specs.Place.{fileByte, rankByte}
 use Rattle.san_text.specs.Text.{kingSideText, queenSideText}
 use Rattle.san_text.specs.Resolve.{kindAt, emptyAt, castlingMove}
@@ -94,4 +95,4 @@ nameText F b moves m = textOr (nameOf F b moves m)
 
 unfoldable pub nameCheck : Form → BoardBuilder → List ℕ → ℕ → ℕ
 nameCheck F b moves m =
-    cond (inRange b) (cond (listInRange moves) (cond (listed m moves) (noneIs8 (nameOf F b moves m)) notListed) badList) outOfRange
+    cond (inRange b) (cond (listInRange moves) (cond (among m moves) (noneIs8 (nameOf F b moves m)) notListed) badList) outOfRange

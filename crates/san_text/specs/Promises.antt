@@ -9,10 +9,11 @@ use lib.ListN.{length, take}
 use Rattle.square.specs.declared.Answer.{Answer}
 use Rattle.square.specs.Answer.{accepted, noName, outputTooShort}
 use Rattle.square.specs.Determined.{Determined, Is}
+use Rattle.square.specs.Numbers.{among}
 use Rattle.board_builder.specs.declared.BoardBuilder.{BoardBuilder}
 use Rattle.board_builder.specs.BoardBuilder.{inRange}
 use Rattle.chess_move.specs.Number.{sourceOf, destOf}
-use Rattle.move_list.specs.MoveList.{listInRange, listed}
+use Rattle.move_list.specs.MoveList.{listInRange}
 use Rattle.san_text.specs.Resolve.{kindAt, emptyAt}
 use Rattle.san_text.specs.Paper.{fromSan, nameAnswer, nameBytes}
 
@@ -33,7 +34,7 @@ namer = record { answer = nameAnswer; room = nameBytes }
 pub record Ready (b : BoardBuilder) (moves : List ℕ) (m : ℕ) : Type 0 where
   pub record-in-range : inRange b ≡ true
   pub list-in-range : listInRange moves ≡ true
-  pub move-listed : listed m moves ≡ true
+  pub move-listed : among m moves ≡ true
 
 -- a name: its length is the answer's value, 2 to 11, and that many bytes at the front of the room are a text that the reader answers with 0 and
 -- exactly that move
@@ -84,8 +85,8 @@ SevenIsTrue = (b : BoardBuilder) (moves : List ℕ) (m room : ℕ) → nameAnswe
 -- two records that agree on the side, on piece kinds at listed sources and on emptiness of listed destinations
 pub record Alike (b c : BoardBuilder) (moves : List ℕ) : Type 0 where
   pub side : b .«side_to_move» ≡ c .«side_to_move»
-  pub kinds : (m : ℕ) → listed m moves ≡ true → kindAt (b .pieces) (sourceOf m) ≡ kindAt (c .pieces) (sourceOf m)
-  pub empty : (m : ℕ) → listed m moves ≡ true → emptyAt (b .pieces) (destOf m) ≡ emptyAt (c .pieces) (destOf m)
+  pub kinds : (m : ℕ) → among m moves ≡ true → kindAt (b .pieces) (sourceOf m) ≡ kindAt (c .pieces) (sourceOf m)
+  pub empty : (m : ℕ) → among m moves ≡ true → emptyAt (b .pieces) (destOf m) ≡ emptyAt (c .pieces) (destOf m)
 
 -- with one text and one list, two such records in range get the same SAN answer, however rights and en passant differ
 abbrev pub SameSanAnswer : Type 0

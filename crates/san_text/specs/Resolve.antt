@@ -8,8 +8,9 @@ use lib.ListN.{getD}
 use Rattle.square.specs.declared.Answer.{Answer}
 use Rattle.square.specs.Answer.{accepted, refused, invalidSanMove}
 use Rattle.square.specs.Piece.{kindOf}
+use Rattle.square.specs.Numbers.{among}
 use Rattle.chess_move.specs.Number.{sourceOf, destOf, promotionOf, numberOf}
-use Rattle.move_list.specs.MoveList.{listed, count, firstOf}
+use Rattle.move_list.specs.MoveList.{count, firstOf}
 use Rattle.san_text.specs.declared.San.{San}
 
 -- the kind of man on a square, and whether none is there
@@ -44,4 +45,4 @@ castlingMove side file = numberOf (56 * side + 4) (56 * side + file) 0
 
 -- .. if listed
 unfoldable pub castle : ℕ → List ℕ → ℕ → Answer
-castle side moves file = cond (listed (castlingMove side file) moves) (accepted (castlingMove side file)) (refused invalidSanMove)
+castle side moves file = cond (among (castlingMove side file) moves) (accepted (castlingMove side file)) (refused invalidSanMove)

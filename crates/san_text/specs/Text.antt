@@ -3,10 +3,11 @@
 -- end, which begins no part.
 -- Assumes nothing.
 use Prim.Native.Nat.{ℕ, _-_}
-use mathlib.Core.Bool.{Bool, true, false, cond, _&&_, _||_}
+use mathlib.Core.Bool.{Bool, true, false, cond, _||_}
 use mathlib.Core.List.{List, [], _∷_}
 use lib.Dec.{eqb}
 use lib.ListN.{getD, drop}
+use Rattle.square.specs.Numbers.{same}
 use Rattle.san_text.specs.declared.SanText.{SanText}
 use Rattle.san_text.specs.declared.SanText.the-variants.{KingSide, QueenSide, Move, Refused}
 use Rattle.san_text.specs.Place.{given, filePlace, rankPlace, squareAt}
@@ -20,12 +21,6 @@ queenSideText = 79 ∷ 45 ∷ 79 ∷ 45 ∷ 79 ∷ []
 
 abbrev pub markText : List ℕ
 markText = 32 ∷ 101 ∷ 46 ∷ 112 ∷ 46 ∷ []
-
-unfoldable pub sameText : List ℕ → List ℕ → Bool
-sameText [] [] = true
-sameText [] (y ∷ ys) = false
-sameText (x ∷ xs) [] = false
-sameText (x ∷ xs) (y ∷ ys) = eqb x y && sameText xs ys
 
 -- N B R Q
 unfoldable pub promotionKind : ℕ → ℕ
@@ -82,7 +77,7 @@ readEnd kind file rank takes square promotion s =
       takes = takes;
       dest = square - 1;
       promotion = promotion;
-      mark = sameText (after (isCheck (first s)) s) markText;
+      mark = same (after (isCheck (first s)) s) markText;
     })
 
 unfoldable pub readPromotion : ℕ → ℕ → ℕ → Bool → ℕ → List ℕ → SanText
@@ -98,4 +93,4 @@ readDest kind file rank takes s =
     (cond (given (squareAt file rank)) (readPromotion kind 0 0 takes (squareAt file rank) s) Refused)
 
 unfoldable pub readText : List ℕ → SanText
-readText s = cond (sameText s kingSideText) KingSide (cond (sameText s queenSideText) QueenSide (readPiece readDest s))
+readText s = cond (same s kingSideText) KingSide (cond (same s queenSideText) QueenSide (readPiece readDest s))

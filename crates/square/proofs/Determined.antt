@@ -14,6 +14,7 @@ square-determined = record {
   refused-is = λ n. determined;
   write-text = λ text room. determined;
   write-text-bytes = λ text out. determined;
+  same-bytes = λ a b. determined;
   make-square = λ rank file. determined;
   get-rank = λ square. determined;
   get-file = λ square. determined;

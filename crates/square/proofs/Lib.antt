@@ -4,5 +4,6 @@ pub mod Entries
 pub mod Maxima
 pub mod Numbers
 pub mod Pushes
+pub mod Same
 pub mod Squares
 pub mod Writes

@@ -1,9 +1,9 @@
--- Lists of numbers with a bound.
+-- Lists of numbers: a bound, equality, and what is in them.
 -- Assumes nothing.
 use Prim.Native.Nat.{ℕ, max}
-use mathlib.Core.Bool.{Bool, true, _&&_}
+use mathlib.Core.Bool.{Bool, true, false, _&&_, _||_}
 use mathlib.Core.List.{List, [], _∷_}
-use lib.Dec.{leb}
+use lib.Dec.{eqb, leb}
 
 -- each number of the list is at most n
 unfoldable pub allAtMost : ℕ → List ℕ → Bool
@@ -14,3 +14,15 @@ allAtMost n (x ∷ xs) = leb x n && allAtMost n xs
 unfoldable pub largest : List ℕ → ℕ
 largest [] = 0
 largest (x ∷ xs) = max x (largest xs)
+
+-- the two lists are equal
+unfoldable pub same : List ℕ → List ℕ → Bool
+same [] [] = true
+same [] (y ∷ ys) = false
+same (x ∷ xs) [] = false
+same (x ∷ xs) (y ∷ ys) = eqb x y && same xs ys
+
+-- the number is in the list
+unfoldable pub among : ℕ → List ℕ → Bool
+among n [] = false
+among n (x ∷ xs) = eqb x n || among n xs

@@ -4,6 +4,7 @@ use Prim.Native.Nat.{ℕ, _<_}
 use mathlib.Core.Path.{_≡_}
 use mathlib.Core.List.{List}
 use lib.ListN.{length, take, drop}
+use Rattle.square.specs.Numbers.{same}
 use Rattle.square.specs.Answer.{accepted, refused, writeAnswer, writeBytes}
 use Rattle.square.specs.Square.{makeSquare, rankOf, fileOf, backRank, squareNamed, readSquare, squareText, squareCheck}
 use Rattle.square.specs.Piece.{pieceOf, letterOf, kindOf}
@@ -33,6 +34,7 @@ pub record SquareDetermined : Type 0 where
   pub refused-is : (n : ℕ) → Determined (Is (refused n))
   pub write-text : (text : List ℕ) (room : ℕ) → Determined (Is (writeAnswer 0 text room))
   pub write-text-bytes : (text out : List ℕ) → Determined (Is (writeBytes 0 text out))
+  pub same-bytes : (a b : List ℕ) → Determined (Is (same a b))
   pub make-square : (rank file : ℕ) → Determined (Is (makeSquare rank file))
   pub get-rank : (square : ℕ) → Determined (Is (rankOf square))
   pub get-file : (square : ℕ) → Determined (Is (fileOf square))

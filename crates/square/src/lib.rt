@@ -1,7 +1,9 @@
-// Answers, squares, colours and pieces as document 01 numbers them, after square.rs, rank.rs, file.rs, color.rs and piece.rs.
+// Answers, squares, colours and pieces as document 01 numbers them, after square.rs, rank.rs, file.rs, color.rs and piece.rs. And texts, written and
+// compared, for the crates above.
 ghost use mathlib.Core.Path.{_≡_};
 ghost use lib.ListN.{length};
 ghost use Rattle.square.specs.Answer.{accepted, refused, writeAnswer, writeBytes};
+ghost use Rattle.square.specs.Numbers.{same};
 ghost use Rattle.square.specs.Square.{makeSquare, rankOf, fileOf, backRank, squareNamed, readSquare, squareText, squareCheck};
 ghost use Rattle.square.specs.Piece.{pieceOf, letterOf, kindOf};
 
@@ -71,6 +73,22 @@ pub fn write_text(text: &[u8], out: &mut [u8]) -> Answer
         i += 1;
     }
     accepted(needed as u64)
+}
+
+pub fn same_bytes(a: &[u8], b: &[u8]) -> bool
+    ensures { λ r. ⌜ r ≡ same (now (a .entry)) (now (b .entry)) ⌝ }
+{
+    if a.len() != b.len() {
+        return false;
+    }
+    let mut i: usize = 0;
+    while i < a.len() {
+        if a[i] != b[i] {
+            return false;
+        }
+        i += 1;
+    }
+    true
 }
 
 pub fn make_square(rank: u8, file: u8) -> Answer

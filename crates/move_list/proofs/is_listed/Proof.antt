@@ -3,13 +3,13 @@ use mathlib.Core.Path.{_≡_, _∙_, sym, refl}
 use native.Mathlib.Omega.{arith}
 use Prim.Native.Nat.{_-_, _≤_, zero-le}
 use lib.ListN.{length, drop}
-use Rattle.move_list.specs.MoveList.{listed}
+use Rattle.square.specs.Numbers.{among}
 use Rattle.move_list.proofs.Listed.{listed-turn, listed-stop, listed-end}
 use Rattle.move_list.proofs.is_listed.Statement.{statement}
 use Rattle.move_list.proofs.is_listed.Tie as tie
 
 abbrev Inv-loop : tie.InvT-loop
-Inv-loop moves m i₀ i = (i ≤ length moves) × (listed m moves ≡ listed m (drop i moves))
+Inv-loop moves m i₀ i = (i ≤ length moves) × (among m moves ≡ among m (drop i moves))
 
 abbrev μ-loop : tie.MeasureT-loop
 μ-loop moves m i₀ i = length moves - i

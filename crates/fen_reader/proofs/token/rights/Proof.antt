@@ -5,7 +5,7 @@ use mathlib.Core.Bool.{cond}
 use Prim.Native.Nat.{_-_, _≤_, zero-le}
 use lib.Dec.{eqb}
 use lib.ListN.{length, drop, getD}
-use Rattle.fen_text.specs.Token.{occurs}
+use Rattle.square.specs.Numbers.{among}
 use Rattle.fen_reader.proofs.Seen.{seen-step, one-at-most, rights-of, both-sides}
 use Rattle.fen_reader.proofs.Seen.{seen-step, one-at-most, rights-of, both-sides}
 use Rattle.fen_reader.proofs.token.rights.Statement.{statement}
@@ -14,10 +14,10 @@ use Rattle.fen_reader.proofs.token.rights.Tie as tie
 abbrev Inv-loop : tie.InvT-loop
 Inv-loop token white-king₀ white-queen₀ black-king₀ black-queen₀ i₀ white-king white-queen black-king black-queen i =
     (i ≤ length token) × (white-king ≤ 1) × (white-queen ≤ 1) × (black-king ≤ 1) × (black-queen ≤ 1)
-    × (cond (occurs 75 token) 1 0 ≡ cond (occurs 75 (drop i token)) 1 white-king)
-    × (cond (occurs 81 token) 1 0 ≡ cond (occurs 81 (drop i token)) 1 white-queen)
-    × (cond (occurs 107 token) 1 0 ≡ cond (occurs 107 (drop i token)) 1 black-king)
-    × (cond (occurs 113 token) 1 0 ≡ cond (occurs 113 (drop i token)) 1 black-queen)
+    × (cond (among 75 token) 1 0 ≡ cond (among 75 (drop i token)) 1 white-king)
+    × (cond (among 81 token) 1 0 ≡ cond (among 81 (drop i token)) 1 white-queen)
+    × (cond (among 107 token) 1 0 ≡ cond (among 107 (drop i token)) 1 black-king)
+    × (cond (among 113 token) 1 0 ≡ cond (among 113 (drop i token)) 1 black-queen)
 
 abbrev μ-loop : tie.MeasureT-loop
 μ-loop token white-king₀ white-queen₀ black-king₀ black-queen₀ i₀ white-king white-queen black-king black-queen i = length token - i

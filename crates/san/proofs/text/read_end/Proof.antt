@@ -18,11 +18,11 @@ piece-or-requires c κs = search needs
 sub-t12 : tie.Need-sub-t12
 sub-t12 c = search needs
 
-slice-aggregate-same-text : tie.Need-slice-aggregate-same-text
-slice-aggregate-same-text c = search needs
+slice-aggregate-same-bytes : tie.Need-slice-aggregate-same-bytes
+slice-aggregate-same-bytes c = search needs
 
-same-text-requires : tie.Need-same-text-requires
-same-text-requires c κs = search needs
+same-bytes-requires : tie.Need-same-bytes-requires
+same-bytes-requires c κs = search needs
 
 returns : tie.Need-returns
 unfolding readEnd
@@ -37,6 +37,6 @@ read-end-spec =
     skip-requires
     piece-or-requires
     sub-t12
-    slice-aggregate-same-text
-    same-text-requires
+    slice-aggregate-same-bytes
+    same-bytes-requires
     returns)

@@ -1,19 +1,19 @@
--- The loop: the two texts are the same exactly if what is left of them from place i on is; i is at most their common length.
+-- The loop: the two lists are the same exactly if what is left of them from place i on is; i is at most their common length.
 use mathlib.Core.Path.{_≡_, refl, sym, _∙_}
-use Rattle.san_text.specs.Text.{sameText}
+use Rattle.square.specs.Numbers.{same}
 use borrow.Author.Needs.{needs}
 use native.Mathlib.Omega.{arith}
 use Prim.Native.Nat.{_-_, _≤_, zero-le}
 use lib.ListN.{length, drop}
-use Rattle.san.proofs.Texts.{same-lengths, same-turn, same-stop, same-end}
-use Rattle.san.proofs.text.same_text.Statement.{statement}
-use Rattle.san.proofs.text.same_text.Tie as tie
+use Rattle.square.proofs.Same.{same-lengths, same-turn, same-stop, same-end}
+use Rattle.square.proofs.same_bytes.Statement.{statement}
+use Rattle.square.proofs.same_bytes.Tie as tie
 
 abbrev Inv-loop : tie.InvT-loop
-Inv-loop s t i₀ i = (i ≤ length s) × (sameText s t ≡ sameText (drop i s) (drop i t))
+Inv-loop a b i₀ i = (i ≤ length a) × (same a b ≡ same (drop i a) (drop i b))
 
 abbrev μ-loop : tie.MeasureT-loop
-μ-loop s t i₀ i = length s - i
+μ-loop a b i₀ i = length a - i
 
 returns : tie.Need-returns Inv-loop μ-loop
 returns c = sym (same-lengths _ _ (c .if1 .taken))
@@ -30,8 +30,8 @@ shared-slice-read-if2-2 c = search needs
 returns-2 : tie.Need-returns-2 Inv-loop μ-loop
 returns-2 c =
     let l = c .before .before .before .before .loop in
-    let a = c .before .before .before .before .before .before .args in
-    sym (l .inv .1 ∙ same-stop (a .s .now) (a .t .now) (l .i) (omega arith) (omega arith) (c .if2 .taken))
+    let args = c .before .before .before .before .before .before .args in
+    sym (l .inv .1 ∙ same-stop (args .a .now) (args .b .now) (l .i) (omega arith) (omega arith) (c .if2 .taken))
 
 add-i : tie.Need-add-i Inv-loop μ-loop
 add-i c = search needs
@@ -42,17 +42,17 @@ loop-less c = search needs
 loop-again : tie.Need-loop-again Inv-loop μ-loop
 loop-again c =
     let l = c .before .before .before .before .loop in
-    let a = c .before .before .before .before .before .before .args in
-    (omega arith, l .inv .1 ∙ same-turn (a .s .now) (a .t .now) (l .i) (omega arith) (omega arith) (c .if2 .left))
+    let args = c .before .before .before .before .before .before .args in
+    (omega arith, l .inv .1 ∙ same-turn (args .a .now) (args .b .now) (l .i) (omega arith) (omega arith) (c .if2 .left))
 
 returns-3 : tie.Need-returns-3 Inv-loop μ-loop
 returns-3 c =
     let l = c .before .loop in
-    let a = c .before .before .before .args in
-    sym (l .inv .1 ∙ same-end (a .s .now) (a .t .now) (l .i) (omega arith) (omega arith))
+    let args = c .before .before .before .args in
+    sym (l .inv .1 ∙ same-end (args .a .now) (args .b .now) (l .i) (omega arith) (omega arith))
 
-pub same-text-spec : {M : Type 1} → statement M
-same-text-spec =
+pub same-bytes-spec : {M : Type 1} → statement M
+same-bytes-spec =
     tie.close
     (tie.spec
     Inv-loop
