@@ -1,16 +1,18 @@
 -- Laws of the parts behind the placement, by the bytes that the code pushes: the rights' letters, the en passant square; and how long they
 -- are.
 -- Assumes nothing.
-use mathlib.Core.Path.{_≡_, refl, sym, ap, ap₂, _∙_}
-use mathlib.Core.Bool.{Bool, true, false, cond, _&&_}
+use mathlib.Core.Path.{_≡_, sym, ap, _∙_}
+use mathlib.Core.Bool.{Bool, true, cond}
 use mathlib.Core.List.{List, [], _∷_, _++_}
 use Prim.Native.Nat.{ℕ, zero, suc, _+_, _-_, _/_, _%_, _≤_, _<_}
 use native.Mathlib.Omega.{arith}
-use lib.Dec.{T, eqb, eqb→eq, eqb·suc-zero, lit<, lit≤}
+use lib.Dec.{eqb, eqb·suc-zero, lit<, lit≤}
 use lib.ListN.{length}
 use borrow.Author.Tests.{eq-eqb, ne-eqb}
+use Rattle.square.specs.Numbers.{same}
 use Rattle.square.specs.Square.{squareText, squareOf}
-use Rattle.square.proofs.Below.{belows, both-left, both-right}
+use Rattle.square.proofs.Below.{belows, holds}
+use Rattle.square.proofs.Same.{same-eq}
 use Rattle.castle_rights.specs.CastleRights.{lettersOf, lettersText}
 use Rattle.fen_text.specs.Write.{rightsText, enPassantText}
 use Rattle.board_builder.specs.declared.BoardBuilder.{BoardBuilder}
@@ -20,20 +22,6 @@ use Rattle.fen_text.proofs.Cases.{cond-both}
 use Rattle.fen_text.proofs.Lengths.{rights-long, en-passant-long}
 use Rattle.square.specs.Pushed.{Put}
 use Rattle.square.proofs.Pushes.{put-both, put-as}
-
--- two texts are the same, by a test that computes
-abbrev same : List ℕ → List ℕ → Bool
-same [] [] = true
-same [] (y ∷ ys) = false
-same (x ∷ xs) [] = false
-same (x ∷ xs) (y ∷ ys) = eqb x y && same xs ys
-
-same-text : (s t : List ℕ) → T (same s t) → s ≡ t
-same-text [] [] h = refl
-same-text [] (y ∷ ys) h = absurd h
-same-text (x ∷ xs) [] h = absurd h
-same-text (x ∷ xs) (y ∷ ys) h =
-    ap₂ (λ (z : ℕ) (zs : List ℕ). z ∷ zs) (eqb→eq x y (both-left (eqb x y) (same xs ys) h)) (same-text xs ys (both-right (eqb x y) (same xs ys) h))
 
 -- one letter where its test holds
 abbrev pub letterIf : Bool → ℕ → List ℕ
@@ -51,9 +39,9 @@ fourText w b = letterIf (eqb (w % 2) 1) 75 ++ (letterIf (eqb (w / 2) 1) 81 ++ (l
 
 -- sixteen pairs, each computed
 rights-are : (w b : ℕ) → w < 4 → b < 4 → fourText w b ++ letterIf (eqb (length (fourText w b)) 0) 45 ≡ rightsText w b
-unfolding rightsText lettersText lettersOf
+unfolding rightsText lettersText lettersOf same
 rights-are w b h k =
-    same-text _ _ (belows (λ (w b : ℕ). same (fourText w b ++ letterIf (eqb (length (fourText w b)) 0) 45) (rightsText w b)) 4 4 tt w b h k)
+    same-eq _ _ (holds _ (belows (λ (w b : ℕ). same (fourText w b ++ letterIf (eqb (length (fourText w b)) 0) 45) (rightsText w b)) 4 4 tt w b h k))
 
 added : (n m : ℕ) → eqb (n + m) n ≡ eqb m 0
 added n zero = eq-eqb (n + 0) n (omega arith)
@@ -73,8 +61,9 @@ rights-put {at = at} {d = d} white black h k p q s t u =
 
 -- the square's bytes for each file, computed
 file-text : (rank file : ℕ) → rank < 8 → file < 8 → squareText (squareOf rank file) ≡ (97 + file) ∷ (49 + rank) ∷ []
+unfolding same
 file-text rank file h k =
-    same-text _ _ (belows (λ (r f : ℕ). same (squareText (squareOf r f)) ((97 + f) ∷ (49 + r) ∷ [])) 8 8 tt rank file h k)
+    same-eq _ _ (holds _ (belows (λ (r f : ℕ). same (squareText (squareOf r f)) ((97 + f) ∷ (49 + r) ∷ [])) 8 8 tt rank file h k))
 
 pub no-file : (side file : ℕ) → file ≡ 0 → 45 ∷ [] ≡ enPassantText side file
 unfolding enPassantText

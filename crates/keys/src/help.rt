@@ -1,27 +1,14 @@
 // What `-h` and `--help` say.
 use libc::STDOUT_FILENO;
-
-fn same(a: &[u8], b: &[u8]) -> bool {
-    if a.len() != b.len() {
-        return false;
-    }
-    let mut i: usize = 0;
-    while i < a.len() {
-        if a[i] != b[i] {
-            return false;
-        }
-        i += 1;
-    }
-    true
-}
+use square::same_bytes;
 
 fn asks(i: usize) -> bool {
     let mut word = io::buffer();
     let n = os::arg(i, &mut word);
-    if same(&word[..n], b"-h") {
+    if same_bytes(&word[..n], b"-h") {
         return true;
     }
-    same(&word[..n], b"--help")
+    same_bytes(&word[..n], b"--help")
 }
 
 // Whether an argument asks for help.
