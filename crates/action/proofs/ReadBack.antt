@@ -9,10 +9,10 @@ use lib.Dec.{eqb, leb}
 use lib.ListN.{length}
 use borrow.Author.Tests.{le-leb, leb-true, eqb-true}
 use Rattle.square.specs.declared.Answer.{Answer}
-use Rattle.square.specs.Answer.{accepted, writeAnswer}
+use Rattle.square.specs.Answer.{accepted}
 use Rattle.square.specs.Numbers.{allAtMost}
 use Rattle.square.proofs.Numbers.{both-left, both-right}
-use Rattle.square.proofs.Writes.{accepted-writes-its-text}
+use Rattle.square.proofs.Writes.{accepted-writes-its-text, check-passed}
 use Rattle.chess_move.specs.Number.{lastMove, moveOf, numberAnswer}
 use Rattle.chess_move.proofs.Numbers.{number-of-parts, parts-of-number}
 use Rattle.action.specs.declared.Action.{Action}
@@ -33,7 +33,7 @@ colour-fits c h = go (leb c 1) refl
     go true e = e
     go false e = absurd (omega (arith, simp e at h))
 
-length-bytes : (a : Action) → length (actionBytes a) ≡ actionSize
+pub length-bytes : (a : Action) → length (actionBytes a) ≡ actionSize
 unfolding actionBytes
 length-bytes (MakeMove m) = refl
 length-bytes (OfferDraw c) = refl
@@ -42,7 +42,7 @@ length-bytes DeclareDraw = refl
 length-bytes (Resign c) = refl
 
 -- the bytes of an action in range hold it
-held : (a : Action) → actionCheck a ≡ 0 → actionOf (actionBytes a) ≡ Holds a
+pub held : (a : Action) → actionCheck a ≡ 0 → actionOf (actionBytes a) ≡ Holds a
 unfolding actionOf actionBytes actionCheck
 held (MakeMove m) h =
     let p = parts-of-number m h in
@@ -51,14 +51,6 @@ held (OfferDraw c) h = simp (colour-fits c h)
 held AcceptDraw h = refl
 held DeclareDraw h = refl
 held (Resign c) h = simp (colour-fits c h)
-
-check-passed : (check : ℕ) (text : List ℕ) (room : ℕ) → writeAnswer check text room .number ≡ 0 → check ≡ 0
-unfolding writeAnswer
-check-passed check text room h = go (eqb check 0) refl
-  where
-    go : (b : Bool) → eqb check 0 ≡ b → check ≡ 0
-    go true e = eqb-true check 0 e
-    go false e = simp e at h
 
 pub actions-read-back : ActionsReadBack
 actions-read-back a out h =

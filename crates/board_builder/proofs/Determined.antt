@@ -9,6 +9,7 @@ board-builder-determined b = record {
   new = determined;
   default = determined;
   in-range = determined;
+  numbers-in-range = λ l. determined;
   get-piece = λ square. determined;
   get-side-to-move = determined;
   get-castle-rights = λ colour. determined;

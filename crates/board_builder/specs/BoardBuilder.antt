@@ -1,10 +1,10 @@
 -- The board record (document 01, "Numbers of the record, the move and the log"): 64 squares, side, white rights, black rights, en passant.
 -- Assumes nothing.
-use Prim.Native.Nat.{ℕ}
+use Prim.Native.Nat.{ℕ, _+_}
 use mathlib.Core.Bool.{Bool, _&&_}
 use mathlib.Core.List.{List, [], _∷_, _++_}
 use lib.Dec.{leb, eqb}
-use lib.ListN.{length, replicate}
+use lib.ListN.{length, take, getD, replicate}
 use Rattle.square.specs.Numbers.{allAtMost}
 use Rattle.board_builder.specs.declared.BoardBuilder.{BoardBuilder}
 
@@ -29,6 +29,26 @@ unfoldable pub inRange : BoardBuilder → Bool
 inRange b =
     eqb (length (b .pieces)) squares
     && (leb (b .«side_to_move») 1 && (leb (b .«white_castle_rights») 3 && (leb (b .«black_castle_rights») 3 && (leb (b .«en_passant») 8 && allAtMost 12 (b .pieces)))))
+
+-- where the numbers behind the squares stand in that list
+abbrev pub sideAt : ℕ
+sideAt = squares
+
+abbrev pub whiteRightsAt : ℕ
+whiteRightsAt = squares + 1
+
+abbrev pub blackRightsAt : ℕ
+blackRightsAt = squares + 2
+
+abbrev pub fileAt : ℕ
+fileAt = squares + 3
+
+-- the record that a list of numbers stands for, and whether the list is that of a record in range
+abbrev pub boardOf : List ℕ → BoardBuilder
+boardOf l = board (take squares l) (getD l sideAt 0) (getD l whiteRightsAt 0) (getD l blackRightsAt 0) (getD l fileAt 0)
+
+unfoldable pub numbersInRange : List ℕ → Bool
+numbersInRange l = eqb (length l) recordSize && inRange (boardOf l)
 
 abbrev pub emptyBoard : BoardBuilder
 emptyBoard = board (replicate squares 0) 0 0 0 0

@@ -3,12 +3,13 @@
 use Prim.Native.Nat.{ℕ}
 use mathlib.Core.Path.{_≡_}
 use mathlib.Core.Bool.{Bool, true, false, _&&_}
+use mathlib.Core.List.{List}
 use lib.ListN.{length}
 use Rattle.square.specs.Answer.{outOfRange}
 use Rattle.square.specs.Determined.{Determined, Is}
 use Rattle.board_builder.specs.declared.BoardBuilder.{BoardBuilder}
 use Rattle.board_builder.specs.declared.Stepped.{Stepped}
-use Rattle.board_builder.specs.BoardBuilder.{board, numbers, recordSize, inRange, emptyBoard, initialBoard}
+use Rattle.board_builder.specs.BoardBuilder.{board, numbers, recordSize, inRange, numbersInRange, emptyBoard, initialBoard}
 use Rattle.board_builder.specs.Steps.{stepped, step, setPiece, clearSquare, setSide, setRights, setEnPassant}
 use Rattle.board_builder.specs.Getters.{pieceOn, sideOf, rightsOf, enPassantSquare}
 
@@ -44,6 +45,7 @@ pub record BoardBuilderDetermined (b : BoardBuilder) : Type 0 where
   pub new : Determined (Is emptyBoard)
   pub default : Determined (Is initialBoard)
   pub in-range : Determined (Is (inRange b))
+  pub numbers-in-range : (l : List ℕ) → Determined (Is (numbersInRange l))
   pub get-piece : (square : ℕ) → Determined (Is (pieceOn b square))
   pub get-side-to-move : Determined (Is (sideOf b))
   pub get-castle-rights : (colour : ℕ) → Determined (Is (rightsOf b colour))

@@ -10,12 +10,24 @@ ghost use mathlib.Core.Path.{_≡_};
 ghost use Prim.Native.Nat.{_*_, _<_, max};
 ghost use lib.ListN.{length, take, drop};
 ghost use Rattle.square.specs.Numbers.{allAtMost, largest};
-ghost use Rattle.board_builder.specs.BoardBuilder.{inRange, emptyBoard, initialBoard};
+ghost use Rattle.board_builder.specs.BoardBuilder.{inRange, numbersInRange, emptyBoard, initialBoard};
 ghost use Rattle.board_builder.specs.Steps.{stepped, setPiece, clearSquare, setSide, setRights, setEnPassant};
 ghost use Rattle.board_builder.specs.Getters.{pieceOn, sideOf, rightsOf, enPassantSquare};
 
 // How many numbers a record has.
 pub const RECORD_SIZE: usize = 68;
+
+const SQUARES: usize = 64;
+
+// Where the numbers behind the squares stand.
+
+pub const SIDE_AT: usize = SQUARES;
+
+pub const WHITE_RIGHTS_AT: usize = SQUARES + 1;
+
+pub const BLACK_RIGHTS_AT: usize = SQUARES + 2;
+
+pub const EN_PASSANT_AT: usize = SQUARES + 3;
 
 #[repr(C)]
 pub struct BoardBuilder {
@@ -65,6 +77,28 @@ fn codes_in_range(pieces: [u8; 64]) -> bool
         rank += 1;
     }
     most <= 12
+}
+
+// Whether these are the numbers of a record in range.
+pub fn numbers_in_range(numbers: &[u8]) -> bool
+    ensures { λ r. ⌜ r ≡ numbersInRange (now (numbers .entry)) ⌝ }
+{
+    if numbers.len() != RECORD_SIZE {
+        return false;
+    }
+    if 1 < numbers[SIDE_AT] {
+        return false;
+    }
+    if 3 < numbers[WHITE_RIGHTS_AT] {
+        return false;
+    }
+    if 3 < numbers[BLACK_RIGHTS_AT] {
+        return false;
+    }
+    if 8 < numbers[EN_PASSANT_AT] {
+        return false;
+    }
+    square::largest(&numbers[..SQUARES]) <= 12
 }
 
 impl BoardBuilder {

@@ -23,4 +23,11 @@ menkhodur-determined = record {
   san-read = λ b list text. determined;
   san-name = λ b list n room. determined;
   san-name-bytes = λ b list n out. determined;
+  game-start = λ acts ps p. determined;
+  game-start-positions = λ acts ps p. determined;
+  game-call = λ acts ps n m c. determined;
+  game-call-actions = λ acts ps n m c. determined;
+  game-call-positions = λ acts ps n m c. determined;
+  game-result = λ acts ps n m. determined;
+  game-can-declare-draw = λ acts ps n m. determined;
 }

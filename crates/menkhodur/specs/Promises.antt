@@ -12,6 +12,10 @@ use Rattle.fen_text.specs.Read.{readFen}
 use Rattle.fen_text.specs.Write.{fenText, fenCheck}
 use Rattle.chess_move.specs.Coordinate.{readMove, moveText, moveCheck}
 use Rattle.san_text.specs.Paper.{fromSan, nameAnswer, nameBytes}
+use Rattle.position.specs.Layout.{Position}
+use Rattle.game_rules.specs.Limits.{limits}
+use Rattle.game_rules.specs.Rules.{Call}
+use Rattle.game_rules.specs.Calls.{callAnswer, counts, countsAfter, actionsAfter, positionsAfter, startAnswer, positionsBegun, resultAnswer, claimAnswer}
 
 pub record MenkhodurDetermined : Type 0 where
   pub make-square : (rank file : ℕ) → Determined (Is (makeSquare rank file))
@@ -32,3 +36,10 @@ pub record MenkhodurDetermined : Type 0 where
   pub san-read : (b : BoardBuilder) (list text : List ℕ) → Determined (Is (fromSan b list text))
   pub san-name : (b : BoardBuilder) (list : List ℕ) (n room : ℕ) → Determined (Is (nameAnswer b list n room))
   pub san-name-bytes : (b : BoardBuilder) (list : List ℕ) (n : ℕ) (out : List ℕ) → Determined (Is (nameBytes b list n out))
+  pub game-start : (acts ps : List ℕ) (p : Position) → Determined (Is (counts (startAnswer limits acts ps p) 0 0))
+  pub game-start-positions : (acts ps : List ℕ) (p : Position) → Determined (Is (positionsBegun (startAnswer limits acts ps p) ps p))
+  pub game-call : (acts ps : List ℕ) (n m : ℕ) (c : Call) → Determined (Is (countsAfter (callAnswer limits acts ps n m c) n m c))
+  pub game-call-actions : (acts ps : List ℕ) (n m : ℕ) (c : Call) → Determined (Is (actionsAfter (callAnswer limits acts ps n m c) acts n c))
+  pub game-call-positions : (acts ps : List ℕ) (n m : ℕ) (c : Call) → Determined (Is (positionsAfter (callAnswer limits acts ps n m c) ps m c))
+  pub game-result : (acts ps : List ℕ) (n m : ℕ) → Determined (Is (resultAnswer limits acts ps n m))
+  pub game-can-declare-draw : (acts ps : List ℕ) (n m : ℕ) → Determined (Is (claimAnswer limits acts ps n m))

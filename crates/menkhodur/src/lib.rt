@@ -2,6 +2,7 @@
 use board_builder::BoardBuilder;
 use board_builder::Stepped;
 use fen_text::Fen;
+use game_rules::Counts;
 use square::Answer;
 ghost use mathlib.Core.Path.{_≡_};
 ghost use lib.ListN.{length};
@@ -13,6 +14,10 @@ ghost use Rattle.fen_text.specs.Read.{readFen};
 ghost use Rattle.chess_move.specs.Coordinate.{readMove, moveText, moveCheck};
 ghost use Rattle.san_text.specs.Paper.{fromSan, nameAnswer, nameBytes};
 ghost use Rattle.fen_text.specs.Write.{fenText, fenCheck};
+ghost use Rattle.stored_position.specs.Bytes.{positionGiven};
+ghost use Rattle.game_rules.specs.Limits.{limits};
+ghost use Rattle.game_rules.specs.Rules.{makeMove, offerDraw, acceptDraw, declareDraw, resign};
+ghost use Rattle.game_rules.specs.Calls.{callAnswer, counts, countsAfter, actionsAfter, positionsAfter, startAnswer, positionsBegun, resultAnswer, claimAnswer};
 
 #[no_mangle]
 pub extern "C" fn menkhodur_make_square(rank: u8, file: u8) -> Answer
@@ -125,4 +130,82 @@ pub extern "C" fn menkhodur_san_name(
     ensures bytes { λ r. ⌜ now (out .exit) ≡ nameBytes b (now (list .entry)) n (now (out .entry)) ⌝ }
 {
     namer::to_san(b, list, n, out)
+}
+
+#[no_mangle]
+pub extern "C" fn menkhodur_game_start(
+    acts: &[u8],
+    ps: &mut [u8],
+    b: BoardBuilder,
+    in_check: u8,
+    list: &[u16],
+) -> Counts
+    ensures counts { λ r. ⌜ r ≡ counts (startAnswer limits (now (acts .entry)) (now (ps .entry)) (positionGiven b in_check (now (list .entry)))) 0 0 ⌝ }
+    ensures positions { λ r. ⌜ now (ps .exit) ≡ positionsBegun (startAnswer limits (now (acts .entry)) (now (ps .entry)) (positionGiven b in_check (now (list .entry)))) (now (ps .entry)) (positionGiven b in_check (now (list .entry))) ⌝ }
+{
+    game::start(acts, ps, b, in_check, list)
+}
+
+#[no_mangle]
+pub extern "C" fn menkhodur_game_make_move(
+    acts: &mut [u8],
+    ps: &mut [u8],
+    n: u64,
+    m: u64,
+    x: u64,
+    next: BoardBuilder,
+    in_check: u8,
+    list: &[u16],
+) -> Counts
+    ensures counts { λ r. ⌜ r ≡ countsAfter (callAnswer limits (now (acts .entry)) (now (ps .entry)) n m (makeMove x (positionGiven next in_check (now (list .entry))))) n m (makeMove x (positionGiven next in_check (now (list .entry)))) ⌝ }
+    ensures actions { λ r. ⌜ now (acts .exit) ≡ actionsAfter (callAnswer limits (now (acts .entry)) (now (ps .entry)) n m (makeMove x (positionGiven next in_check (now (list .entry))))) (now (acts .entry)) n (makeMove x (positionGiven next in_check (now (list .entry)))) ⌝ }
+    ensures positions { λ r. ⌜ now (ps .exit) ≡ positionsAfter (callAnswer limits (now (acts .entry)) (now (ps .entry)) n m (makeMove x (positionGiven next in_check (now (list .entry))))) (now (ps .entry)) m (makeMove x (positionGiven next in_check (now (list .entry)))) ⌝ }
+{
+    game::make_move(acts, ps, n, m, x, next, in_check, list)
+}
+
+#[no_mangle]
+pub extern "C" fn menkhodur_game_offer_draw(acts: &mut [u8], ps: &[u8], n: u64, m: u64, colour: u8) -> Counts
+    ensures counts { λ r. ⌜ r ≡ countsAfter (callAnswer limits (now (acts .entry)) (now (ps .entry)) n m (offerDraw colour)) n m (offerDraw colour) ⌝ }
+    ensures actions { λ r. ⌜ now (acts .exit) ≡ actionsAfter (callAnswer limits (now (acts .entry)) (now (ps .entry)) n m (offerDraw colour)) (now (acts .entry)) n (offerDraw colour) ⌝ }
+{
+    game::offer_draw(acts, ps, n, m, colour)
+}
+
+#[no_mangle]
+pub extern "C" fn menkhodur_game_resign(acts: &mut [u8], ps: &[u8], n: u64, m: u64, colour: u8) -> Counts
+    ensures counts { λ r. ⌜ r ≡ countsAfter (callAnswer limits (now (acts .entry)) (now (ps .entry)) n m (resign colour)) n m (resign colour) ⌝ }
+    ensures actions { λ r. ⌜ now (acts .exit) ≡ actionsAfter (callAnswer limits (now (acts .entry)) (now (ps .entry)) n m (resign colour)) (now (acts .entry)) n (resign colour) ⌝ }
+{
+    game::resign(acts, ps, n, m, colour)
+}
+
+#[no_mangle]
+pub extern "C" fn menkhodur_game_accept_draw(acts: &mut [u8], ps: &[u8], n: u64, m: u64) -> Counts
+    ensures counts { λ r. ⌜ r ≡ countsAfter (callAnswer limits (now (acts .entry)) (now (ps .entry)) n m acceptDraw) n m acceptDraw ⌝ }
+    ensures actions { λ r. ⌜ now (acts .exit) ≡ actionsAfter (callAnswer limits (now (acts .entry)) (now (ps .entry)) n m acceptDraw) (now (acts .entry)) n acceptDraw ⌝ }
+{
+    game::accept_draw(acts, ps, n, m)
+}
+
+#[no_mangle]
+pub extern "C" fn menkhodur_game_declare_draw(acts: &mut [u8], ps: &[u8], n: u64, m: u64) -> Counts
+    ensures counts { λ r. ⌜ r ≡ countsAfter (callAnswer limits (now (acts .entry)) (now (ps .entry)) n m declareDraw) n m declareDraw ⌝ }
+    ensures actions { λ r. ⌜ now (acts .exit) ≡ actionsAfter (callAnswer limits (now (acts .entry)) (now (ps .entry)) n m declareDraw) (now (acts .entry)) n declareDraw ⌝ }
+{
+    game::declare_draw(acts, ps, n, m)
+}
+
+#[no_mangle]
+pub extern "C" fn menkhodur_game_result(acts: &[u8], ps: &[u8], n: u64, m: u64) -> Answer
+    ensures { λ r. ⌜ r ≡ resultAnswer limits (now (acts .entry)) (now (ps .entry)) n m ⌝ }
+{
+    game::result(acts, ps, n, m)
+}
+
+#[no_mangle]
+pub extern "C" fn menkhodur_game_can_declare_draw(acts: &[u8], ps: &[u8], n: u64, m: u64) -> Answer
+    ensures { λ r. ⌜ r ≡ claimAnswer limits (now (acts .entry)) (now (ps .entry)) n m ⌝ }
+{
+    game::can_declare_draw(acts, ps, n, m)
 }

@@ -1,4 +1,5 @@
 pub mod Moves
+pub mod Fields
 pub mod Repeats
 pub mod Pairs
 pub mod Used

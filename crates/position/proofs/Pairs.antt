@@ -89,4 +89,4 @@ two-are-found ps first last t =
     ∙ le-leb 2 _ (two-found ps (positionAt ps last) first (t .j) (t .i) last (t .from-first) (t .apart) (t .earlier) (t .i-equal) (t .j-equal))
 
 pub position-determined : PositionDetermined
-position-determined ps first last = determined
+position-determined = record { at-place = λ ps k. determined; equals-two-earlier = λ ps first last. determined }

@@ -7,7 +7,8 @@ use Prim.Native.Nat.{ℕ, zero, suc, _+_, _*_, _-_, _<_, _≤_}
 use native.Mathlib.Omega.{arith}
 use lib.Dec.{leb}
 use lib.ListN.{length, length-take, length-drop}
-use Rattle.position.specs.Layout.{positionSize, item, Position, positionOf, positionAt, positionsFrom}
+use Rattle.square.specs.Parts.{item}
+use Rattle.position.specs.Layout.{positionSize, Position, positionOf, positionAt, positionsFrom}
 use borrow.Author.Tests.{le-leb, lt-leb}
 use Rattle.position.specs.Repeats.{equal, times, equalsTwoEarlier}
 
@@ -44,9 +45,6 @@ earlier-grows ps q first i (suc k) h =
         → (t : Bool) → equal (positionAt ps (i + k)) q ≡ t → earlier ps q first i ≤ earlier ps q first (i + k + 1)
     go more true e = omega (arith, earlier-equal ps q first (i + k) (omega arith) e)
     go more false e = omega (arith, earlier-other ps q first (i + k) (omega arith) e)
-
-pub length-item : (size k : ℕ) (bs : List ℕ) → size * k + size ≤ length bs → length (item size bs k) ≡ size
-length-item size k bs h = simp (length-take, length-drop) (omega arith)
 
 -- what a comparison of two parts says of the positions there
 pub equal-at : (ps : List ℕ) (i last : ℕ) (x y : List ℕ) (r t : Bool)

@@ -7,7 +7,8 @@ use native.Mathlib.Omega.{arith}
 use lib.Dec.{leb}
 use lib.ListN.{take, drop}
 use lib.Seq.{take-take}
-use Rattle.position.specs.Layout.{Position, positionSize, item, positionOf, positionsFrom}
+use Rattle.square.specs.Parts.{item}
+use Rattle.position.specs.Layout.{Position, positionSize, positionOf, positionsFrom}
 use Rattle.position.specs.Repeats.{times}
 use Rattle.position.specs.Promises.{usedTo, LooksAtNothingPast}
 use Rattle.position.proofs.Repeats.{there}

@@ -2,10 +2,13 @@
 -- bytes low first.
 -- Assumes nothing.
 use mathlib.Core.Path.{_≡_}
+use mathlib.Core.Bool.{Bool, true, false, _&&_}
 use mathlib.Core.List.{List, [], _∷_}
 use Prim.Native.Nat.{ℕ, zero, suc, _+_, _*_}
+use lib.Dec.{eqb}
 use lib.ListN.{length, getD, take, drop}
-use Rattle.board_builder.specs.BoardBuilder.{recordSize}
+use Rattle.square.specs.Parts.{item}
+use Rattle.board_builder.specs.BoardBuilder.{recordSize, sideAt}
 use Rattle.chess_move.specs.Number.{ofBytes}
 use Rattle.move_list.specs.MoveList.{longestList}
 
@@ -21,10 +24,6 @@ movesAt = recordSize + 2
 abbrev pub positionSize : ℕ
 positionSize = movesAt + 2 * longestList
 
--- item k of a part that holds items of a size, one after the other
-abbrev pub item : ℕ → List ℕ → ℕ → List ℕ
-item size bs k = take size (drop (size * k) bs)
-
 -- a slice is item k of a size, and whole
 pub record IsItem (size : ℕ) (bs : List ℕ) (k : ℕ) (part : List ℕ) : Type 0 where
   pub is : part ≡ item size bs k
@@ -39,6 +38,10 @@ pub record Position : Type 0 where
   pub board : List ℕ
   pub check : ℕ
   pub moves : List ℕ
+
+-- the side to move
+abbrev pub side : Position → ℕ
+side p = getD (p .board) sideAt 0
 
 -- the position that 580 bytes stand for
 unfoldable pub positionOf : List ℕ → Position

@@ -1,15 +1,17 @@
 // The positions part of a log, after game.rs: where a position lies, when two are equal, and whether the last equals two earlier ones.
 use board_builder::RECORD_SIZE;
 use move_list::LONGEST_LIST;
-use square::same_bytes;
 ghost use mathlib.Core.Path.{_≡_};
 ghost use Prim.Native.Nat.{_+_, _*_, _-_, _≤_};
 ghost use lib.Dec.{leb};
 ghost use lib.ListN.{length};
+ghost use Rattle.square.specs.Parts.{item};
 ghost use Rattle.position.specs.Layout.{IsItem, positionSize, positionOf, positionAt, positionsFrom};
 ghost use Rattle.position.specs.Repeats.{equal, times, equalsTwoEarlier};
 
 // A record, the in-check byte, the list's length, and two bytes for each move that a list may have.
+
+pub const CHECK_AT: usize = RECORD_SIZE;
 
 pub const LENGTH_AT: usize = RECORD_SIZE + 1;
 
@@ -25,16 +27,30 @@ fn position(ps: &[u8], k: usize) -> &[u8]
     &ps[at..at + POSITION_SIZE]
 }
 
+// Position `k`; where the part ends before it does, what there is of it.
+pub fn at(ps: &[u8], k: usize) -> &[u8]
+    ensures { λ r. ⌜ now r ≡ item positionSize (now (ps .entry)) k ⌝ }
+{
+    if ps.len() / POSITION_SIZE < k {
+        return &ps[..0];
+    }
+    let from = POSITION_SIZE * k;
+    if ps.len() - from < POSITION_SIZE {
+        return &ps[from..];
+    }
+    position(ps, k)
+}
+
 // In place, and up to the first byte that differs: the record, then the list with its length in front. The in-check byte between them is not looked at.
 fn same_position(p: &[u8], q: &[u8]) -> bool
     requires { ⌜ (length (now p) ≡ positionSize) × (length (now q) ≡ positionSize) ⌝ }
     ensures { λ r. ⌜ r ≡ equal (positionOf (now (p .entry))) (positionOf (now (q .entry))) ⌝ }
 {
-    if !same_bytes(&p[..RECORD_SIZE], &q[..RECORD_SIZE]) {
+    if !square::same_bytes(&p[..RECORD_SIZE], &q[..RECORD_SIZE]) {
         return false;
     }
     let end = MOVES_AT + 2 * (p[LENGTH_AT] as usize);
-    same_bytes(&p[LENGTH_AT..end], &q[LENGTH_AT..end])
+    square::same_bytes(&p[LENGTH_AT..end], &q[LENGTH_AT..end])
 }
 
 fn repeated(ps: &[u8], first: usize, last: usize) -> bool

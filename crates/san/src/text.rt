@@ -1,18 +1,13 @@
 // Reads a SAN text, left to right, one function a part. 0 is none for a kind, a place, and a byte past the end, which begins no part.
 use san_text::San;
 use san_text::SanText;
+use square::byte_at;
 use square::same_bytes;
 ghost use mathlib.Core.Path.{_≡_};
 ghost use Prim.Native.Nat.{_≤_};
 ghost use lib.ListN.{getD, drop};
 ghost use Rattle.san_text.specs.Place.{placeFrom, squareAt};
 ghost use Rattle.san_text.specs.Text.{promotionKind, pieceKind, isCheck, after, pieceOr, readEnd, readPromotion, readDest, readTakes, readRank, readFile, readPiece, readText};
-
-fn byte_at(s: &[u8], i: usize) -> u8
-    ensures { λ r. ⌜ r ≡ getD (now (s .entry)) i 0 ⌝ }
-{
-    if i < s.len() { s[i] } else { 0 }
-}
 
 // What is left after `n` bytes.
 fn rest(s: &[u8], n: usize) -> &[u8]

@@ -26,4 +26,6 @@ square-determined = record {
   piece-of-letter = λ b. determined;
   letter-of-piece = λ piece. determined;
   kind-of = λ code. determined;
+  byte-at = λ s i. determined;
+  largest-is = λ s. determined;
 }

@@ -3,7 +3,9 @@ pub mod Determined
 pub mod Entries
 pub mod Maxima
 pub mod Numbers
+pub mod Parts
 pub mod Pushes
 pub mod Same
 pub mod Squares
 pub mod Writes
+pub mod Written

@@ -32,6 +32,12 @@ pub most-cons : (n x : ℕ) (xs : List ℕ) → x ≤ n → allAtMost n xs ≡ t
 unfolding allAtMost
 most-cons n x xs h e = simp (le-leb _ _ h) e
 
+-- a list is within a bound if each place of it is
+pub most-each : (n : ℕ) (xs : List ℕ) → ((i : ℕ) → getD xs i 0 ≤ n) → allAtMost n xs ≡ true
+unfolding allAtMost
+most-each n [] h = refl
+most-each n (x ∷ xs) h = most-cons n x xs (h 0) (most-each n xs (λ i. h (suc i)))
+
 -- so are those of a part, and after a store
 pub most-drop : (m n : ℕ) (xs : List ℕ) → allAtMost n xs ≡ true → allAtMost n (drop m xs) ≡ true
 most-drop zero n xs e = e

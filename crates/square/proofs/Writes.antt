@@ -9,7 +9,7 @@ use native.Mathlib.Omega.{arith}
 use lib.Dec.{eqb, leb}
 use lib.ListN.{length, take, drop, getD, set, length-append, length-drop}
 use lib.Seq.{take-at, drop-at}
-use borrow.Author.Tests.{ne-eqb, le-leb, lt-leb, eqb-false, leb-true}
+use borrow.Author.Tests.{ne-eqb, le-leb, lt-leb, eqb-true, eqb-false, leb-true}
 use Rattle.square.specs.declared.Answer.{Answer}
 use Rattle.square.specs.Answer.{accepted, refused, tooShort, overwrite, writeAnswer, writeBytes}
 use Rattle.square.specs.Promises.{RefusedWritesNothing, WritesItsText, AcceptedWritesItsText}
@@ -55,6 +55,15 @@ accepted-writes-its-text check text out h = go (eqb check 0) (leb (length text) 
     go true true e f = record { long = simp (e, f); front = simp (e, f) (take-at text (drop (length text) out) (length text) refl); behind = simp (e, f) (drop-at text (drop (length text) out) (length text) refl) }
     go true false e f = absurd (omega (arith, simp (e, f) at h))
     go false b e f = absurd (eqb-false check 0 e (simp e at h))
+
+-- an accepted writer's check passed
+pub check-passed : (check : ℕ) (text : List ℕ) (room : ℕ) → writeAnswer check text room .number ≡ 0 → check ≡ 0
+unfolding writeAnswer
+check-passed check text room h = go (eqb check 0) refl
+  where
+    go : (b : Bool) → eqb check 0 ≡ b → check ≡ 0
+    go true e = eqb-true check 0 e
+    go false e = simp e at h
 
 -- a writer leaves the room as long as it was
 pub write-length : (check : ℕ) (text out : List ℕ) → length (writeBytes check text out) ≡ length out

@@ -39,9 +39,37 @@ outputTooShort = 7
 abbrev pub noName : ℕ
 noName = 8
 
+-- 9: log not good, or a count over its limit
+abbrev pub notGood : ℕ
+notGood = 9
+
+-- 10: game is over
+abbrev pub gameOver : ℕ
+gameOver = 10
+
 -- 11: move not in the list
 abbrev pub notListed : ℕ
 notListed = 11
+
+-- 12: next position has the wrong side to move
+abbrev pub wrongSide : ℕ
+wrongSide = 12
+
+-- 13: 2,048 actions reached, or for a move 1,024 moves
+abbrev pub logFull : ℕ
+logFull = 13
+
+-- 14: no offer to accept
+abbrev pub noOffer : ℕ
+noOffer = 14
+
+-- 15: no claim stands
+abbrev pub noClaim : ℕ
+noClaim = 15
+
+-- 16: lent log part shorter than the limits ask
+abbrev pub partTooShort : ℕ
+partTooShort = 16
 
 -- 0 and the answer
 abbrev pub accepted : ℕ → Answer

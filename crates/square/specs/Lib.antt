@@ -2,6 +2,7 @@ pub mod Answer
 pub mod Ascii
 pub mod Determined
 pub mod Numbers
+pub mod Parts
 pub mod Square
 pub mod Piece
 pub mod Pushed

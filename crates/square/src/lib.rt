@@ -1,9 +1,10 @@
 // Answers, squares, colours and pieces as document 01 numbers them, after square.rs, rank.rs, file.rs, color.rs and piece.rs. And texts, written and
 // compared, for the crates above.
 ghost use mathlib.Core.Path.{_≡_};
-ghost use lib.ListN.{length};
+ghost use Prim.Native.Nat.{max};
+ghost use lib.ListN.{length, getD};
 ghost use Rattle.square.specs.Answer.{accepted, refused, writeAnswer, writeBytes};
-ghost use Rattle.square.specs.Numbers.{same};
+ghost use Rattle.square.specs.Numbers.{largest, same};
 ghost use Rattle.square.specs.Square.{makeSquare, rankOf, fileOf, backRank, squareNamed, readSquare, squareText, squareCheck};
 ghost use Rattle.square.specs.Piece.{pieceOf, letterOf, kindOf};
 
@@ -32,7 +33,21 @@ pub const OUTPUT_TOO_SHORT: u64 = 7;
 
 pub const NO_NAME: u64 = 8;
 
+pub const NOT_GOOD: u64 = 9;
+
+pub const GAME_OVER: u64 = 10;
+
 pub const NOT_LISTED: u64 = 11;
+
+pub const WRONG_SIDE: u64 = 12;
+
+pub const LOG_FULL: u64 = 13;
+
+pub const NO_OFFER: u64 = 14;
+
+pub const NO_CLAIM: u64 = 15;
+
+pub const PART_TOO_SHORT: u64 = 16;
 
 pub fn accepted(value: u64) -> Answer
     ensures { λ r. ⌜ r ≡ accepted value ⌝ }
@@ -212,4 +227,30 @@ pub fn kind_of(code: u8) -> u8
     ensures { λ r. ⌜ r ≡ kindOf code ⌝ }
 {
     if code <= 6 { code } else { code - 6 }
+}
+
+// The byte at a place, 0 past the end.
+pub fn byte_at(s: &[u8], i: usize) -> u8
+    ensures { λ r. ⌜ r ≡ getD (now (s .entry)) i 0 ⌝ }
+{
+    if i < s.len() { s[i] } else { 0 }
+}
+
+fn larger(a: u8, b: u8) -> u8
+    ensures { λ r. ⌜ r ≡ max a b ⌝ }
+{
+    if a < b { b } else { a }
+}
+
+// The largest byte, 0 of none: with no branch, so that it is taken many at a time.
+pub fn largest(s: &[u8]) -> u8
+    ensures { λ r. ⌜ r ≡ largest (now (s .entry)) ⌝ }
+{
+    let mut most: u8 = 0;
+    let mut i: usize = 0;
+    while i < s.len() {
+        most = larger(most, s[i]);
+        i += 1;
+    }
+    most
 }

@@ -1,7 +1,8 @@
+use Rattle.square.specs.Parts.{item}
 use Rattle.position.specs.Layout.{positionSize}
 use Prim.Native.Nat.{_+_, _*_, _-_}
 use mathlib.Core.Path.{_≡_}
-use Rattle.position.proofs.Repeats.{length-item}
+use Rattle.square.proofs.Parts.{length-item}
 use native.Mathlib.Omega.{arith}
 use borrow.Author.Needs.{needs}
 use Rattle.position.proofs.position.Statement.{statement}

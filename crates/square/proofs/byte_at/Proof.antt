@@ -1,8 +1,8 @@
 use borrow.Author.Needs.{needs}
 use lib.ListN.{List·getD-eq-default}
 use mathlib.Core.Path.{sym}
-use Rattle.san.proofs.text.byte_at.Statement.{statement}
-use Rattle.san.proofs.text.byte_at.Tie as tie
+use Rattle.square.proofs.byte_at.Statement.{statement}
+use Rattle.square.proofs.byte_at.Tie as tie
 
 shared-slice-read-result : tie.Need-shared-slice-read-result
 shared-slice-read-result c = search needs

@@ -1,0 +1,2 @@
+pub mod LastAction
+pub mod Determined

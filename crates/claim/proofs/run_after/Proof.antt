@@ -1,0 +1,38 @@
+use borrow.Author.Needs.{needs}
+use Rattle.claim.specs.Claim.{runAfter}
+use Rattle.claim.proofs.run_after.Statement.{statement}
+use Rattle.claim.proofs.run_after.Tie as tie
+
+is-irreversible-requires : tie.Need-is-irreversible-requires
+is-irreversible-requires c κs = search needs
+
+rights-differ-requires : tie.Need-rights-differ-requires
+rights-differ-requires c κs = search needs
+
+either-requires : tie.Need-either-requires
+either-requires c κs = search needs
+
+from-requires : tie.Need-from-requires
+from-requires c κs = search needs
+
+either-requires-2 : tie.Need-either-requires-2
+either-requires-2 c κs = search needs
+
+from-requires-2 : tie.Need-from-requires-2
+from-requires-2 c κs = search needs
+
+returns : tie.Need-returns
+unfolding runAfter
+returns c = simp (c .before .before .from .ensures, c .from2 .ensures, c .before .before .before .either .ensures, c .before .either2 .ensures, c .before .before .before .before .before .is-irreversible .ensures, c .before .before .before .before .rights-differ .ensures)
+
+pub run-after-spec : {M : Type 1} → statement M
+run-after-spec =
+    tie.close
+    (tie.spec
+    is-irreversible-requires
+    rights-differ-requires
+    either-requires
+    from-requires
+    either-requires-2
+    from-requires-2
+    returns)

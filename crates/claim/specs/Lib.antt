@@ -1,0 +1,3 @@
+pub mod Emptying
+pub mod Claim
+pub mod Promises

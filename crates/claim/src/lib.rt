@@ -1,0 +1,108 @@
+// The reversible count, the run of positions, and whether a draw may be claimed, after game.rs.
+use action::ACTION_SIZE;
+use board_builder::BLACK_RIGHTS_AT;
+use board_builder::WHITE_RIGHTS_AT;
+use chess_move::LAST_MOVE;
+ghost use mathlib.Core.Path.{_≡_};
+ghost use mathlib.Core.Bool.{cond, _||_};
+ghost use Prim.Native.Nat.{_-_};
+ghost use Rattle.position.specs.Layout.{positionOf};
+ghost use Rattle.claim.specs.Emptying.{irreversible, rightsDiffer};
+ghost use Rattle.claim.specs.Claim.{runAfter, runAt, claimIn, claimAt};
+
+// The reversible moves after which a draw may be claimed.
+pub const CLAIM_COUNT: usize = 100;
+
+const PAWN: u8 = 1;
+
+// The run goes from position `first` on; the count is of the moves since position `since`.
+pub struct Run {
+    pub first: usize,
+    pub since: usize,
+}
+
+fn is_irreversible(p: &[u8], m: u64) -> bool
+    ensures { λ r. ⌜ r ≡ irreversible (positionOf (now (p .entry))) m ⌝ }
+{
+    let moved = square::byte_at(p, (m % 64) as usize);
+    if square::kind_of(moved) == PAWN {
+        return true;
+    }
+    square::byte_at(p, (m / 64 % 64) as usize) != 0
+}
+
+fn rights_differ(p: &[u8], q: &[u8]) -> bool
+    ensures { λ r. ⌜ r ≡ rightsDiffer (positionOf (now (p .entry))) (positionOf (now (q .entry))) ⌝ }
+{
+    if square::byte_at(p, WHITE_RIGHTS_AT) != square::byte_at(q, WHITE_RIGHTS_AT) {
+        return true;
+    }
+    square::byte_at(p, BLACK_RIGHTS_AT) != square::byte_at(q, BLACK_RIGHTS_AT)
+}
+
+fn either(a: bool, b: bool) -> bool
+    ensures { λ r. ⌜ r ≡ a || b ⌝ }
+{
+    if a { true } else { b }
+}
+
+fn from(emptied: bool, next: usize, before: usize) -> usize
+    ensures { λ r. ⌜ r ≡ cond emptied next before ⌝ }
+{
+    if emptied { next } else { before }
+}
+
+// The run after move `m` from position `p` to position `q`, which is the one with number `next`.
+fn run_after(p: &[u8], q: &[u8], m: u64, next: usize, r: Run) -> Run
+    ensures { λ s. ⌜ s ≡ runAfter (positionOf (now (p .entry))) m (positionOf (now (q .entry))) next r ⌝ }
+{
+    let undone = is_irreversible(p, m);
+    let changed = rights_differ(p, q);
+    Run {
+        first: from(either(undone, changed), next, r.first),
+        since: from(either(undone, changed), next, r.since),
+    }
+}
+
+// The run after the first `n` actions.
+fn run_at(acts: &[u8], ps: &[u8], n: usize) -> Run
+    ensures { λ r. ⌜ r ≡ runAt (now (acts .entry)) (now (ps .entry)) n ⌝ }
+{
+    let mut r = Run { first: 0, since: 0 };
+    let mut k: usize = 0;
+    let mut i: usize = 0;
+    while i < n {
+        let m = actions::move_at(acts, i);
+        i += 1;
+        if m <= LAST_MOVE {
+            r = run_after(position::at(ps, k), position::at(ps, k + 1), m, k + 1, r);
+            k += 1;
+        }
+    }
+    r
+}
+
+fn moves_since(since: usize, m: usize) -> usize
+    ensures { λ r. ⌜ r ≡ m - since ⌝ }
+{
+    if since <= m { m - since } else { 0 }
+}
+
+fn claim_in(ps: &[u8], m: usize, r: Run) -> bool
+    ensures { λ s. ⌜ s ≡ claimIn (now (ps .entry)) m r ⌝ }
+{
+    if CLAIM_COUNT <= moves_since(r.since, m) {
+        return true;
+    }
+    position::equals_two_earlier(ps, r.first, m)
+}
+
+// Whether a draw may be claimed after the first `n` actions, with position `m` on the board.
+pub fn stands(acts: &[u8], ps: &[u8], n: usize, m: usize) -> bool
+    ensures { λ r. ⌜ r ≡ claimAt (now (acts .entry)) (now (ps .entry)) n m ⌝ }
+{
+    if acts.len() / ACTION_SIZE < n {
+        return false;
+    }
+    claim_in(ps, m, run_at(acts, ps, n))
+}

@@ -1,0 +1,61 @@
+use borrow.Author.Needs.{needs}
+use mathlib.Core.Path.{ap, ap₂, sym, _∙_}
+use mathlib.Core.List.{List}
+use Prim.Native.Nat.{ℕ}
+use Rattle.position.specs.Layout.{positionOf}
+use Rattle.ending.specs.Ending.{resultWithoutMoves, resultOfAction, resultOf}
+use Rattle.actions.specs.Part.{lastAction}
+use Rattle.position.specs.Layout.{positionOf}
+use Rattle.ending.proofs.Results.{result-empty, result-last}
+use Rattle.ending.proofs.Results.{result-empty, result-last}
+use Rattle.ending.proofs.result.Statement.{statement}
+use Rattle.ending.proofs.result.Tie as tie
+
+at-requires : tie.Need-at-requires
+at-requires c κs = search needs
+
+byte-at-requires : tie.Need-byte-at-requires
+byte-at-requires c κs = search needs
+
+byte-at-requires-2 : tie.Need-byte-at-requires-2
+byte-at-requires-2 c κs = search needs
+
+byte-at-requires-3 : tie.Need-byte-at-requires-3
+byte-at-requires-3 c κs = search needs
+
+without-moves-requires : tie.Need-without-moves-requires
+without-moves-requires c κs = search needs
+
+returns : tie.Need-returns
+returns c = let last = lastAction (c .before .before .before .before .before .before .before .before .args .acts .now) (c .before .before .before .before .before .before .before .before .args .n) in
+    c .without-moves .ensures
+    ∙ ap₂ resultWithoutMoves (c .before .before .byte-at2 .ensures) (c .before .byte-at3 .ensures)
+    ∙ sym (result-empty (c .before .before .before .before .before .at .result .now) last (sym (c .before .before .before .before .byte-at .ensures) ∙ c .before .before .before .if1 .taken))
+    ∙ ap (λ (p : List ℕ). resultOf (positionOf p) last) (c .before .before .before .before .before .at .ensures)
+
+last-requires : tie.Need-last-requires
+last-requires c κs = search needs
+
+by-last-requires : tie.Need-by-last-requires
+by-last-requires c κs = search needs
+
+returns-2 : tie.Need-returns-2
+returns-2 c = let last = lastAction (c .before .before .before .before .before .before .before .args .acts .now) (c .before .before .before .before .before .before .before .args .n) in
+    c .by-last .ensures
+    ∙ ap resultOfAction (c .before .last .ensures)
+    ∙ sym (result-last (c .before .before .before .before .at .result .now) last (λ e. c .before .before .if1 .left (c .before .before .before .byte-at .ensures ∙ e)))
+    ∙ ap (λ (p : List ℕ). resultOf (positionOf p) last) (c .before .before .before .before .at .ensures)
+
+pub result-spec : {M : Type 1} → statement M
+result-spec =
+    tie.close
+    (tie.spec
+    at-requires
+    byte-at-requires
+    byte-at-requires-2
+    byte-at-requires-3
+    without-moves-requires
+    returns
+    last-requires
+    by-last-requires
+    returns-2)

@@ -1,0 +1,10 @@
+-- The contract of each public function determines its answer.
+-- Assumes nothing.
+use mathlib.Core.List.{List}
+use Prim.Native.Nat.{ℕ}
+use Rattle.square.specs.Determined.{Determined, Is}
+use Rattle.ending.specs.Ending.{resultAt, offerAt}
+
+pub record EndingDetermined : Type 0 where
+  pub result : (acts ps : List ℕ) (n m : ℕ) → Determined (Is (resultAt acts ps n m))
+  pub offer-stands : (acts ps : List ℕ) (n m : ℕ) → Determined (Is (offerAt acts ps n m))

@@ -1,0 +1,146 @@
+// How a game has ended, and whether an offer stands, after game.rs.
+use action::Action;
+use action::Stored;
+use board_builder::SIDE_AT;
+use position::CHECK_AT;
+use position::LENGTH_AT;
+ghost use mathlib.Core.Path.{_≡_};
+ghost use mathlib.Core.Bool.{cond, _||_};
+ghost use Prim.Native.Nat.{_-_};
+ghost use lib.Dec.{eqb};
+ghost use Rattle.action.specs.declared.Stored.the-variants.{Holds};
+ghost use Rattle.ending.specs.Ending.{resultWithoutMoves, resultOfAction, isOffer, isOfferBy, resultAt, offerAt};
+
+// The results, in the order of `GameResult`; 0 is none.
+
+pub const GOES_ON: u64 = 0;
+
+pub const WHITE_CHECKMATES: u64 = 1;
+
+pub const WHITE_RESIGNS: u64 = 2;
+
+pub const BLACK_CHECKMATES: u64 = 3;
+
+pub const BLACK_RESIGNS: u64 = 4;
+
+pub const STALEMATE: u64 = 5;
+
+pub const DRAW_ACCEPTED: u64 = 6;
+
+pub const DRAW_DECLARED: u64 = 7;
+
+fn without_moves(side: u8, check: u8) -> u64
+    ensures { λ r. ⌜ r ≡ resultWithoutMoves side check ⌝ }
+{
+    if check == 0 {
+        return STALEMATE;
+    }
+    if side == 0 {
+        return BLACK_CHECKMATES;
+    }
+    WHITE_CHECKMATES
+}
+
+fn by_resignation(colour: u8) -> u64
+    ensures { λ r. ⌜ r ≡ cond (eqb colour 0) 2 4 ⌝ }
+{
+    if colour == 0 {
+        WHITE_RESIGNS
+    } else {
+        BLACK_RESIGNS
+    }
+}
+
+fn by_action(action: Action) -> u64
+    ensures { λ r. ⌜ r ≡ resultOfAction (Holds action) ⌝ }
+{
+    match action {
+        Action::MakeMove(_) => GOES_ON,
+        Action::OfferDraw(_) => GOES_ON,
+        Action::AcceptDraw => DRAW_ACCEPTED,
+        Action::DeclareDraw => DRAW_DECLARED,
+        Action::Resign(colour) => by_resignation(colour),
+    }
+}
+
+fn by_last(last: Stored) -> u64
+    ensures { λ r. ⌜ r ≡ resultOfAction last ⌝ }
+{
+    match last {
+        Stored::Holds(action) => by_action(action),
+        Stored::Nothing => GOES_ON,
+    }
+}
+
+// The result after the first `n` actions, with position `m` on the board.
+pub fn result(acts: &[u8], ps: &[u8], n: usize, m: usize) -> u64
+    ensures { λ r. ⌜ r ≡ resultAt (now (acts .entry)) (now (ps .entry)) n m ⌝ }
+{
+    let p = position::at(ps, m);
+    if square::byte_at(p, LENGTH_AT) == 0 {
+        return without_moves(square::byte_at(p, SIDE_AT), square::byte_at(p, CHECK_AT));
+    }
+    by_last(actions::last(acts, n))
+}
+
+fn offers(action: Action) -> bool
+    ensures { λ r. ⌜ r ≡ isOffer (Holds action) ⌝ }
+{
+    match action {
+        Action::MakeMove(_) => false,
+        Action::OfferDraw(_) => true,
+        Action::AcceptDraw => false,
+        Action::DeclareDraw => false,
+        Action::Resign(_) => false,
+    }
+}
+
+fn is_offer(last: Stored) -> bool
+    ensures { λ r. ⌜ r ≡ isOffer last ⌝ }
+{
+    match last {
+        Stored::Holds(action) => offers(action),
+        Stored::Nothing => false,
+    }
+}
+
+fn offers_by(colour: u8, action: Action) -> bool
+    ensures { λ r. ⌜ r ≡ isOfferBy colour (Holds action) ⌝ }
+{
+    match action {
+        Action::MakeMove(_) => false,
+        Action::OfferDraw(offerer) => offerer == colour,
+        Action::AcceptDraw => false,
+        Action::DeclareDraw => false,
+        Action::Resign(_) => false,
+    }
+}
+
+fn is_offer_by(colour: u8, earlier: Stored) -> bool
+    ensures { λ r. ⌜ r ≡ isOfferBy colour earlier ⌝ }
+{
+    match earlier {
+        Stored::Holds(action) => offers_by(colour, action),
+        Stored::Nothing => false,
+    }
+}
+
+fn other_side(side: u8) -> u8
+    ensures { λ r. ⌜ r ≡ 1 - side ⌝ }
+{
+    if side == 0 { 1 } else { 0 }
+}
+
+// Whether an offer stands after the first `n` actions, with position `m` on the board.
+pub fn offer_stands(acts: &[u8], ps: &[u8], n: usize, m: usize) -> bool
+    ensures { λ r. ⌜ r ≡ offerAt (now (acts .entry)) (now (ps .entry)) n m ⌝ }
+{
+    if is_offer(actions::last(acts, n)) {
+        return true;
+    }
+    if n == 0 {
+        return false;
+    }
+    let side = square::byte_at(position::at(ps, m), SIDE_AT);
+    is_offer_by(other_side(side), actions::last(acts, n - 1))
+}

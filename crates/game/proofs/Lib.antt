@@ -1,0 +1,4 @@
+pub mod Answers
+pub mod Puts
+pub mod Ways
+pub mod Determined

@@ -1,0 +1,54 @@
+use borrow.Author.Needs.{needs}
+use native.Mathlib.Omega.{arith}
+use mathlib.Core.Path.{sym, _∙_}
+use Rattle.game_rules.specs.Calls.{counts}
+use Rattle.game.specs.Answers.{otherAnswer}
+use Rattle.game_rules.specs.Rules.{result}
+use Rattle.game.proofs.Answers.{other-found}
+use Rattle.game.proofs.Ways as ways
+use Rattle.game.proofs.Answers.{other-found}
+use Rattle.game.proofs.Ways as ways
+use Rattle.game.proofs.Answers.{other-found}
+use Rattle.game.proofs.act.Statement.{statement}
+use Rattle.game.proofs.act.Tie as tie
+
+other-answer-requires : tie.Need-other-answer-requires
+other-answer-requires c κs = search needs
+
+counts-requires : tie.Need-counts-requires
+counts-requires c κs = search needs
+
+same-length : tie.Need-same-length
+same-length c = search needs
+
+returns : tie.Need-returns
+returns c = ways.other-refused (otherAnswer (c .before .before .before .before .before .before .args .acts .now) (c .before .before .before .before .before .before .args .ps .now) (c .before .before .before .before .before .before .args .n) (c .before .before .before .before .before .before .args .m) (c .before .before .before .before .before .before .args .action)) (c .before .before .other-answer .result) (c .before .before .before .before .before .before .args .n) (c .before .before .before .before .before .before .args .m) (c .before .before .before .before .before .before .args .acts .now) (c .before .before .before .before .before .before .args .action) (c .counts .result) (c .before .before .other-answer .ensures) (c .before .if1 .taken) (c .counts .ensures)
+
+put-action-requires : tie.Need-put-action-requires
+put-action-requires c κs = let f = other-found (c .before .before .before .before .before .before .args .acts .now) (c .before .before .before .before .before .before .args .ps .now) (c .before .before .before .before .before .before .args .n) (c .before .before .before .before .before .before .args .m) (c .before .before .before .before .before .before .args .action) (sym (c .before .before .other-answer .ensures) ∙ c .before .if1 .left) in (f .room, f .check)
+
+add-counts : tie.Need-add-counts
+add-counts c = let f = other-found (c .before .before .before .before .before .before .before .before .before .args .acts .now) (c .before .before .before .before .before .before .before .before .before .args .ps .now) (c .before .before .before .before .before .before .before .before .before .args .n) (c .before .before .before .before .before .before .before .before .before .args .m) (c .before .before .before .before .before .before .before .before .before .args .action) (sym (c .before .before .before .before .before .other-answer .ensures) ∙ c .before .before .before .before .if1 .left) in omega (arith, f .few)
+
+counts-requires-2 : tie.Need-counts-requires-2
+counts-requires-2 c κs = search needs
+
+same-length-2 : tie.Need-same-length-2
+same-length-2 c = search needs
+
+returns-2 : tie.Need-returns-2
+returns-2 c = ways.other-accepted (otherAnswer (c .before .before .before .before .before .before .before .before .before .before .args .acts .now) (c .before .before .before .before .before .before .before .before .before .before .args .ps .now) (c .before .before .before .before .before .before .before .before .before .before .args .n) (c .before .before .before .before .before .before .before .before .before .before .args .m) (c .before .before .before .before .before .before .before .before .before .before .args .action)) (c .before .before .before .before .before .before .other-answer .result) (c .before .before .before .before .before .before .before .before .before .before .args .n) (c .before .before .before .before .before .before .before .before .before .before .args .m) (c .before .before .before .before .before .before .before .before .before .before .args .acts .now) (c .before .before .before .before .before .before .before .before .before .before .args .action) (c .counts2 .result) (c .before .before .before .before .before .before .other-answer .ensures) _ (c .before .before .before .before .before .if1 .left) (c .counts2 .ensures) (c .before .before .before .put-action .ensures)
+
+pub act-spec : {M : Type 1} → statement M
+act-spec =
+    tie.close
+    (tie.spec
+    other-answer-requires
+    counts-requires
+    same-length
+    returns
+    put-action-requires
+    add-counts
+    counts-requires-2
+    same-length-2
+    returns-2)

@@ -1,0 +1,89 @@
+use borrow.Author.Needs.{needs}
+use native.Mathlib.Omega.{arith}
+use mathlib.Core.Path.{ap, sym, _∙_}
+use Prim.Native.Nat.{_*_}
+use Rattle.square.specs.declared.Answer.{Answer}
+use Rattle.square.specs.Parts.{written}
+use Rattle.action.specs.Layout.{actionSize, actionBytes, actionCheck}
+use Rattle.action.specs.declared.Action.the-variants.{MakeMove}
+use Rattle.chess_move.proofs.Numbers.{number-of-parts}
+use Rattle.chess_move.specs.declared.ChessMove.{ChessMove}
+use Rattle.position.specs.Layout.{Position}
+use Rattle.stored_position.specs.Bytes.{positionGiven}
+use Rattle.game_rules.specs.Limits.{limits}
+use Rattle.game_rules.specs.Rules.{makeMove, result}
+use Rattle.game_rules.specs.Calls.{callAnswer}
+use Rattle.game.proofs.Answers.{move-found}
+use Rattle.game.proofs.Ways as ways
+use Rattle.game.proofs.make_move.Statement.{statement}
+use Rattle.game.proofs.make_move.Tie as tie
+
+move-answer-requires : tie.Need-move-answer-requires
+move-answer-requires c κs = search needs
+
+counts-requires : tie.Need-counts-requires
+counts-requires c κs = search needs
+
+same-length : tie.Need-same-length
+same-length c = search needs
+
+same-length-2 : tie.Need-same-length-2
+same-length-2 c = search needs
+
+returns : tie.Need-returns
+returns c = let q : Position = positionGiven (c .before .before .before .before .before .before .before .before .args .next) (c .before .before .before .before .before .before .before .before .args .in-check) (c .before .before .before .before .before .before .before .before .args .list .now) in ways.move-refused (callAnswer limits (c .before .before .before .before .before .before .before .before .args .acts .now) (c .before .before .before .before .before .before .before .before .args .ps .now) (c .before .before .before .before .before .before .before .before .args .n) (c .before .before .before .before .before .before .before .before .args .m) (makeMove (c .before .before .before .before .before .before .before .before .args .x) q)) (c .before .before .move-answer .result) (c .before .before .before .before .before .before .before .before .args .n) (c .before .before .before .before .before .before .before .before .args .m) (c .before .before .before .before .before .before .before .before .args .x) (c .before .before .before .before .before .before .before .before .args .acts .now) (c .before .before .before .before .before .before .before .before .args .ps .now) q (c .counts .result) (c .before .before .move-answer .ensures) (c .before .if1 .taken) (c .counts .ensures)
+
+cast-from-number : tie.Need-cast-from-number
+cast-from-number c = let q : Position = positionGiven (c .before .before .before .before .before .before .before .before .args .next) (c .before .before .before .before .before .before .before .before .args .in-check) (c .before .before .before .before .before .before .before .before .args .list .now) in let f = move-found (c .before .before .before .before .before .before .before .before .args .acts .now) (c .before .before .before .before .before .before .before .before .args .ps .now) (c .before .before .before .before .before .before .before .before .args .n) (c .before .before .before .before .before .before .before .before .args .m) (c .before .before .before .before .before .before .before .before .args .x) q (sym (c .before .before .move-answer .ensures) ∙ c .before .if1 .left) in omega (arith, f .number)
+
+from-number-requires : tie.Need-from-number-requires
+from-number-requires c κs = search needs
+
+put-action-requires : tie.Need-put-action-requires
+unfolding actionCheck
+put-action-requires c κs = let q : Position = positionGiven (c .before .before .before .before .before .before .before .before .before .args .next) (c .before .before .before .before .before .before .before .before .before .args .in-check) (c .before .before .before .before .before .before .before .before .before .args .list .now) in let f = move-found (c .before .before .before .before .before .before .before .before .before .args .acts .now) (c .before .before .before .before .before .before .before .before .before .args .ps .now) (c .before .before .before .before .before .before .before .before .before .args .n) (c .before .before .before .before .before .before .before .before .before .args .m) (c .before .before .before .before .before .before .before .before .before .args .x) q (sym (c .before .before .before .move-answer .ensures) ∙ c .before .before .if1 .left) in (f .room, ap (λ (x : ChessMove). actionCheck (MakeMove x)) (c .from-number .ensures) ∙ ap (λ (x : Answer). x .number) (number-of-parts (c .before .before .before .before .before .before .before .before .before .args .x) (f .number)))
+
+add-put-position : tie.Need-add-put-position
+add-put-position c = let q : Position = positionGiven (c .before .before .before .before .before .before .before .before .before .before .before .before .before .args .next) (c .before .before .before .before .before .before .before .before .before .before .before .before .before .args .in-check) (c .before .before .before .before .before .before .before .before .before .before .before .before .before .args .list .now) in let f = move-found (c .before .before .before .before .before .before .before .before .before .before .before .before .before .args .acts .now) (c .before .before .before .before .before .before .before .before .before .before .before .before .before .args .ps .now) (c .before .before .before .before .before .before .before .before .before .before .before .before .before .args .n) (c .before .before .before .before .before .before .before .before .before .before .before .before .before .args .m) (c .before .before .before .before .before .before .before .before .before .before .before .before .before .args .x) q (sym (c .before .before .before .before .before .before .before .move-answer .ensures) ∙ c .before .before .before .before .before .before .if1 .left) in omega (arith, f .some)
+
+put-position-requires : tie.Need-put-position-requires
+put-position-requires c κs = let q : Position = positionGiven (c .before .before .before .before .before .before .before .before .before .before .before .before .before .args .next) (c .before .before .before .before .before .before .before .before .before .before .before .before .before .args .in-check) (c .before .before .before .before .before .before .before .before .before .before .before .before .before .args .list .now) in let f = move-found (c .before .before .before .before .before .before .before .before .before .before .before .before .before .args .acts .now) (c .before .before .before .before .before .before .before .before .before .before .before .before .before .args .ps .now) (c .before .before .before .before .before .before .before .before .before .before .before .before .before .args .n) (c .before .before .before .before .before .before .before .before .before .before .before .before .before .args .m) (c .before .before .before .before .before .before .before .before .before .before .before .before .before .args .x) q (sym (c .before .before .before .before .before .before .before .move-answer .ensures) ∙ c .before .before .before .before .before .before .if1 .left) in (omega (arith, f .place), f .check)
+
+add-counts : tie.Need-add-counts
+add-counts c = let q : Position = positionGiven (c .before .before .before .before .before .before .before .before .before .before .before .before .before .before .before .before .args .next) (c .before .before .before .before .before .before .before .before .before .before .before .before .before .before .before .before .args .in-check) (c .before .before .before .before .before .before .before .before .before .before .before .before .before .before .before .before .args .list .now) in let f = move-found (c .before .before .before .before .before .before .before .before .before .before .before .before .before .before .before .before .args .acts .now) (c .before .before .before .before .before .before .before .before .before .before .before .before .before .before .before .before .args .ps .now) (c .before .before .before .before .before .before .before .before .before .before .before .before .before .before .before .before .args .n) (c .before .before .before .before .before .before .before .before .before .before .before .before .before .before .before .before .args .m) (c .before .before .before .before .before .before .before .before .before .before .before .before .before .before .before .before .args .x) q (sym (c .before .before .before .before .before .before .before .before .before .before .move-answer .ensures) ∙ c .before .before .before .before .before .before .before .before .before .if1 .left) in omega (arith, f .few)
+
+add-counts-2 : tie.Need-add-counts-2
+add-counts-2 c = let q : Position = positionGiven (c .before .before .before .before .before .before .before .before .before .before .before .before .before .before .before .before .args .next) (c .before .before .before .before .before .before .before .before .before .before .before .before .before .before .before .before .args .in-check) (c .before .before .before .before .before .before .before .before .before .before .before .before .before .before .before .before .args .list .now) in let f = move-found (c .before .before .before .before .before .before .before .before .before .before .before .before .before .before .before .before .args .acts .now) (c .before .before .before .before .before .before .before .before .before .before .before .before .before .before .before .before .args .ps .now) (c .before .before .before .before .before .before .before .before .before .before .before .before .before .before .before .before .args .n) (c .before .before .before .before .before .before .before .before .before .before .before .before .before .before .before .before .args .m) (c .before .before .before .before .before .before .before .before .before .before .before .before .before .before .before .before .args .x) q (sym (c .before .before .before .before .before .before .before .before .before .before .move-answer .ensures) ∙ c .before .before .before .before .before .before .before .before .before .if1 .left) in omega (arith, f .some)
+
+counts-requires-2 : tie.Need-counts-requires-2
+counts-requires-2 c κs = search needs
+
+same-length-3 : tie.Need-same-length-3
+same-length-3 c = search needs
+
+same-length-4 : tie.Need-same-length-4
+same-length-4 c = search needs
+
+returns-2 : tie.Need-returns-2
+returns-2 c = let q : Position = positionGiven (c .before .before .before .before .before .before .before .before .before .before .before .before .before .before .before .before .before .args .next) (c .before .before .before .before .before .before .before .before .before .before .before .before .before .before .before .before .before .args .in-check) (c .before .before .before .before .before .before .before .before .before .before .before .before .before .before .before .before .before .args .list .now) in ways.move-accepted (callAnswer limits (c .before .before .before .before .before .before .before .before .before .before .before .before .before .before .before .before .before .args .acts .now) (c .before .before .before .before .before .before .before .before .before .before .before .before .before .before .before .before .before .args .ps .now) (c .before .before .before .before .before .before .before .before .before .before .before .before .before .before .before .before .before .args .n) (c .before .before .before .before .before .before .before .before .before .before .before .before .before .before .before .before .before .args .m) (makeMove (c .before .before .before .before .before .before .before .before .before .before .before .before .before .before .before .before .before .args .x) q)) (c .before .before .before .before .before .before .before .before .before .before .before .move-answer .result) (c .before .before .before .before .before .before .before .before .before .before .before .before .before .before .before .before .before .args .n) (c .before .before .before .before .before .before .before .before .before .before .before .before .before .before .before .before .before .args .m) (c .before .before .before .before .before .before .before .before .before .before .before .before .before .before .before .before .before .args .x) (c .before .before .before .before .before .before .before .before .before .before .before .before .before .before .before .before .before .args .acts .now) (c .before .before .before .before .before .before .before .before .before .before .before .before .before .before .before .before .before .args .ps .now) q (c .counts2 .result) (c .before .before .before .before .before .before .before .before .before .before .before .move-answer .ensures) _ _ (c .before .before .before .before .before .before .before .before .before .before .if1 .left) (c .counts2 .ensures) (c .before .before .before .before .before .before .before .put-action .ensures ∙ ap (λ (x : ChessMove). written (c .before .before .before .before .before .before .before .before .before .before .before .before .before .before .before .before .before .args .acts .now) (actionSize * c .before .before .before .before .before .before .before .before .before .before .before .before .before .before .before .before .before .args .n) (actionBytes (MakeMove x))) (c .before .before .before .before .before .before .before .before .from-number .ensures)) (c .before .before .before .put-position .ensures)
+
+pub make-move-spec : {M : Type 1} → statement M
+make-move-spec =
+    tie.close
+    (tie.spec
+    move-answer-requires
+    counts-requires
+    same-length
+    same-length-2
+    returns
+    cast-from-number
+    from-number-requires
+    put-action-requires
+    add-put-position
+    put-position-requires
+    add-counts
+    add-counts-2
+    counts-requires-2
+    same-length-3
+    same-length-4
+    returns-2)

@@ -1,0 +1,25 @@
+use borrow.Author.Needs.{needs}
+use native.Mathlib.Omega.{arith}
+use Rattle.game_rules.specs.Rules.{result}
+use Rattle.game.proofs.Ways as ways
+use Rattle.game.proofs.Ways as ways
+use Rattle.game.proofs.open_check.Statement.{statement}
+use Rattle.game.proofs.open_check.Tie as tie
+
+check-requires : tie.Need-check-requires
+check-requires c κs = search needs
+
+returns : tie.Need-returns
+returns c = ways.open-refused (c .before .before .before .before .args .acts .now) (c .before .before .before .before .args .ps .now) (c .before .before .before .before .args .n) (c .before .before .before .before .args .m) (c .before .check .result) (c .before .check .ensures) (λ z. omega (arith, z, c .if1 .taken))
+
+result-requires : tie.Need-result-requires
+result-requires c κs = search needs
+
+returns-2 : tie.Need-returns-2
+returns-2 c = ways.open-ended (c .before .before .before .before .before .before .args .acts .now) (c .before .before .before .before .before .before .args .ps .now) (c .before .before .before .before .before .before .args .n) (c .before .before .before .before .before .before .args .m) (c .before .before .before .check .result) (c .before .before .before .check .ensures) (c .before .result .result) (omega (arith, c .before .before .if1 .left)) (c .before .result .ensures) (c .if2 .taken)
+
+returns-3 : tie.Need-returns-3
+returns-3 c = ways.open-passed (c .before .before .before .before .before .before .args .acts .now) (c .before .before .before .before .before .before .args .ps .now) (c .before .before .before .before .before .before .args .n) (c .before .before .before .before .before .before .args .m) (c .before .before .before .check .result) (c .before .before .before .check .ensures) (c .before .result .result) (omega (arith, c .before .before .if1 .left)) (c .before .result .ensures) (c .if2 .left)
+
+pub open-check-spec : {M : Type 1} → statement M
+open-check-spec = tie.close (tie.spec check-requires returns result-requires returns-2 returns-3)

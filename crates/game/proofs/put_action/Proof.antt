@@ -1,0 +1,45 @@
+use borrow.Author.Needs.{needs}
+use native.Mathlib.Omega.{arith}
+use Prim.Native.Nat.{_*_}
+use Rattle.action.specs.Layout.{actionSize, actionBytes, actionCheck}
+use Rattle.action.proofs.ReadBack.{length-bytes}
+use Rattle.game.proofs.Puts.{put-written}
+use Rattle.game.proofs.Ways as ways
+use Rattle.game.proofs.Puts.{put-written}
+use Rattle.game.proofs.Ways as ways
+use Rattle.game.proofs.Puts.{put-written}
+use Rattle.game.proofs.put_action.Statement.{statement}
+use Rattle.game.proofs.put_action.Tie as tie
+
+mul-at : tie.Need-mul-at
+mul-at c = search needs
+
+sub-to-bytes : tie.Need-sub-to-bytes
+sub-to-bytes c = search needs
+
+part-to-bytes-start : tie.Need-part-to-bytes-start
+part-to-bytes-start c = search needs
+
+part-to-bytes-end : tie.Need-part-to-bytes-end
+part-to-bytes-end c = search needs
+
+to-bytes-requires : tie.Need-to-bytes-requires
+to-bytes-requires c κs = search needs
+
+same-length : tie.Need-same-length
+same-length c = search needs
+
+returns : tie.Need-returns
+returns c = put-written (actionSize * c .before .before .before .before .before .args .n) (actionCheck (c .before .before .before .before .before .args .action)) (c .before .before .before .before .before .args .acts .now) (actionBytes (c .before .before .before .before .before .args .action)) _ (c .before .before .before .before .before .pre .1) (omega (arith, c .before .before .before .before .before .pre .0, length-bytes (c .before .before .before .before .before .args .action))) (c .before .before .to-bytes .ensures .1)
+
+pub put-action-spec : {M : Type 1} → statement M
+put-action-spec =
+    tie.close
+    (tie.spec
+    mul-at
+    sub-to-bytes
+    part-to-bytes-start
+    part-to-bytes-end
+    to-bytes-requires
+    same-length
+    returns)

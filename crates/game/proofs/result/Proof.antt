@@ -1,0 +1,33 @@
+use borrow.Author.Needs.{needs}
+use Rattle.square.specs.Answer.{accepted}
+use Rattle.game_rules.specs.Limits.{limits}
+use Rattle.game_rules.specs.Rules.{result}
+use Rattle.game_rules.specs.Good.{historyOf}
+use Rattle.game_rules.specs.Calls.{logCheck, resultAnswer}
+use Rattle.game.proofs.Ways as ways
+use Rattle.game.proofs.result.Statement.{statement}
+use Rattle.game.proofs.result.Tie as tie
+
+check-requires : tie.Need-check-requires
+check-requires c κs = search needs
+
+refused-requires : tie.Need-refused-requires
+refused-requires c κs = search needs
+
+returns : tie.Need-returns
+unfolding resultAnswer
+returns c = ways.told-refused (logCheck limits (c .before .before .before .before .before .args .acts .now) (c .before .before .before .before .before .args .ps .now) (c .before .before .before .before .before .args .n) (c .before .before .before .before .before .args .m)) (c .before .before .check .result) (result (historyOf (c .before .before .before .before .before .args .acts .now) (c .before .before .before .before .before .args .ps .now) (c .before .before .before .before .before .args .n))) (c .refused .result) (c .before .before .check .ensures) (c .before .if1 .taken) (c .refused .ensures)
+
+result-requires : tie.Need-result-requires
+result-requires c κs = search needs
+
+accepted-requires : tie.Need-accepted-requires
+accepted-requires c κs = search needs
+
+returns-2 : tie.Need-returns-2
+returns-2 c = ways.result-told (c .before .before .before .before .before .before .args .acts .now) (c .before .before .before .before .before .before .args .ps .now) (c .before .before .before .before .before .before .args .n) (c .before .before .before .before .before .before .args .m) (c .before .before .before .check .result) (c .before .result .result) (c .accepted .result) (c .before .before .before .check .ensures) (c .before .result .ensures) (c .before .before .if1 .left) (c .accepted .ensures)
+
+pub result-spec : {M : Type 1} → statement M
+result-spec =
+    tie.close
+    (tie.spec check-requires refused-requires returns result-requires accepted-requires returns-2)

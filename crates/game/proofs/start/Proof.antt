@@ -1,0 +1,47 @@
+use borrow.Author.Needs.{needs}
+use mathlib.Core.Path.{sym, _∙_}
+use Rattle.position.specs.Layout.{Position}
+use Rattle.stored_position.specs.Bytes.{positionGiven}
+use Rattle.game_rules.specs.Limits.{limits}
+use Rattle.game_rules.specs.Rules.{result}
+use Rattle.game_rules.specs.Calls.{startAnswer}
+use Rattle.game.proofs.Ways as ways
+use Rattle.game.proofs.start.Statement.{statement}
+use Rattle.game.proofs.start.Tie as tie
+
+start-answer-requires : tie.Need-start-answer-requires
+start-answer-requires c κs = search needs
+
+counts-requires : tie.Need-counts-requires
+counts-requires c κs = search needs
+
+same-length : tie.Need-same-length
+same-length c = search needs
+
+returns : tie.Need-returns
+returns c = let q : Position = positionGiven (c .before .before .before .before .before .before .before .args .b) (c .before .before .before .before .before .before .before .args .in-check) (c .before .before .before .before .before .before .before .args .list .now) in ways.start-refused (startAnswer limits (c .before .before .before .before .before .before .before .args .acts .now) (c .before .before .before .before .before .before .before .args .ps .now) q) (c .before .before .start-answer .result) (c .before .before .before .before .before .before .before .args .ps .now) q (c .counts .result) (c .before .before .start-answer .ensures) (c .before .if1 .taken) (c .counts .ensures)
+
+put-position-requires : tie.Need-put-position-requires
+put-position-requires c κs = let q : Position = positionGiven (c .before .before .before .before .before .before .before .args .b) (c .before .before .before .before .before .before .before .args .in-check) (c .before .before .before .before .before .before .before .args .list .now) in ways.start-found (c .before .before .before .before .before .before .before .args .acts .now) (c .before .before .before .before .before .before .before .args .ps .now) q (sym (c .before .before .start-answer .ensures) ∙ c .before .if1 .left)
+
+counts-requires-2 : tie.Need-counts-requires-2
+counts-requires-2 c κs = search needs
+
+same-length-2 : tie.Need-same-length-2
+same-length-2 c = search needs
+
+returns-2 : tie.Need-returns-2
+returns-2 c = let q : Position = positionGiven (c .before .before .before .before .before .before .before .before .before .before .before .args .b) (c .before .before .before .before .before .before .before .before .before .before .before .args .in-check) (c .before .before .before .before .before .before .before .before .before .before .before .args .list .now) in ways.start-accepted (startAnswer limits (c .before .before .before .before .before .before .before .before .before .before .before .args .acts .now) (c .before .before .before .before .before .before .before .before .before .before .before .args .ps .now) q) (c .before .before .before .before .before .before .start-answer .result) (c .before .before .before .before .before .before .before .before .before .before .before .args .ps .now) q (c .counts2 .result) (c .before .before .before .before .before .before .start-answer .ensures) _ (c .before .before .before .before .before .if1 .left) (c .counts2 .ensures) (c .before .before .before .put-position .ensures)
+
+pub start-spec : {M : Type 1} → statement M
+start-spec =
+    tie.close
+    (tie.spec
+    start-answer-requires
+    counts-requires
+    same-length
+    returns
+    put-position-requires
+    counts-requires-2
+    same-length-2
+    returns-2)

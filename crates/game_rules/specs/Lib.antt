@@ -1,0 +1,5 @@
+pub mod Limits
+pub mod Rules
+pub mod Good
+pub mod Calls
+pub mod Promises

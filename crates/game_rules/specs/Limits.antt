@@ -1,0 +1,20 @@
+-- How long a log may be (document 01, "Numbers of the record, the move and the log"). All definitions of the log take the limits as an argument.
+-- Assumes nothing.
+use Prim.Native.Nat.{ℕ, suc, _*_}
+use Rattle.action.specs.Layout.{actionSize}
+use Rattle.position.specs.Layout.{positionSize}
+
+pub record Limits : Type 0 where
+  pub most-actions : ℕ
+  pub most-moves : ℕ
+
+-- 2,048 actions, 1,024 moves
+abbrev pub limits : Limits
+limits = record { most-actions = 2048; most-moves = 1024 }
+
+-- the bytes of the two parts: a start and one position after each move
+abbrev pub actionsLength : Limits → ℕ
+actionsLength L = actionSize * L .most-actions
+
+abbrev pub positionsLength : Limits → ℕ
+positionsLength L = positionSize * suc (L .most-moves)

@@ -1,0 +1,101 @@
+-- What is promised of the log, each as a statement that can be read by itself. All hold for any limits.
+-- Assumes nothing.
+use mathlib.Core.Path.{_≡_}
+use mathlib.Core.Bool.{true, cond}
+use mathlib.Core.Logic.{_↔_}
+use mathlib.Core.List.{List}
+use Prim.Native.Nat.{ℕ, suc, _+_, _*_}
+use lib.Dec.{eqb}
+use lib.ListN.{take}
+use Rattle.action.specs.Layout.{actionSize}
+use Rattle.position.specs.Layout.{Position, positionSize}
+use Rattle.game_rules.specs.declared.Counts.{Counts}
+use Rattle.game_rules.specs.Limits.{Limits}
+use Rattle.game_rules.specs.Rules.{Call, isMove, History, begun, after}
+use Rattle.game_rules.specs.Good.{Accepted, Holding, Good, isGood}
+use Rattle.game_rules.specs.Calls.{longEnough, callAnswer, counts, countsAfter, actionsAfter, positionsAfter, startAnswer, positionsBegun, resultAnswer, claimAnswer}
+
+-- the one-pass test decides whether a log is good
+abbrev pub GoodIsDecided : Type 0
+GoodIsDecided = (L : Limits) (acts ps : List ℕ) (n m : ℕ) → (isGood L acts ps n m ≡ true) ↔ Good L acts ps n m
+
+-- what a call leaves: the number and the counts that it gives back, and the two parts
+pub record Left : Type 0 where
+  pub counts : Counts
+  pub acts : List ℕ
+  pub ps : List ℕ
+
+abbrev pub leftBy : ℕ → List ℕ → List ℕ → ℕ → ℕ → Call → Left
+leftBy a acts ps n m c = record { counts = countsAfter a n m c; acts = actionsAfter a acts n c; ps = positionsAfter a ps m c }
+
+unfoldable pub called : Limits → List ℕ → List ℕ → ℕ → ℕ → Call → Left
+called L acts ps n m c = leftBy (callAnswer L acts ps n m c) acts ps n m c
+
+unfoldable pub started : Limits → List ℕ → List ℕ → Position → Left
+started L acts ps p =
+    record { counts = counts (startAnswer L acts ps p) 0 0; acts = acts; ps = positionsBegun (startAnswer L acts ps p) ps p }
+
+-- the log that was left is good
+abbrev pub GoodLeft : Limits → Left → Type 0
+GoodLeft L x = Good L (x .acts) (x .ps) (x .counts .actions) (x .counts .moves)
+
+-- an accepted start leaves a good log
+abbrev pub StartIsGood : Type 0
+StartIsGood = (L : Limits) (acts ps : List ℕ) (p : Position) → started L acts ps p .counts .number ≡ 0 → GoodLeft L (started L acts ps p)
+
+-- an accepted call leaves a good log: a promise that any program for the calls may be held to. (A log that is not good is not accepted.)
+abbrev pub LogCall : Type 0
+LogCall = Limits → List ℕ → List ℕ → ℕ → ℕ → Call → Left
+
+abbrev pub KeepsGood : LogCall → Type 0
+KeepsGood call = (L : Limits) (acts ps : List ℕ) (n m : ℕ) (c : Call) → Good L acts ps n m → call L acts ps n m c .counts .number ≡ 0 → GoodLeft L (call L acts ps n m c)
+
+-- only a good log is answered 0
+abbrev pub AcceptedIsGood : Type 0
+AcceptedIsGood = (L : Limits) (acts ps : List ℕ) (n m : ℕ) (c : Call) → called L acts ps n m c .counts .number ≡ 0 → Good L acts ps n m
+
+-- a refused call gives its counts back and changes no byte
+abbrev pub RefusedChangesNothing : Type 0
+RefusedChangesNothing = (L : Limits) (acts ps : List ℕ) (n m : ℕ) (c : Call) → (called L acts ps n m c .counts .number ≡ 0 → ⊥)
+    → called L acts ps n m c ≡ record { counts = counts (callAnswer L acts ps n m c) n m; acts = acts; ps = ps }
+
+-- a history played through the calls, on parts that held anything
+unfoldable pub played : Limits → History → List ℕ → List ℕ → Left
+played L (begun p) acts ps = started L acts ps p
+played L (after h c) acts ps =
+    called L (played L h acts ps .acts) (played L h acts ps .ps) (played L h acts ps .counts .actions) (played L h acts ps .counts .moves) c
+
+-- each call of it is answered 0
+unfoldable pub AllAnswered0 : Limits → History → List ℕ → List ℕ → Type 0
+AllAnswered0 L (begun p) acts ps = played L (begun p) acts ps .counts .number ≡ 0
+AllAnswered0 L (after h c) acts ps = AllAnswered0 L h acts ps × (played L (after h c) acts ps .counts .number ≡ 0)
+
+-- the way back: an accepted history, played on any parts that are long enough, is answered 0 at each call and leaves its bytes and counts
+abbrev pub AcceptedPlays : Type 0
+AcceptedPlays = (L : Limits) (h : History) (acts ps : List ℕ) → longEnough L acts ps ≡ true → Accepted L h
+    → AllAnswered0 L h acts ps
+    × Holding (played L h acts ps .acts) (played L h acts ps .ps) (played L h acts ps .counts .actions) (played L h acts ps .counts .moves) h
+
+-- two logs whose parts are long enough and agree on the used bytes
+pub record SameUsed (L : Limits) (acts bacts ps qs : List ℕ) (n m : ℕ) : Type 0 where
+  pub long : longEnough L acts ps ≡ true
+  pub also-long : longEnough L bacts qs ≡ true
+  pub action-bytes : take (actionSize * n) acts ≡ take (actionSize * n) bacts
+  pub position-bytes : take (positionSize * suc m) ps ≡ take (positionSize * suc m) qs
+
+-- get the same answers: a call looks at nothing past the used actions and positions
+pub record SameAnswers (L : Limits) (acts bacts ps qs : List ℕ) (n m : ℕ) : Type 0 where
+  pub to-call : (c : Call) → callAnswer L acts ps n m c ≡ callAnswer L bacts qs n m c
+  pub to-result : resultAnswer L acts ps n m ≡ resultAnswer L bacts qs n m
+  pub to-claim : claimAnswer L acts ps n m ≡ claimAnswer L bacts qs n m
+
+abbrev pub LooksAtNothingPast : Type 0
+LooksAtNothingPast = (L : Limits) (acts bacts ps qs : List ℕ) (n m : ℕ) → SameUsed L acts bacts ps qs n m → SameAnswers L acts bacts ps qs n m
+
+-- a log that stores its first action and merely says yes to later ones does not keep logs good
+abbrev pub firstOnly : LogCall
+firstOnly L acts ps n m c =
+    cond (eqb n 0) (called L acts ps n m c) (record { counts = counts 0 (n + 1) (cond (isMove c) (m + 1) m); acts = acts; ps = ps })
+
+abbrev pub FirstOnlyIsHollow : Type 0
+FirstOnlyIsHollow = KeepsGood firstOnly → ⊥

@@ -1,0 +1,130 @@
+-- The pass over the log, action by action: it ends early exactly where the log is not good.
+-- Assumes nothing.
+use mathlib.Core.Path.{_≡_, refl, sym, _∙_}
+use mathlib.Core.Bool.{Bool, true, false, cond, not, _&&_, and-true, and-false, false≢true}
+use mathlib.Core.List.{List}
+use Prim.Native.Nat.{ℕ, zero, suc, _+_, _-_, _<_, _≤_}
+use native.Mathlib.Numerals.{add-one}
+use native.Mathlib.Omega.{arith}
+use lib.Dec.{eqb, leb}
+use lib.ListN.{length, getD}
+use borrow.Author.Tests.{eq-eqb, ne-eqb, eqb-true, eqb-false, leb-true, leb-false}
+use Rattle.square.proofs.Numbers.{both-left, both-right, most-each}
+use Rattle.chess_move.specs.Number.{lastMove}
+use Rattle.actions.specs.Part.{moveAt, movesIn}
+use Rattle.game_rules.specs.Limits.{Limits, limits, actionsLength, positionsLength}
+use Rattle.game_rules.specs.Good.{nextSound, sound, isGood}
+use Rattle.good_log.specs.Steps.{notSound, step}
+use Rattle.good_log.proofs.Steps.{stepTo, step-is}
+
+module _ (acts : List ℕ) where
+  moves-step : (i : ℕ) → movesIn acts i ≤ movesIn acts (suc i)
+  unfolding movesIn
+  moves-step i = go (leb (moveAt acts i) lastMove)
+    where
+      go : (t : Bool) → movesIn acts i ≤ cond t (suc (movesIn acts i)) (movesIn acts i)
+      go true = omega arith
+      go false = omega arith
+
+  moves-more : (i d : ℕ) → movesIn acts i ≤ movesIn acts (i + d)
+  moves-more i zero = let e : i + 0 ≡ i = omega arith in rw e (omega arith)
+  moves-more i (suc d) =
+      let e : i + suc d ≡ suc (i + d) = omega arith in
+      rw e (omega (arith, moves-more i d, moves-step (i + d)))
+
+  moves-grow : (i n : ℕ) → i ≤ n → movesIn acts i ≤ movesIn acts n
+  moves-grow i n h = let e : i + (n - i) ≡ n = omega arith in rw e at (moves-more i (n - i))
+
+module _ (L : Limits) (acts ps : List ℕ) where
+  sound-more : (i d : ℕ) → sound L acts ps (suc i + d) ≡ true → nextSound L acts ps i ≡ true
+  unfolding sound
+  sound-more i zero h = let e : suc i + 0 ≡ suc i = omega arith in both-right (sound L acts ps i) (nextSound L acts ps i) (rw e at h)
+  sound-more i (suc d) h =
+      let e : suc i + suc d ≡ suc (suc i + d) = omega arith in
+      sound-more i d (both-left (sound L acts ps (suc i + d)) (nextSound L acts ps (suc i + d)) (rw e at h))
+
+  -- an action that is not sound spoils every longer log
+  sound-all : (i n : ℕ) → i < n → nextSound L acts ps i ≡ false → sound L acts ps n ≡ false
+  sound-all i n h e = go (sound L acts ps n) refl
+    where
+      go : (t : Bool) → sound L acts ps n ≡ t → t ≡ false
+      go true f =
+          let g : suc i + (n - suc i) ≡ n = omega arith in
+          absurd (false≢true (sym e ∙ sound-more i (n - suc i) (rw g f)))
+      go false f = refl
+
+-- a turn of the pass, with k the step's answer
+module _ (acts ps : List ℕ) (n m i k : ℕ) (here : k ≡ stepTo acts ps m i) (less : m < notSound) where
+  pub turn-out : m < k → i < n → isGood limits acts ps n m ≡ false
+  unfolding isGood
+  turn-out over before = go (nextSound limits acts ps i) refl (leb (movesIn acts (suc i)) m) refl
+    where
+      go : (t : Bool) → nextSound limits acts ps i ≡ t → (u : Bool) → leb (movesIn acts (suc i)) m ≡ u → (eqb m (movesIn acts n) && sound limits acts ps n) ≡ false
+      go false e u f = rw (sound-all limits acts ps i n before e, and-false (eqb m (movesIn acts n)))
+      go true e true f =
+          let s : stepTo acts ps m i ≡ movesIn acts (suc i) = rw (e, f) in
+          absurd (omega (arith, leb-true (movesIn acts (suc i)) m f, here ∙ s))
+      go true e false f =
+          let x : m < movesIn acts (suc i) = leb-false (movesIn acts (suc i)) m f in
+          rw (ne-eqb m (movesIn acts n) (λ y. omega (arith, moves-grow acts (suc i) n before)))
+
+  pub turn-on : k ≤ m → (k ≡ movesIn acts (i + 1)) × (nextSound limits acts ps i ≡ true)
+  turn-on fits = rw (add-one i) (go (nextSound limits acts ps i) refl (leb (movesIn acts (suc i)) m) refl)
+    where
+      go : (t : Bool) → nextSound limits acts ps i ≡ t → (u : Bool) → leb (movesIn acts (suc i)) m ≡ u → (k ≡ movesIn acts (suc i)) × (nextSound limits acts ps i ≡ true)
+      go true e true f = let s : stepTo acts ps m i ≡ movesIn acts (suc i) = rw (e, f) in (here ∙ s, e)
+      go true e false f = let s : stepTo acts ps m i ≡ notSound = rw (e, f) in absurd (omega (arith, here ∙ s))
+      go false e u f = let s : stepTo acts ps m i ≡ notSound = rw e in absurd (omega (arith, here ∙ s))
+
+  pub sound-turn : sound limits acts ps i ≡ true → k ≤ m → sound limits acts ps (i + 1) ≡ true
+  unfolding sound
+  sound-turn was fits = rw (add-one i, was, turn-on fits .1)
+
+-- the start, and the end
+pub not-begun : (acts ps : List ℕ) (n m : ℕ) → sound limits acts ps 0 ≡ false → isGood limits acts ps n m ≡ false
+unfolding isGood sound
+not-begun acts ps n m e = rw (spoiled n, and-false (eqb m (movesIn acts n)))
+  where
+    spoiled : (j : ℕ) → sound limits acts ps j ≡ false
+    spoiled zero = e
+    spoiled (suc j) = rw (spoiled j)
+
+pub pass-end : (acts ps : List ℕ) (n m k : ℕ) → k ≡ movesIn acts n → sound limits acts ps n ≡ true → eqb k m ≡ isGood limits acts ps n m
+unfolding isGood
+pass-end acts ps n m k here was = rw (was, and-true (eqb m (movesIn acts n)), ← here) (go (eqb k m) refl)
+  where
+    go : (t : Bool) → eqb k m ≡ t → t ≡ eqb m k
+    go true e = sym (eq-eqb m k (sym (eqb-true k m e)))
+    go false e = sym (ne-eqb m k (λ x. eqb-false k m e (sym x)))
+
+-- the log as the pass is given it, and where the pass stands: after the first i actions, k of them moves
+pub record Given (acts ps : List ℕ) (n m : ℕ) : Type 0 where
+  pub few : n ≤ limits .most-actions
+  pub some : m ≤ limits .most-moves
+  pub room : actionsLength limits ≤ length acts
+  pub place : positionsLength limits ≤ length ps
+
+pub record Going (acts ps : List ℕ) (n m i k : ℕ) : Type 0 where
+  pub far : i ≤ n
+  pub counted : k ≡ movesIn acts i
+  pub within : k ≤ m
+  pub ok : sound limits acts ps i ≡ true
+
+module _ (acts ps : List ℕ) (n m i k : ℕ) (g : Given acts ps n m) (at : Going acts ps n m i k) (before : i < n) (bytes : (j : ℕ) → getD acts j 0 < 256) where
+  going-step : step acts ps m i k ≡ stepTo acts ps m i
+  going-step =
+      step-is acts ps m i k (most-each 255 acts (λ j. omega (arith, bytes j))) (at .counted) (at .within) (at .ok)
+      (omega (arith, g .few)) (g .some) (omega (arith, g .few, g .room)) (omega (arith, at .within, g .some, g .place))
+
+  pub going-out : (r : ℕ) → r ≡ step acts ps m i k → m < r → isGood limits acts ps n m ≡ false
+  going-out r e over = turn-out acts ps n m i r (e ∙ going-step) (omega (arith, g .some)) over before
+
+  pub going-on : (r : ℕ) → r ≡ step acts ps m i k → r ≤ m → Going acts ps n m (i + 1) r
+  going-on r e fits =
+      let less : m < notSound = omega (arith, g .some) in
+      record {
+        far = omega arith;
+        counted = turn-on acts ps n m i r (e ∙ going-step) less fits .0;
+        within = fits;
+        ok = sound-turn acts ps n m i r (e ∙ going-step) less (at .ok) fits;
+      }

@@ -1,0 +1,67 @@
+use mathlib.Core.Path.{_≡_, refl, ap, sym, _∙_}
+use native.Mathlib.Omega.{arith}
+use borrow.Author.Needs.{needs}
+use borrow.Author.Tests.{not-true, not-false}
+use Prim.Native.Nat.{_-_, zero-le}
+use Rattle.actions.specs.Part.{movesIn}
+use Rattle.stored_position.specs.Bytes.{isPosition}
+use Rattle.game_rules.specs.Limits.{limits}
+use Rattle.game_rules.specs.Good.{sound}
+use Rattle.good_log.proofs.Pass.{Going, going-out, going-on, not-begun, pass-end}
+use Rattle.good_log.proofs.is_good.Statement.{statement}
+use Rattle.good_log.proofs.is_good.Tie as tie
+
+abbrev Inv-loop : tie.InvT-loop
+Inv-loop acts ps n m k₀ i₀ k i = Going acts ps n m i k
+
+abbrev μ-loop : tie.MeasureT-loop
+μ-loop acts ps n m k₀ i₀ k i = n - i
+
+at-requires : tie.Need-at-requires Inv-loop μ-loop
+at-requires c κs = search needs
+
+is-position-requires : tie.Need-is-position-requires Inv-loop μ-loop
+is-position-requires c κs = search needs
+
+returns : tie.Need-returns Inv-loop μ-loop
+unfolding sound
+returns c = sym (not-begun (c .before .before .before .before .before .args .acts .now) (c .before .before .before .before .before .args .ps .now) (c .before .before .before .before .before .args .n) (c .before .before .before .before .before .args .m) (ap isPosition (sym (c .before .before .at .ensures)) ∙ sym (c .before .is-position .ensures) ∙ not-true (c .before .is-position .result) (c .if1 .taken)))
+
+loop-holds : tie.Need-loop-holds Inv-loop μ-loop
+unfolding sound movesIn
+loop-holds c = record { far = zero-le; counted = refl; within = zero-le; ok = ap isPosition (sym (c .before .before .at .ensures)) ∙ sym (c .before .is-position .ensures) ∙ not-false (c .before .is-position .result) (c .if1 .left) }
+
+next-requires : tie.Need-next-requires Inv-loop μ-loop
+next-requires c κs = (c .before .loop .inv .within, omega (arith, c .before .before .before .before .before .before .before .pre .0, c .loop-test .taken))
+
+returns-2 : tie.Need-returns-2 Inv-loop μ-loop
+returns-2 c = sym (going-out (c .before .before .before .before .before .before .before .before .before .args .acts .now) (c .before .before .before .before .before .before .before .before .before .args .ps .now) (c .before .before .before .before .before .before .before .before .before .args .n) (c .before .before .before .before .before .before .before .before .before .args .m) (c .before .before .before .loop .i) (c .before .before .before .loop .k) (record { few = c .before .before .before .before .before .before .before .before .before .pre .0; some = c .before .before .before .before .before .before .before .before .before .pre .1; room = c .before .before .before .before .before .before .before .before .before .pre .2; place = c .before .before .before .before .before .before .before .before .before .pre .3 }) (c .before .before .before .loop .inv) (c .before .before .loop-test .taken) (λ j. c .before .before .before .before .before .before .before .before .shared-slice-known .given j .fits) (c .before .next .result) (c .before .next .ensures) (c .if2 .taken))
+
+add-i : tie.Need-add-i Inv-loop μ-loop
+add-i c = omega (arith, c .before .before .before .before .before .before .before .before .before .pre .0, c .before .before .loop-test .taken)
+
+loop-less : tie.Need-loop-less Inv-loop μ-loop
+loop-less c = omega (arith, c .before .before .loop-test .taken)
+
+loop-again : tie.Need-loop-again Inv-loop μ-loop
+loop-again c = going-on (c .before .before .before .before .before .before .before .before .before .args .acts .now) (c .before .before .before .before .before .before .before .before .before .args .ps .now) (c .before .before .before .before .before .before .before .before .before .args .n) (c .before .before .before .before .before .before .before .before .before .args .m) (c .before .before .before .loop .i) (c .before .before .before .loop .k) (record { few = c .before .before .before .before .before .before .before .before .before .pre .0; some = c .before .before .before .before .before .before .before .before .before .pre .1; room = c .before .before .before .before .before .before .before .before .before .pre .2; place = c .before .before .before .before .before .before .before .before .before .pre .3 }) (c .before .before .before .loop .inv) (c .before .before .loop-test .taken) (λ j. c .before .before .before .before .before .before .before .before .shared-slice-known .given j .fits) (c .before .next .result) (c .before .next .ensures) (c .if2 .left)
+
+returns-3 : tie.Need-returns-3 Inv-loop μ-loop
+returns-3 c = let e : c .before .loop .i ≡ c .before .before .before .before .before .before .before .args .n = omega (arith, c .before .loop .inv .far, c .loop-test .left) in pass-end (c .before .before .before .before .before .before .before .args .acts .now) (c .before .before .before .before .before .before .before .args .ps .now) (c .before .before .before .before .before .before .before .args .n) (c .before .before .before .before .before .before .before .args .m) (c .before .loop .k) (c .before .loop .inv .counted ∙ ap (movesIn (c .before .before .before .before .before .before .before .args .acts .now)) e) (ap (sound limits (c .before .before .before .before .before .before .before .args .acts .now) (c .before .before .before .before .before .before .before .args .ps .now)) (sym e) ∙ c .before .loop .inv .ok)
+
+pub is-good-spec : {M : Type 1} → statement M
+is-good-spec =
+    tie.close
+    (tie.spec
+    Inv-loop
+    μ-loop
+    at-requires
+    is-position-requires
+    returns
+    loop-holds
+    next-requires
+    returns-2
+    add-i
+    loop-less
+    loop-again
+    returns-3)

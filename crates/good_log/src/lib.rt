@@ -1,0 +1,155 @@
+// Whether a log is good, in one pass over its used part, after the checks that stand before it.
+use action::Action;
+use action::Stored;
+use board_builder::SIDE_AT;
+use chess_move::LAST_MOVE;
+use ending::GOES_ON;
+use game_rules::ACTIONS_LENGTH;
+use game_rules::MAX_ACTIONS;
+use game_rules::MAX_MOVES;
+use game_rules::POSITIONS_LENGTH;
+use square::ACCEPTED;
+use square::NOT_GOOD;
+use square::NOT_LISTED;
+use square::NO_CLAIM;
+use square::NO_OFFER;
+use square::OUT_OF_RANGE;
+use square::PART_TOO_SHORT;
+ghost use mathlib.Core.Path.{_≡_};
+ghost use Prim.Native.Nat.{_+_, _≤_, _<_};
+ghost use lib.ListN.{length};
+ghost use Rattle.action.specs.Layout.{colourCheck};
+ghost use Rattle.game_rules.specs.Limits.{limits, actionsLength, positionsLength};
+ghost use Rattle.game_rules.specs.Rules.{unless};
+ghost use Rattle.game_rules.specs.Good.{isGood};
+ghost use Rattle.game_rules.specs.Calls.{logCheck};
+ghost use Rattle.good_log.specs.Steps.{otherCheck, otherFits, moveFits, moveStep, otherStep, step};
+
+// More moves than a log may have: what a step gives for an action that is not sound.
+const NOT_SOUND: usize = MAX_MOVES + 1;
+
+fn number_unless(ok: bool, number: u64) -> u64
+    ensures { λ r. ⌜ r ≡ unless ok number ⌝ }
+{
+    if ok { ACCEPTED } else { number }
+}
+
+fn colour_check(colour: u8) -> u64
+    ensures { λ r. ⌜ r ≡ colourCheck colour ⌝ }
+{
+    number_unless(colour <= action::BLACK, OUT_OF_RANGE)
+}
+
+// The own checks of an action without a move, after the first `n` actions with position `m` on the board: 5 for an offer or a resignation, else 14 or 15.
+pub fn other_check(acts: &[u8], ps: &[u8], n: usize, m: usize, action: Action) -> u64
+    ensures { λ r. ⌜ r ≡ otherCheck (now (acts .entry)) (now (ps .entry)) n m action ⌝ }
+{
+    match action {
+        Action::MakeMove(_) => NOT_LISTED,
+        Action::OfferDraw(colour) => colour_check(colour),
+        Action::AcceptDraw => number_unless(ending::offer_stands(acts, ps, n, m), NO_OFFER),
+        Action::DeclareDraw => number_unless(claim::stands(acts, ps, n, m), NO_CLAIM),
+        Action::Resign(colour) => colour_check(colour),
+    }
+}
+
+fn other_fits(acts: &[u8], ps: &[u8], i: usize, k: usize, stored: Stored) -> bool
+    ensures { λ r. ⌜ r ≡ otherFits (now (acts .entry)) (now (ps .entry)) i k stored ⌝ }
+{
+    match stored {
+        Stored::Holds(action) => other_check(acts, ps, i, k, action) == ACCEPTED,
+        Stored::Nothing => false,
+    }
+}
+
+fn move_fits(p: &[u8], m: u64, q: &[u8]) -> bool
+    ensures { λ r. ⌜ r ≡ moveFits (now (p .entry)) m (now (q .entry)) ⌝ }
+{
+    if !stored_position::lists(p, m) {
+        return false;
+    }
+    if !stored_position::is_position(q) {
+        return false;
+    }
+    square::byte_at(q, SIDE_AT) != square::byte_at(p, SIDE_AT)
+}
+
+fn move_step(ps: &[u8], m: usize, k: usize, x: u64) -> usize
+    requires { ⌜ k ≤ m ⌝ }
+    ensures { λ r. ⌜ r ≡ moveStep (now (ps .entry)) m k x ⌝ }
+{
+    if k == m {
+        return NOT_SOUND;
+    }
+    if move_fits(position::at(ps, k), x, position::at(ps, k + 1)) {
+        return k + 1;
+    }
+    NOT_SOUND
+}
+
+fn other_step(acts: &[u8], ps: &[u8], i: usize, k: usize) -> usize
+    requires { ⌜ i < 2048 ⌝ }
+    ensures { λ r. ⌜ r ≡ otherStep (now (acts .entry)) (now (ps .entry)) i k ⌝ }
+{
+    if other_fits(acts, ps, i, k, actions::last(acts, i + 1)) {
+        return k;
+    }
+    NOT_SOUND
+}
+
+// The moves after action `i`, `k` of them before it and `m` in all; more than a log may have if the action was not accepted there.
+fn next(acts: &[u8], ps: &[u8], m: usize, i: usize, k: usize) -> usize
+    requires { ⌜ (k ≤ m) × (i < 2048) ⌝ }
+    ensures { λ r. ⌜ r ≡ step (now (acts .entry)) (now (ps .entry)) m i k ⌝ }
+{
+    if ending::result(acts, ps, i, k) != GOES_ON {
+        return NOT_SOUND;
+    }
+    let x = actions::move_at(acts, i);
+    if x <= LAST_MOVE {
+        return move_step(ps, m, k, x);
+    }
+    other_step(acts, ps, i, k)
+}
+
+// Whether some sequence of accepted calls from a start makes the log.
+fn is_good(acts: &[u8], ps: &[u8], n: usize, m: usize) -> bool
+    requires { ⌜ (n ≤ limits .most-actions) × (m ≤ limits .most-moves) × (actionsLength limits ≤ length (now acts)) × (positionsLength limits ≤ length (now ps)) ⌝ }
+    ensures { λ r. ⌜ r ≡ isGood limits (now (acts .entry)) (now (ps .entry)) n m ⌝ }
+{
+    if !stored_position::is_position(position::at(ps, 0)) {
+        return false;
+    }
+    let mut k: usize = 0;
+    let mut i: usize = 0;
+    while i < n {
+        k = next(acts, ps, m, i, k);
+        if m < k {
+            return false;
+        }
+        i += 1;
+    }
+    k == m
+}
+
+// The checks that stand before each call's and query's own: 16, then 9.
+pub fn check(acts: &[u8], ps: &[u8], n: usize, m: usize) -> u64
+    ensures { λ r. ⌜ r ≡ logCheck limits (now (acts .entry)) (now (ps .entry)) n m ⌝ }
+{
+    if acts.len() < ACTIONS_LENGTH {
+        return PART_TOO_SHORT;
+    }
+    if ps.len() < POSITIONS_LENGTH {
+        return PART_TOO_SHORT;
+    }
+    if MAX_ACTIONS < n {
+        return NOT_GOOD;
+    }
+    if MAX_MOVES < m {
+        return NOT_GOOD;
+    }
+    if is_good(acts, ps, n, m) {
+        return ACCEPTED;
+    }
+    NOT_GOOD
+}

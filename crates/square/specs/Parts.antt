@@ -1,0 +1,13 @@
+-- A lent part that holds items of one size, one after the other, and bytes written over others.
+-- Assumes nothing.
+use mathlib.Core.List.{List, _++_}
+use Prim.Native.Nat.{ℕ, _+_, _*_}
+use lib.ListN.{length, take, drop}
+
+-- item k of a part; where the part ends before it does, what there is of it
+abbrev pub item : ℕ → List ℕ → ℕ → List ℕ
+item size part k = take size (drop (size * k) part)
+
+-- the part with some bytes over what stood from a place on
+abbrev pub written : List ℕ → ℕ → List ℕ → List ℕ
+written part at bytes = take at part ++ bytes ++ drop (at + length bytes) part

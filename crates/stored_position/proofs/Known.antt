@@ -1,0 +1,132 @@
+-- Bytes known as those of a position: the largest move of the list, move by move, and what is left to look at once the checks pass.
+-- Assumes nothing.
+use mathlib.Core.Path.{_≡_, refl, ap, ap₂, sym, _∙_}
+use mathlib.Core.Bool.{Bool, true, false, _&&_}
+use mathlib.Core.List.{List, [], _∷_, _++_}
+use Prim.Native.Nat.{ℕ, zero, suc, _+_, _*_, _-_, _<_, _≤_, max}
+use native.Mathlib.Omega.{arith}
+use lib.Dec.{eqb, leb, eqb·suc-zero, leb·suc-zero}
+use lib.ListN.{length, take, drop, getD, replicate, length-drop, take-append-drop}
+use lib.Seq.{drop-cons, drop-drop, take-all}
+use borrow.Author.Tests.{eq-eqb, eqb-true, le-leb}
+use Rattle.square.specs.Numbers.{allAtMost, largest, same}
+use Rattle.square.proofs.Maxima.{largest-at-most, max-none}
+use Rattle.square.proofs.Same.{same-lengths}
+use Rattle.board_builder.specs.BoardBuilder.{recordSize}
+use Rattle.chess_move.specs.Number.{lastMove, ofBytes}
+use Rattle.move_list.specs.MoveList.{longestList, listInRange}
+use Rattle.position.specs.Layout.{checkAt, lengthAt, movesAt, positionSize, movesFrom, positionOf}
+use Rattle.position.proofs.Moves.{AllBytes, length-moves, take-two}
+use Rattle.stored_position.specs.Bytes.{moveBytes, positionBytes, positionCheck, isPosition}
+use Rattle.stored_position.proofs.Bytes.{length-position}
+use Rattle.stored_position.proofs.Checks.{position-fits}
+
+-- the start of the loop over the list, a turn, and its end
+pub largest-start : (s : List ℕ) (k : ℕ) → max 0 (largest (movesFrom s movesAt (k - 0))) ≡ largest (movesFrom s movesAt k)
+largest-start s k =
+    let e : k - 0 ≡ k = omega arith in
+    rw e (max-none (largest (movesFrom s movesAt k)))
+
+pub largest-next : (s : List ℕ) (k m i : ℕ) → i < k
+    → max m (largest (movesFrom s (movesAt + 2 * i) (k - i)))
+    ≡ max (max m (ofBytes (getD s (movesAt + 2 * i) 0) (getD s (movesAt + 2 * i + 1) 0))) (largest (movesFrom s (movesAt + 2 * (i + 1)) (k - (i + 1))))
+unfolding movesFrom largest
+largest-next s k m i h =
+    let e : k - i ≡ suc (k - (i + 1)) = omega arith in
+    let f : movesAt + 2 * (i + 1) ≡ movesAt + 2 * i + 2 = omega arith in
+    rw (e, f) (omega arith)
+
+pub largest-done : (s : List ℕ) (at k m i : ℕ) → k ≤ i → max m (largest (movesFrom s at (k - i))) ≡ m
+unfolding movesFrom largest
+largest-done s at k m i h =
+    let e : k - i ≡ 0 = omega arith in
+    rw e (omega arith)
+
+-- a list that is read from bytes is short enough: its range is that of its largest move
+pub read-list : (s : List ℕ) → AllBytes s → listInRange (positionOf s .moves) ≡ leb (largest (positionOf s .moves)) lastMove
+unfolding listInRange positionOf
+read-list s b =
+    let n = getD s lengthAt 0 in
+    rw (length-moves s movesAt n, le-leb n longestList (omega (arith, b lengthAt))) (sym (largest-at-most lastMove (movesFrom s movesAt n)))
+
+same-front : (a x y : List ℕ) → same (a ++ x) (a ++ y) ≡ same x y
+unfolding same
+same-front [] x y = refl
+same-front (b ∷ a) x y = rw (eq-eqb b b refl) (same-front a x y)
+
+is-zero : (a : ℕ) → leb a 0 ≡ eqb a 0
+is-zero zero = refl
+is-zero (suc a) = leb·suc-zero a ∙ sym (eqb·suc-zero a)
+
+same-zeros : (x : List ℕ) → same x (replicate (length x) 0) ≡ allAtMost 0 x
+unfolding same allAtMost
+same-zeros [] = refl
+same-zeros (a ∷ x) = ap₂ _&&_ (sym (is-zero a)) (same-zeros x)
+
+-- the bytes of the moves that were read are the bytes they were read from
+read-bytes : (s : List ℕ) → AllBytes s → (k at : ℕ) → at + 2 * k ≤ length s → moveBytes (movesFrom s at k) ≡ take (2 * k) (drop at s)
+unfolding moveBytes movesFrom
+read-bytes s b zero at h = refl
+read-bytes s b (suc k) at h =
+    rw (take-two s at k h)
+    (ap₂ _∷_ (omega (arith, b at)) (ap₂ _∷_ (omega (arith, b at)) (read-bytes s b k (at + 2) (omega arith))))
+
+-- bytes of a position's size are those of the position that is read from them exactly if all past the list are 0
+module _ (s : List ℕ) (b : AllBytes s) (whole : length s ≡ positionSize) where
+  abbrev k : ℕ
+  k = getD s lengthAt 0
+
+  abbrev list : List ℕ
+  list = take (2 * k) (drop movesAt s)
+
+  abbrev pub past : List ℕ
+  past = drop (movesAt + 2 * getD s lengthAt 0) s
+
+  in-pieces : s ≡ take recordSize s ++ (getD s checkAt 0 ∷ k ∷ (list ++ past))
+  in-pieces =
+      sym (take-append-drop recordSize s)
+      ∙ ap (λ (x : List ℕ). take recordSize s ++ x)
+      (drop-cons s checkAt 0 (omega arith)
+      ∙ ap (λ (x : List ℕ). getD s checkAt 0 ∷ x)
+      (drop-cons s lengthAt 0 (omega arith)
+      ∙ ap (λ (x : List ℕ). k ∷ x)
+      (sym (take-append-drop (2 * k) (drop movesAt s)) ∙ ap (λ (x : List ℕ). list ++ x) (drop-drop (2 * k) movesAt s))))
+
+  written-back : positionBytes (positionOf s) ≡ take recordSize s ++ (getD s checkAt 0 ∷ k ∷ (list ++ replicate (length past) 0))
+  unfolding positionBytes positionOf
+  written-back =
+      let e : length past ≡ 2 * (longestList - k) = length-drop (movesAt + 2 * k) s ∙ omega (arith, b lengthAt) in
+      rw (e, length-moves s movesAt k, read-bytes s b k movesAt (omega (arith, b lengthAt)))
+
+  same-past : same (getD s checkAt 0 ∷ k ∷ (list ++ past)) (getD s checkAt 0 ∷ k ∷ (list ++ replicate (length past) 0)) ≡ allAtMost 0 past
+  unfolding same
+  same-past = rw (eq-eqb (getD s checkAt 0) (getD s checkAt 0) refl, eq-eqb k k refl, same-front list past _) (same-zeros past)
+
+  -- the part that a slice from there on is
+  pub past-part : take (length s - (movesAt + 2 * getD s lengthAt 0)) past ≡ past
+  past-part = take-all (length s - (movesAt + 2 * k)) past (rw (length-drop (movesAt + 2 * k) s) (omega arith))
+
+  pub known : positionCheck (positionOf s) ≡ 0 → isPosition s ≡ eqb (largest past) 0
+  unfolding isPosition
+  known e =
+      rw e
+      (ap₂ same in-pieces written-back
+      ∙ same-front (take recordSize s) _ _
+      ∙ same-past
+      ∙ sym (largest-at-most 0 past)
+      ∙ is-zero (largest past))
+
+-- the refusals: a position out of range, and another size
+pub not-in-range : (s : List ℕ) (n : ℕ) → positionCheck (positionOf s) ≡ suc n → isPosition s ≡ false
+unfolding isPosition
+not-in-range s n e = rw (e, eqb·suc-zero n)
+
+pub other-size : (s : List ℕ) → (length s ≡ positionSize → ⊥) → isPosition s ≡ false
+unfolding isPosition
+other-size s n = go (eqb (positionCheck (positionOf s)) 0) refl
+  where
+    go : (t : Bool) → eqb (positionCheck (positionOf s)) 0 ≡ t → (t && same s (positionBytes (positionOf s))) ≡ false
+    go true e =
+        let p = position-fits (positionOf s) (eqb-true _ _ e) in
+        same-lengths s (positionBytes (positionOf s)) (λ h. n (h ∙ length-position (positionOf s) (p .wide) (p .short)))
+    go false e = refl

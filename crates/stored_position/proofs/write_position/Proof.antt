@@ -1,0 +1,65 @@
+use mathlib.Core.Path.{_≡_}
+use lib.ListN.{length}
+use borrow.Author.Needs.{needs, length-unmapped}
+use Rattle.board_builder.specs.BoardBuilder.{squares, numbers}
+use Rattle.stored_position.proofs.Checks.{length-numbers}
+use Rattle.stored_position.proofs.Writes.{position-written}
+use Rattle.stored_position.proofs.write_position.Statement.{statement}
+use Rattle.stored_position.proofs.write_position.Tie as tie
+
+write-record-requires : tie.Need-write-record-requires
+write-record-requires c κs = search needs
+
+cast-t12 : tie.Need-cast-t12
+cast-t12 c = search needs
+
+slice-aggregate-write-bytes : tie.Need-slice-aggregate-write-bytes
+slice-aggregate-write-bytes c = search needs
+
+write-bytes-requires : tie.Need-write-bytes-requires
+write-bytes-requires c κs = search needs
+
+write-moves-requires : tie.Need-write-moves-requires
+write-moves-requires c κs = search needs
+
+mul-end : tie.Need-mul-end
+mul-end c = search needs
+
+add-end : tie.Need-add-end
+add-end c = search needs
+
+sub-write-zeros : tie.Need-sub-write-zeros
+sub-write-zeros c = search needs
+
+write-zeros-requires : tie.Need-write-zeros-requires
+write-zeros-requires c κs = search needs
+
+same-length : tie.Need-same-length
+same-length c = search needs
+
+returns : tie.Need-returns
+returns c =
+    let start = c .before .before .before .before .before .before .before .before .before .before .before .before .before .before .before .before .before .before .before in
+    let a = start .args in
+    let long : length (a .b .pieces) ≡ squares = search length-unmapped in
+    position-written (a .out .now) (numbers (a .b)) (a .in-check) (a .list .now) (length-numbers (a .b) long) (start .pre .1) (start .pre .0) _ _ _ _
+    (c .before .before .before .before .before .before .before .before .before .before .before .before .before .before .before .write-record .ensures)
+    (c .before .before .before .before .before .before .before .before .before .before .write-bytes .ensures)
+    (c .before .before .before .before .before .before .write-moves .ensures)
+    (c .before .before .write-zeros .ensures)
+
+pub write-position-spec : {M : Type 1} → statement M
+write-position-spec =
+    tie.close
+    (tie.spec
+    write-record-requires
+    cast-t12
+    slice-aggregate-write-bytes
+    write-bytes-requires
+    write-moves-requires
+    mul-end
+    add-end
+    sub-write-zeros
+    write-zeros-requires
+    same-length
+    returns)

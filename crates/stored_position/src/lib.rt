@@ -1,0 +1,192 @@
+// The bytes of a position in the log: written, and known again.
+use board_builder::BoardBuilder;
+use board_builder::RECORD_SIZE;
+use board_builder::SIDE_AT;
+use chess_move::LAST_MOVE;
+use position::CHECK_AT;
+use position::LENGTH_AT;
+use position::MOVES_AT;
+use position::POSITION_SIZE;
+use square::ACCEPTED;
+use square::Answer;
+use square::BAD_LIST;
+use square::OUT_OF_RANGE;
+use square::OUTPUT_TOO_SHORT;
+ghost use mathlib.Core.Path.{_≡_};
+ghost use Prim.Native.Nat.{_+_, _*_, _≤_, max};
+ghost use lib.ListN.{length, replicate};
+ghost use Rattle.square.specs.Answer.{writeAnswer, writeBytes};
+ghost use Rattle.square.specs.Numbers.{largest};
+ghost use Rattle.square.specs.Parts.{written};
+ghost use Rattle.board_builder.specs.BoardBuilder.{recordSize, numbers};
+ghost use Rattle.move_list.specs.MoveList.{longestList};
+ghost use Rattle.chess_move.specs.Number.{ofBytes};
+ghost use Rattle.position.specs.Layout.{positionSize, positionOf};
+ghost use Rattle.stored_position.specs.Bytes.{moveBytes, positionBytes, positionCheck, positionGiven, isPosition, listsMove};
+
+// What is wrong with a position: 5 for the board or the in-check byte, 6 for the list, or 0.
+pub fn check(b: BoardBuilder, in_check: u8, list: &[u16]) -> u64
+    ensures { λ r. ⌜ r ≡ positionCheck (positionGiven b in_check (now (list .entry))) ⌝ }
+{
+    if !b.in_range() {
+        return OUT_OF_RANGE;
+    }
+    if 1 < in_check {
+        return OUT_OF_RANGE;
+    }
+    if !move_list::in_range(list) {
+        return BAD_LIST;
+    }
+    ACCEPTED
+}
+
+fn write_bytes(bytes: &[u8], at: usize, out: &mut [u8])
+    requires { ⌜ at + length (now bytes) ≤ length (now out) ⌝ }
+    ensures { λ r. ⌜ now (out .exit) ≡ written (now (out .entry)) at (now (bytes .entry)) ⌝ }
+{
+    let mut i: usize = 0;
+    while i < bytes.len() {
+        out[at + i] = bytes[i];
+        i += 1;
+    }
+}
+
+fn write_record(b: BoardBuilder, out: &mut [u8])
+    requires { ⌜ recordSize ≤ length (now out) ⌝ }
+    ensures { λ r. ⌜ now (out .exit) ≡ written (now (out .entry)) 0 (numbers b) ⌝ }
+{
+    let pieces = b.pieces;
+    write_bytes(&pieces, 0, out);
+    let rest = [
+        b.side_to_move,
+        b.white_castle_rights,
+        b.black_castle_rights,
+        b.en_passant,
+    ];
+    write_bytes(&rest, SIDE_AT, out);
+}
+
+// Two bytes a move, low first.
+fn write_moves(list: &[u16], at: usize, out: &mut [u8])
+    requires { ⌜ at + 2 * length (now list) ≤ length (now out) ⌝ }
+    ensures { λ r. ⌜ now (out .exit) ≡ written (now (out .entry)) at (moveBytes (now (list .entry))) ⌝ }
+{
+    let mut i: usize = 0;
+    while i < list.len() {
+        let m = list[i];
+        let to = at + 2 * i;
+        out[to] = (m % 256) as u8;
+        out[to + 1] = (m / 256) as u8;
+        i += 1;
+    }
+}
+
+fn write_zeros(count: usize, at: usize, out: &mut [u8])
+    requires { ⌜ at + count ≤ length (now out) ⌝ }
+    ensures { λ r. ⌜ now (out .exit) ≡ written (now (out .entry)) at (replicate count 0) ⌝ }
+{
+    let mut i: usize = 0;
+    while i < count {
+        out[at + i] = 0;
+        i += 1;
+    }
+}
+
+fn write_position(b: BoardBuilder, in_check: u8, list: &[u16], out: &mut [u8])
+    requires { ⌜ (positionSize ≤ length (now out)) × (length (now list) ≤ longestList) ⌝ }
+    ensures { λ r. ⌜ now (out .exit) ≡ written (now (out .entry)) 0 (positionBytes (positionGiven b in_check (now (list .entry)))) ⌝ }
+{
+    let entries = list.len();
+    write_record(b, out);
+    let two = [in_check, (entries % 256) as u8];
+    write_bytes(&two, CHECK_AT, out);
+    write_moves(list, MOVES_AT, out);
+    let end = MOVES_AT + 2 * entries;
+    write_zeros(POSITION_SIZE - end, end, out);
+}
+
+// Writes a position to the front of `out`. Checks 5, 6, then 7.
+pub fn to_bytes(b: BoardBuilder, in_check: u8, list: &[u16], out: &mut [u8]) -> Answer
+    ensures answer { λ r. ⌜ r ≡ writeAnswer (positionCheck (positionGiven b in_check (now (list .entry)))) (positionBytes (positionGiven b in_check (now (list .entry)))) (length (now (out .entry))) ⌝ }
+    ensures bytes { λ r. ⌜ now (out .exit) ≡ writeBytes (positionCheck (positionGiven b in_check (now (list .entry)))) (positionBytes (positionGiven b in_check (now (list .entry)))) (now (out .entry)) ⌝ }
+{
+    let number = check(b, in_check, list);
+    if number != ACCEPTED {
+        return square::refused(number);
+    }
+    if out.len() < POSITION_SIZE {
+        return Answer {
+            number: OUTPUT_TOO_SHORT,
+            value: POSITION_SIZE as u64,
+        };
+    }
+    write_position(b, in_check, list, out);
+    square::accepted(POSITION_SIZE as u64)
+}
+
+fn larger(a: u16, b: u16) -> u16
+    ensures { λ r. ⌜ r ≡ max a b ⌝ }
+{
+    if a < b { b } else { a }
+}
+
+// The largest move of the list, 0 of none: with no branch, so that the moves are taken many at a time.
+fn largest_move(s: &[u8]) -> u16
+    requires { ⌜ length (now s) ≡ positionSize ⌝ }
+    ensures { λ r. ⌜ r ≡ largest (positionOf (now (s .entry)) .moves) ⌝ }
+{
+    let entries = s[LENGTH_AT] as usize;
+    let mut most: u16 = 0;
+    let mut i: usize = 0;
+    while i < entries {
+        let at = MOVES_AT + 2 * i;
+        most = larger(most, s[at] as u16 + 256 * (s[at + 1] as u16));
+        i += 1;
+    }
+    most
+}
+
+// Whether bytes are exactly those of a position in range.
+pub fn is_position(s: &[u8]) -> bool
+    ensures { λ r. ⌜ r ≡ isPosition (now (s .entry)) ⌝ }
+{
+    if s.len() != POSITION_SIZE {
+        return false;
+    }
+    if !board_builder::numbers_in_range(&s[..RECORD_SIZE]) {
+        return false;
+    }
+    if 1 < s[CHECK_AT] {
+        return false;
+    }
+    if LAST_MOVE < largest_move(s) as u64 {
+        return false;
+    }
+    let end = MOVES_AT + 2 * (s[LENGTH_AT] as usize);
+    square::largest(&s[end..]) == 0
+}
+
+fn number_of(low: u8, high: u8) -> u64
+    ensures { λ r. ⌜ r ≡ ofBytes low high ⌝ }
+{
+    low as u64 + 256 * high as u64
+}
+
+// Whether the list of a position has a move; bytes that are not as long as a position have none.
+pub fn lists(s: &[u8], m: u64) -> bool
+    ensures { λ r. ⌜ r ≡ listsMove (now (s .entry)) m ⌝ }
+{
+    if s.len() != POSITION_SIZE {
+        return false;
+    }
+    let entries = s[LENGTH_AT] as usize;
+    let mut i: usize = 0;
+    while i < entries {
+        let at = MOVES_AT + 2 * i;
+        if number_of(s[at], s[at + 1]) == m {
+            return true;
+        }
+        i += 1;
+    }
+    false
+}
