@@ -189,7 +189,11 @@ pub fn make_move(
     if number != ACCEPTED {
         return counts(number, actions, moves);
     }
-    put_action(acts, actions, Action::MakeMove(ChessMove::from_number(x as u16)));
+    put_action(
+        acts,
+        actions,
+        Action::MakeMove(ChessMove::from_number(x as u16)),
+    );
     put_position(ps, moves + 1, next, in_check, list);
     counts(ACCEPTED, actions + 1, moves + 1)
 }

@@ -149,9 +149,9 @@ module _ (L : Limits) (acts ps : List ℕ) (n m : ℕ) (h : History) (c : Call) 
       by-kind
       (λ d. answer L h d ≡ 0 → take (length (positionMade d)) (drop (positionSize * suc m) ps) ≡ positionMade d → callOf (Holds (actionMade d)) (positionAt ps (suc m)) ≡ d)
       (λ k p f s.
-        let check = move-says L h k p f .check in
-        ap₂ makeMove (ap (λ (x : Answer). x .value) (number-of-parts k (accepted-number L h k p a f)))
-        (ap positionOf (rw (one-size p check) at s) ∙ position-round p check))
+      let check = move-says L h k p f .check in
+      ap₂ makeMove (ap (λ (x : Answer). x .value) (number-of-parts k (accepted-number L h k p a f)))
+      (ap positionOf (rw (one-size p check) at s) ∙ position-round p check))
       (λ d no f s. call-of-action d (positionAt ps (suc m)) no)
       c e
 

@@ -165,7 +165,13 @@ pub extern "C" fn menkhodur_game_make_move(
 }
 
 #[no_mangle]
-pub extern "C" fn menkhodur_game_offer_draw(acts: &mut [u8], ps: &[u8], n: u64, m: u64, colour: u8) -> Counts
+pub extern "C" fn menkhodur_game_offer_draw(
+    acts: &mut [u8],
+    ps: &[u8],
+    n: u64,
+    m: u64,
+    colour: u8,
+) -> Counts
     ensures counts { λ r. ⌜ r ≡ countsAfter (callAnswer limits (now (acts .entry)) (now (ps .entry)) n m (offerDraw colour)) n m (offerDraw colour) ⌝ }
     ensures actions { λ r. ⌜ now (acts .exit) ≡ actionsAfter (callAnswer limits (now (acts .entry)) (now (ps .entry)) n m (offerDraw colour)) (now (acts .entry)) n (offerDraw colour) ⌝ }
 {
@@ -173,7 +179,13 @@ pub extern "C" fn menkhodur_game_offer_draw(acts: &mut [u8], ps: &[u8], n: u64, 
 }
 
 #[no_mangle]
-pub extern "C" fn menkhodur_game_resign(acts: &mut [u8], ps: &[u8], n: u64, m: u64, colour: u8) -> Counts
+pub extern "C" fn menkhodur_game_resign(
+    acts: &mut [u8],
+    ps: &[u8],
+    n: u64,
+    m: u64,
+    colour: u8,
+) -> Counts
     ensures counts { λ r. ⌜ r ≡ countsAfter (callAnswer limits (now (acts .entry)) (now (ps .entry)) n m (resign colour)) n m (resign colour) ⌝ }
     ensures actions { λ r. ⌜ now (acts .exit) ≡ actionsAfter (callAnswer limits (now (acts .entry)) (now (ps .entry)) n m (resign colour)) (now (acts .entry)) n (resign colour) ⌝ }
 {

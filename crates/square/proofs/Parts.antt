@@ -68,9 +68,17 @@ bytes-turn l bytes at i h k =
     let e : take (i + 1) bytes ≡ take i bytes ++ (getD bytes i 0 ∷ []) = rw add-one (take-suc bytes i 0 k) in
     written-next l at (take i bytes) (omega arith) (at + i) (getD bytes i 0) (omega arith) (omega arith) ∙ ap (written l at) (sym e)
 
-pub zeros-turn : (l : List ℕ) (at i count : ℕ) → at + count ≤ length l → i < count
+zeros-more : (l : List ℕ) (at i count : ℕ) → at + count ≤ length l → i < count
     → set (written l at (replicate i 0)) (at + i) 0 ≡ written l at (replicate (i + 1) 0)
-zeros-turn l at i count h k =
+zeros-more l at i count h k =
     let n : length (replicate {A = ℕ} i 0) ≡ i = length-replicate i 0 in
     let e : replicate (i + 1) 0 ≡ replicate {A = ℕ} i 0 ++ (0 ∷ []) = sym (replicate-append-replicate i 1 0) in
     written-next l at (replicate i 0) (omega arith) (at + i) 0 (omega arith) (omega arith) ∙ ap (written l at) (sym e)
+
+pub zeros-turn : (l : List ℕ) (at i : ℕ) → at ≤ i → i < length l → set (written l at (replicate (i - at) 0)) i 0 ≡ written l at (replicate (i + 1 - at) 0)
+zeros-turn l at i h k =
+    let e : at + (i - at) ≡ i = omega arith in
+    let f : i - at + 1 ≡ i + 1 - at = omega arith in
+    ap (λ (j : ℕ). set (written l at (replicate (i - at) 0)) j 0) (sym e)
+    ∙ zeros-more l at (i - at) (length l - at) (omega arith) (omega arith)
+    ∙ ap (λ (j : ℕ). written l at (replicate j 0)) f

@@ -2,7 +2,7 @@
 -- Assumes nothing.
 use mathlib.Core.Path.{_≡_, ap, sym, _∙_}
 use mathlib.Core.List.{List, [], _∷_, _++_, append-assoc}
-use Prim.Native.Nat.{ℕ, _+_, _*_, _-_, _%_, _<_, _≤_}
+use Prim.Native.Nat.{ℕ, _+_, _*_, _-_, _<_, _≤_}
 use native.Mathlib.Omega.{arith}
 use lib.ListN.{length, replicate, length-append, length-replicate}
 use Rattle.square.specs.Answer.{accepted, refused, tooShort}
@@ -30,7 +30,7 @@ record-written b l m n long h e f =
 -- the record, the two bytes behind it, the moves, and zeros to the end
 module _ (l b : List ℕ) (check : ℕ) (list : List ℕ) (wide : length b ≡ recordSize) (short : length list ≤ longestList) (room : positionSize ≤ length l) where
   abbrev two : List ℕ
-  two = check ∷ length list % 256 ∷ []
+  two = check ∷ length list ∷ []
 
   abbrev to : ℕ
   to = movesAt + 2 * length list
@@ -53,11 +53,9 @@ module _ (l b : List ℕ) (check : ℕ) (list : List ℕ) (wide : length b ≡ r
   unfolding positionBytes
   whole =
       let mb : List ℕ = moveBytes list in
-      let small : length list % 256 ≡ length list = omega arith in
       let as-many : positionSize - to ≡ 2 * (longestList - length list) = omega arith in
       append-assoc (b ++ two) mb zeros
       ∙ append-assoc b two (mb ++ zeros)
-      ∙ ap (λ (k : ℕ). b ++ (check ∷ k ∷ (mb ++ zeros))) small
       ∙ ap (λ (k : ℕ). b ++ (check ∷ length list ∷ (mb ++ replicate k 0))) as-many
 
   pub position-written : (l₁ l₂ l₃ l₄ : List ℕ) → l₁ ≡ written l 0 b → l₂ ≡ written l₁ checkAt two → l₃ ≡ written l₂ movesAt (moveBytes list)

@@ -13,7 +13,7 @@ use square::BAD_LIST;
 use square::OUT_OF_RANGE;
 use square::OUTPUT_TOO_SHORT;
 ghost use mathlib.Core.Path.{_≡_};
-ghost use Prim.Native.Nat.{_+_, _*_, _≤_, max};
+ghost use Prim.Native.Nat.{_+_, _*_, _-_, _≤_, max};
 ghost use lib.ListN.{length, replicate};
 ghost use Rattle.square.specs.Answer.{writeAnswer, writeBytes};
 ghost use Rattle.square.specs.Numbers.{largest};
@@ -81,13 +81,13 @@ fn write_moves(list: &[u16], at: usize, out: &mut [u8])
     }
 }
 
-fn write_zeros(count: usize, at: usize, out: &mut [u8])
-    requires { ⌜ at + count ≤ length (now out) ⌝ }
-    ensures { λ r. ⌜ now (out .exit) ≡ written (now (out .entry)) at (replicate count 0) ⌝ }
+fn write_zeros(from: usize, to: usize, out: &mut [u8])
+    requires { ⌜ to ≤ length (now out) ⌝ }
+    ensures { λ r. ⌜ now (out .exit) ≡ written (now (out .entry)) from (replicate (to - from) 0) ⌝ }
 {
-    let mut i: usize = 0;
-    while i < count {
-        out[at + i] = 0;
+    let mut i: usize = from;
+    while i < to {
+        out[i] = 0;
         i += 1;
     }
 }
@@ -98,11 +98,10 @@ fn write_position(b: BoardBuilder, in_check: u8, list: &[u16], out: &mut [u8])
 {
     let entries = list.len();
     write_record(b, out);
-    let two = [in_check, (entries % 256) as u8];
+    let two = [in_check, entries as u8];
     write_bytes(&two, CHECK_AT, out);
     write_moves(list, MOVES_AT, out);
-    let end = MOVES_AT + 2 * entries;
-    write_zeros(POSITION_SIZE - end, end, out);
+    write_zeros(MOVES_AT + 2 * entries, POSITION_SIZE, out);
 }
 
 // Writes a position to the front of `out`. Checks 5, 6, then 7.

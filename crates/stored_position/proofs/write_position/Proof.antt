@@ -1,3 +1,4 @@
+use borrow.Author.Needs.{needs}
 use mathlib.Core.Path.{_≡_}
 use lib.ListN.{length}
 use borrow.Author.Needs.{needs, length-unmapped}
@@ -10,8 +11,8 @@ use Rattle.stored_position.proofs.write_position.Tie as tie
 write-record-requires : tie.Need-write-record-requires
 write-record-requires c κs = search needs
 
-cast-t12 : tie.Need-cast-t12
-cast-t12 c = search needs
+cast-t10 : tie.Need-cast-t10
+cast-t10 c = search needs
 
 slice-aggregate-write-bytes : tie.Need-slice-aggregate-write-bytes
 slice-aggregate-write-bytes c = search needs
@@ -22,14 +23,11 @@ write-bytes-requires c κs = search needs
 write-moves-requires : tie.Need-write-moves-requires
 write-moves-requires c κs = search needs
 
-mul-end : tie.Need-mul-end
-mul-end c = search needs
+mul-write-zeros : tie.Need-mul-write-zeros
+mul-write-zeros c = search needs
 
-add-end : tie.Need-add-end
-add-end c = search needs
-
-sub-write-zeros : tie.Need-sub-write-zeros
-sub-write-zeros c = search needs
+add-write-zeros : tie.Need-add-write-zeros
+add-write-zeros c = search needs
 
 write-zeros-requires : tie.Need-write-zeros-requires
 write-zeros-requires c κs = search needs
@@ -38,28 +36,19 @@ same-length : tie.Need-same-length
 same-length c = search needs
 
 returns : tie.Need-returns
-returns c =
-    let start = c .before .before .before .before .before .before .before .before .before .before .before .before .before .before .before .before .before .before .before in
-    let a = start .args in
-    let long : length (a .b .pieces) ≡ squares = search length-unmapped in
-    position-written (a .out .now) (numbers (a .b)) (a .in-check) (a .list .now) (length-numbers (a .b) long) (start .pre .1) (start .pre .0) _ _ _ _
-    (c .before .before .before .before .before .before .before .before .before .before .before .before .before .before .before .write-record .ensures)
-    (c .before .before .before .before .before .before .before .before .before .before .write-bytes .ensures)
-    (c .before .before .before .before .before .before .write-moves .ensures)
-    (c .before .before .write-zeros .ensures)
+returns c = let a = c .before .before .before .before .before .before .before .before .before .before .before .before .before .before .before .before .before .before .before .args in let long : length (a .b .pieces) ≡ squares = search length-unmapped in position-written (a .out .now) (numbers (a .b)) (a .in-check) (a .list .now) (length-numbers (a .b) long) (c .before .before .before .before .before .before .before .before .before .before .before .before .before .before .before .before .before .before .before .pre .1) (c .before .before .before .before .before .before .before .before .before .before .before .before .before .before .before .before .before .before .before .pre .0) _ _ _ _ (c .before .before .before .before .before .before .before .before .before .before .before .before .before .before .before .write-record .ensures) (c .before .before .before .before .before .before .before .before .before .before .write-bytes .ensures) (c .before .before .before .before .before .before .write-moves .ensures) (c .before .before .write-zeros .ensures)
 
 pub write-position-spec : {M : Type 1} → statement M
 write-position-spec =
     tie.close
     (tie.spec
     write-record-requires
-    cast-t12
+    cast-t10
     slice-aggregate-write-bytes
     write-bytes-requires
     write-moves-requires
-    mul-end
-    add-end
-    sub-write-zeros
+    mul-write-zeros
+    add-write-zeros
     write-zeros-requires
     same-length
     returns)
