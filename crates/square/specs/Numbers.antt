@@ -4,6 +4,7 @@ use Prim.Native.Nat.{ℕ, max}
 use mathlib.Core.Bool.{Bool, true, false, _&&_, _||_}
 use mathlib.Core.List.{List, [], _∷_}
 use lib.Dec.{eqb, leb}
+use lib.ListN.{getD}
 
 -- each number of the list is at most n
 unfoldable pub allAtMost : ℕ → List ℕ → Bool
@@ -14,6 +15,10 @@ allAtMost n (x ∷ xs) = leb x n && allAtMost n xs
 unfoldable pub largest : List ℕ → ℕ
 largest [] = 0
 largest (x ∷ xs) = max x (largest xs)
+
+-- the number at a place, 0 past the end
+abbrev pub numberAt : List ℕ → ℕ → ℕ
+numberAt s i = getD s i 0
 
 -- the two lists are equal
 unfoldable pub same : List ℕ → List ℕ → Bool

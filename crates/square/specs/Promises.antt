@@ -3,8 +3,8 @@
 use Prim.Native.Nat.{ℕ, _<_}
 use mathlib.Core.Path.{_≡_}
 use mathlib.Core.List.{List}
-use lib.ListN.{length, take, drop, getD}
-use Rattle.square.specs.Numbers.{same, largest}
+use lib.ListN.{length, take, drop}
+use Rattle.square.specs.Numbers.{numberAt, same, largest}
 use Rattle.square.specs.Answer.{accepted, refused, writeAnswer, writeBytes}
 use Rattle.square.specs.Square.{makeSquare, rankOf, fileOf, backRank, squareNamed, readSquare, squareText, squareCheck}
 use Rattle.square.specs.Piece.{pieceOf, letterOf, kindOf}
@@ -46,5 +46,5 @@ pub record SquareDetermined : Type 0 where
   pub piece-of-letter : (b : ℕ) → Determined (Is (pieceOf b))
   pub letter-of-piece : (piece : ℕ) → Determined (Is (letterOf piece))
   pub kind-of : (code : ℕ) → Determined (Is (kindOf code))
-  pub byte-at : (s : List ℕ) (i : ℕ) → Determined (Is (getD s i 0))
+  pub byte-at : (s : List ℕ) (i : ℕ) → Determined (Is (numberAt s i))
   pub largest-is : (s : List ℕ) → Determined (Is (largest s))

@@ -2,9 +2,9 @@
 // compared, for the crates above.
 ghost use mathlib.Core.Path.{_≡_};
 ghost use Prim.Native.Nat.{max};
-ghost use lib.ListN.{length, getD};
+ghost use lib.ListN.{length};
 ghost use Rattle.square.specs.Answer.{accepted, refused, writeAnswer, writeBytes};
-ghost use Rattle.square.specs.Numbers.{largest, same};
+ghost use Rattle.square.specs.Numbers.{numberAt, largest, same};
 ghost use Rattle.square.specs.Square.{makeSquare, rankOf, fileOf, backRank, squareNamed, readSquare, squareText, squareCheck};
 ghost use Rattle.square.specs.Piece.{pieceOf, letterOf, kindOf};
 
@@ -231,7 +231,7 @@ pub fn kind_of(code: u8) -> u8
 
 // The byte at a place, 0 past the end.
 pub fn byte_at(s: &[u8], i: usize) -> u8
-    ensures { λ r. ⌜ r ≡ getD (now (s .entry)) i 0 ⌝ }
+    ensures { λ r. ⌜ r ≡ numberAt (now (s .entry)) i ⌝ }
 {
     if i < s.len() { s[i] } else { 0 }
 }
