@@ -10,14 +10,14 @@ fn wide(b: u8) -> u64
     b as u64
 }
 
-pub fn at_most(n: u64, most: usize) -> usize
+pub(crate) fn at_most(n: u64, most: usize) -> usize
     ensures { λ r. ⌜ r ≤ most ⌝ }
 {
     if n <= most as u64 { n as usize } else { most }
 }
 
 // Sets a byte. False: the part has no such byte.
-pub fn set(part: &mut [u8], offset: u64, value: u8) -> bool {
+pub(crate) fn set(part: &mut [u8], offset: u64, value: u8) -> bool {
     let at = at_most(offset, part.len());
     if at < part.len() {
         part[at] = value;
@@ -27,7 +27,7 @@ pub fn set(part: &mut [u8], offset: u64, value: u8) -> bool {
 }
 
 // Fills the part from `from` on.
-pub fn fill(part: &mut [u8], from: usize, value: u8) {
+pub(crate) fn fill(part: &mut [u8], from: usize, value: u8) {
     let mut i = from;
     while i < part.len() {
         part[i] = value;
@@ -35,7 +35,7 @@ pub fn fill(part: &mut [u8], from: usize, value: u8) {
     }
 }
 
-pub fn checksum(part: &[u8]) -> u64 {
+pub(crate) fn checksum(part: &[u8]) -> u64 {
     let mut low: u64 = 1;
     let mut high: u64 = 0;
     let mut i: usize = 0;

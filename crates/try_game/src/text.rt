@@ -2,23 +2,23 @@
 ghost use Prim.Native.Nat.{_≤_};
 ghost use lib.ListN.{length};
 
-pub struct Number {
+pub(crate) struct Number {
     pub is_read: bool,
     pub value: u64,
 }
 
-pub struct Byte {
+pub(crate) struct Byte {
     pub is_read: bool,
     pub value: u8,
 }
 
-pub struct Count {
+pub(crate) struct Count {
     pub is_read: bool,
     pub value: usize,
 }
 
 // The first place of a byte from `from` on, or the text's length.
-pub fn find(text: &[u8], from: usize, b: u8) -> usize
+pub(crate) fn find(text: &[u8], from: usize, b: u8) -> usize
     requires { ⌜ from ≤ length (now text) ⌝ }
     ensures least { λ r. ⌜ from ≤ r ⌝ }
     ensures most { λ r. ⌜ r ≤ length (now (text .entry)) ⌝ }
@@ -68,19 +68,19 @@ fn word_at(line: &[u8], k: usize) -> usize
 }
 
 // Word `k`, empty where the line has fewer.
-pub fn word(line: &[u8], k: usize) -> &[u8] {
+pub(crate) fn word(line: &[u8], k: usize) -> &[u8] {
     let from = word_at(line, k);
     let to = find(line, from, b' ');
     &line[from..to]
 }
 
 // The line from word `k` on.
-pub fn rest(line: &[u8], k: usize) -> &[u8] {
+pub(crate) fn rest(line: &[u8], k: usize) -> &[u8] {
     let from = word_at(line, k);
     &line[from..]
 }
 
-pub fn is_heading(line: &[u8]) -> bool {
+pub(crate) fn is_heading(line: &[u8]) -> bool {
     if line.len() == 0 {
         return false;
     }
@@ -88,7 +88,7 @@ pub fn is_heading(line: &[u8]) -> bool {
 }
 
 // The letter that is the line's first word, or 0.
-pub fn letter(line: &[u8]) -> u8 {
+pub(crate) fn letter(line: &[u8]) -> u8 {
     let first = word(line, 0);
     if first.len() == 1 {
         return first[0];
@@ -97,7 +97,7 @@ pub fn letter(line: &[u8]) -> u8 {
 }
 
 // Whether the line has as many words as its letter asks for. A FEN has any number of them.
-pub fn has_its_words(line: &[u8]) -> bool {
+pub(crate) fn has_its_words(line: &[u8]) -> bool {
     let n = spaces(line);
     match letter(line) {
         b'a' | b'd' | b'?' | b't' => n == 0,
@@ -111,7 +111,7 @@ pub fn has_its_words(line: &[u8]) -> bool {
 }
 
 // Whether the line calls the log.
-pub fn is_call(line: &[u8]) -> bool {
+pub(crate) fn is_call(line: &[u8]) -> bool {
     match letter(line) {
         b's' | b'm' | b'o' | b'r' | b'a' | b'd' | b'?' => true,
         _ => false,
@@ -144,7 +144,7 @@ fn with_digit(value: u64, b: u8) -> Number {
 }
 
 // A decimal number of 64 bits.
-pub fn read_number(word: &[u8]) -> Number {
+pub(crate) fn read_number(word: &[u8]) -> Number {
     let mut n = no_number();
     let mut i: usize = 0;
     while i < word.len() {
@@ -157,7 +157,7 @@ pub fn read_number(word: &[u8]) -> Number {
     n
 }
 
-pub fn read_byte(word: &[u8]) -> Byte {
+pub(crate) fn read_byte(word: &[u8]) -> Byte {
     let n = read_number(word);
     if 255 < n.value {
         return Byte {
@@ -181,7 +181,7 @@ fn no_list() -> Count
 }
 
 // Reads a list into the front of `list`: numbers of 16 bits joined by `,`, or `-` for none.
-pub fn read_moves(word: &[u8], list: &mut [u16]) -> Count
+pub(crate) fn read_moves(word: &[u8], list: &mut [u16]) -> Count
     ensures { λ r. ⌜ r .value ≤ length (now (list .entry)) ⌝ }
 {
     let mut count: usize = 0;
