@@ -88,7 +88,7 @@ fn move_step(ps: &[u8], m: usize, k: usize, x: u64) -> usize
 }
 
 fn other_step(acts: &[u8], ps: &[u8], i: usize, k: usize) -> usize
-    requires { ⌜ i < 2048 ⌝ }
+    requires { ⌜ i < limits .most-actions ⌝ }
     ensures { λ r. ⌜ r ≡ otherStep (now (acts .entry)) (now (ps .entry)) i k ⌝ }
 {
     if other_fits(acts, ps, i, k, actions::last(acts, i + 1)) {
@@ -99,7 +99,7 @@ fn other_step(acts: &[u8], ps: &[u8], i: usize, k: usize) -> usize
 
 // The moves after action `i`, `k` of them before it and `m` in all; more than a log may have if the action was not accepted there.
 fn next(acts: &[u8], ps: &[u8], m: usize, i: usize, k: usize) -> usize
-    requires { ⌜ (k ≤ m) × (i < 2048) ⌝ }
+    requires { ⌜ (k ≤ m) × (i < limits .most-actions) ⌝ }
     ensures { λ r. ⌜ r ≡ step (now (acts .entry)) (now (ps .entry)) m i k ⌝ }
 {
     if ending::result(acts, ps, i, k) != GOES_ON {

@@ -26,7 +26,12 @@ shared-slice-read-if2 c = search needs
 -- src/lib.rt:90:9
 returns-2 : tie.Need-returns-2
 unfolding numbersInRange inRange
-returns-2 c = let n = c .before .before .before .before .args .numbers .now in let w : length n ≡ 68 = c .before .before .if1 .left in let ws : length (take 64 n) ≡ 64 = simp length-take (omega arith) in simp (eq-eqb _ _ w, eq-eqb _ _ ws, lt-leb _ _ (c .if2 .taken))
+returns-2 c =
+    let a = c .before .before .before .before .args in
+    let n = a .numbers .now in
+    let w : length n ≡ 68 = c .before .before .if1 .left in
+    let ws : length (take 64 n) ≡ 64 = simp length-take (omega arith) in
+    simp (eq-eqb _ _ w, eq-eqb _ _ ws, lt-leb _ _ (c .if2 .taken))
 
 -- src/lib.rt:92:12
 shared-slice-read-if3 : tie.Need-shared-slice-read-if3
@@ -35,7 +40,12 @@ shared-slice-read-if3 c = search needs
 -- src/lib.rt:93:9
 returns-3 : tie.Need-returns-3
 unfolding numbersInRange inRange
-returns-3 c = let n = c .before .before .before .before .before .before .args .numbers .now in let w : length n ≡ 68 = c .before .before .before .before .if1 .left in let ws : length (take 64 n) ≡ 64 = simp length-take (omega arith) in simp (eq-eqb _ _ w, eq-eqb _ _ ws, le-leb _ _ (c .before .before .if2 .left), lt-leb _ _ (c .if3 .taken))
+returns-3 c =
+    let a = c .before .before .before .before .before .before .args in
+    let n = a .numbers .now in
+    let w : length n ≡ 68 = c .before .before .before .before .if1 .left in
+    let ws : length (take 64 n) ≡ 64 = simp length-take (omega arith) in
+    simp (eq-eqb _ _ w, eq-eqb _ _ ws, le-leb _ _ (c .before .before .if2 .left), lt-leb _ _ (c .if3 .taken))
 
 -- src/lib.rt:95:12
 shared-slice-read-if4 : tie.Need-shared-slice-read-if4
@@ -44,7 +54,12 @@ shared-slice-read-if4 c = search needs
 -- src/lib.rt:96:9
 returns-4 : tie.Need-returns-4
 unfolding numbersInRange inRange
-returns-4 c = let n = c .before .before .before .before .before .before .before .before .args .numbers .now in let w : length n ≡ 68 = c .before .before .before .before .before .before .if1 .left in let ws : length (take 64 n) ≡ 64 = simp length-take (omega arith) in simp (eq-eqb _ _ w, eq-eqb _ _ ws, le-leb _ _ (c .before .before .before .before .if2 .left), le-leb _ _ (c .before .before .if3 .left), lt-leb _ _ (c .if4 .taken))
+returns-4 c =
+    let a = c .before .before .before .before .before .before .before .before .args in
+    let n = a .numbers .now in
+    let w : length n ≡ 68 = c .before .before .before .before .before .before .if1 .left in
+    let ws : length (take 64 n) ≡ 64 = simp length-take (omega arith) in
+    simp (eq-eqb _ _ w, eq-eqb _ _ ws, le-leb _ _ (c .before .before .before .before .if2 .left), le-leb _ _ (c .before .before .if3 .left), lt-leb _ _ (c .if4 .taken))
 
 -- src/lib.rt:98:12
 shared-slice-read-if5 : tie.Need-shared-slice-read-if5
@@ -53,7 +68,12 @@ shared-slice-read-if5 c = search needs
 -- src/lib.rt:99:9
 returns-5 : tie.Need-returns-5
 unfolding numbersInRange inRange
-returns-5 c = let n = c .before .before .before .before .before .before .before .before .before .before .args .numbers .now in let w : length n ≡ 68 = c .before .before .before .before .before .before .before .before .if1 .left in let ws : length (take 64 n) ≡ 64 = simp length-take (omega arith) in simp (eq-eqb _ _ w, eq-eqb _ _ ws, le-leb _ _ (c .before .before .before .before .before .before .if2 .left), le-leb _ _ (c .before .before .before .before .if3 .left), le-leb _ _ (c .before .before .if4 .left), lt-leb _ _ (c .if5 .taken))
+returns-5 c =
+    let a = c .before .before .before .before .before .before .before .before .before .before .args in
+    let n = a .numbers .now in
+    let w : length n ≡ 68 = c .before .before .before .before .before .before .before .before .if1 .left in
+    let ws : length (take 64 n) ≡ 64 = simp length-take (omega arith) in
+    simp (eq-eqb _ _ w, eq-eqb _ _ ws, le-leb _ _ (c .before .before .before .before .before .before .if2 .left), le-leb _ _ (c .before .before .before .before .if3 .left), le-leb _ _ (c .before .before .if4 .left), lt-leb _ _ (c .if5 .taken))
 
 -- src/lib.rt:101:21
 slice-aggregate-largest : tie.Need-slice-aggregate-largest
@@ -66,7 +86,12 @@ largest-requires c κs = search needs
 -- src/lib.rt:83:1
 returns-6 : tie.Need-returns-6
 unfolding numbersInRange inRange
-returns-6 c = let n = c .before .before .before .before .before .before .before .before .before .before .before .before .args .numbers .now in let w : length n ≡ 68 = c .before .before .before .before .before .before .before .before .before .before .if1 .left in let ws : length (take 64 n) ≡ 64 = simp length-take (omega arith) in ap (λ (m : ℕ). leb m 12) (c .largest .ensures) ∙ largest-at-most 12 (take 64 n) ∙ sym (simp (eq-eqb _ _ w, eq-eqb _ _ ws, le-leb _ _ (c .before .before .before .before .before .before .before .before .if2 .left), le-leb _ _ (c .before .before .before .before .before .before .if3 .left), le-leb _ _ (c .before .before .before .before .if4 .left), le-leb _ _ (c .before .before .if5 .left)))
+returns-6 c =
+    let a = c .before .before .before .before .before .before .before .before .before .before .before .before .args in
+    let n = a .numbers .now in
+    let w : length n ≡ 68 = c .before .before .before .before .before .before .before .before .before .before .if1 .left in
+    let ws : length (take 64 n) ≡ 64 = simp length-take (omega arith) in
+    ap (λ (m : ℕ). leb m 12) (c .largest .ensures) ∙ largest-at-most 12 (take 64 n) ∙ sym (simp (eq-eqb _ _ w, eq-eqb _ _ ws, le-leb _ _ (c .before .before .before .before .before .before .before .before .if2 .left), le-leb _ _ (c .before .before .before .before .before .before .if3 .left), le-leb _ _ (c .before .before .before .before .if4 .left), le-leb _ _ (c .before .before .if5 .left)))
 
 pub numbers-in-range-spec : {M : Type 1} → statement M
 numbers-in-range-spec =

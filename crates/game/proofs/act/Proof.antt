@@ -22,13 +22,21 @@ same-length : tie.Need-same-length
 same-length c = search needs
 
 returns : tie.Need-returns
-returns c = ways.other-refused (otherAnswer (c .before .before .before .before .before .before .args .acts .now) (c .before .before .before .before .before .before .args .ps .now) (c .before .before .before .before .before .before .args .n) (c .before .before .before .before .before .before .args .m) (c .before .before .before .before .before .before .args .action)) (c .before .before .other-answer .result) (c .before .before .before .before .before .before .args .n) (c .before .before .before .before .before .before .args .m) (c .before .before .before .before .before .before .args .acts .now) (c .before .before .before .before .before .before .args .action) (c .counts .result) (c .before .before .other-answer .ensures) (c .before .if1 .taken) (c .counts .ensures)
+returns c =
+    let a = c .before .before .before .before .before .before .args in
+    ways.other-refused (otherAnswer (a .acts .now) (a .ps .now) (a .n) (a .m) (a .action)) (c .before .before .other-answer .result) (a .n) (a .m) (a .acts .now) (a .action) (c .counts .result) (c .before .before .other-answer .ensures) (c .before .if1 .taken) (c .counts .ensures)
 
 put-action-requires : tie.Need-put-action-requires
-put-action-requires c κs = let f = other-found (c .before .before .before .before .before .before .args .acts .now) (c .before .before .before .before .before .before .args .ps .now) (c .before .before .before .before .before .before .args .n) (c .before .before .before .before .before .before .args .m) (c .before .before .before .before .before .before .args .action) (sym (c .before .before .other-answer .ensures) ∙ c .before .if1 .left) in (f .room, f .check)
+put-action-requires c κs =
+    let a = c .before .before .before .before .before .before .args in
+    let f = other-found (a .acts .now) (a .ps .now) (a .n) (a .m) (a .action) (sym (c .before .before .other-answer .ensures) ∙ c .before .if1 .left) in
+    (f .room, f .check)
 
 add-counts : tie.Need-add-counts
-add-counts c = let f = other-found (c .before .before .before .before .before .before .before .before .before .args .acts .now) (c .before .before .before .before .before .before .before .before .before .args .ps .now) (c .before .before .before .before .before .before .before .before .before .args .n) (c .before .before .before .before .before .before .before .before .before .args .m) (c .before .before .before .before .before .before .before .before .before .args .action) (sym (c .before .before .before .before .before .other-answer .ensures) ∙ c .before .before .before .before .if1 .left) in omega (arith, f .few)
+add-counts c =
+    let a = c .before .before .before .before .before .before .before .before .before .args in
+    let f = other-found (a .acts .now) (a .ps .now) (a .n) (a .m) (a .action) (sym (c .before .before .before .before .before .other-answer .ensures) ∙ c .before .before .before .before .if1 .left) in
+    omega (arith, f .few)
 
 counts-requires-2 : tie.Need-counts-requires-2
 counts-requires-2 c κs = search needs
@@ -37,7 +45,9 @@ same-length-2 : tie.Need-same-length-2
 same-length-2 c = search needs
 
 returns-2 : tie.Need-returns-2
-returns-2 c = ways.other-accepted (otherAnswer (c .before .before .before .before .before .before .before .before .before .before .args .acts .now) (c .before .before .before .before .before .before .before .before .before .before .args .ps .now) (c .before .before .before .before .before .before .before .before .before .before .args .n) (c .before .before .before .before .before .before .before .before .before .before .args .m) (c .before .before .before .before .before .before .before .before .before .before .args .action)) (c .before .before .before .before .before .before .other-answer .result) (c .before .before .before .before .before .before .before .before .before .before .args .n) (c .before .before .before .before .before .before .before .before .before .before .args .m) (c .before .before .before .before .before .before .before .before .before .before .args .acts .now) (c .before .before .before .before .before .before .before .before .before .before .args .action) (c .counts2 .result) (c .before .before .before .before .before .before .other-answer .ensures) _ (c .before .before .before .before .before .if1 .left) (c .counts2 .ensures) (c .before .before .before .put-action .ensures)
+returns-2 c =
+    let a = c .before .before .before .before .before .before .before .before .before .before .args in
+    ways.other-accepted (otherAnswer (a .acts .now) (a .ps .now) (a .n) (a .m) (a .action)) (c .before .before .before .before .before .before .other-answer .result) (a .n) (a .m) (a .acts .now) (a .action) (c .counts2 .result) (c .before .before .before .before .before .before .other-answer .ensures) _ (c .before .before .before .before .before .if1 .left) (c .counts2 .ensures) (c .before .before .before .put-action .ensures)
 
 pub act-spec : {M : Type 1} → statement M
 act-spec =

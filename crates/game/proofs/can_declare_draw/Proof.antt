@@ -17,7 +17,9 @@ refused-requires c κs = search needs
 
 returns : tie.Need-returns
 unfolding claimAnswer
-returns c = ways.told-refused (logCheck limits (c .before .before .before .before .before .args .acts .now) (c .before .before .before .before .before .args .ps .now) (c .before .before .before .before .before .args .n) (c .before .before .before .before .before .args .m)) (c .before .before .check .result) _ (c .refused .result) (c .before .before .check .ensures) (c .before .if1 .taken) (c .refused .ensures)
+returns c =
+    let a = c .before .before .before .before .before .args in
+    ways.told-refused (logCheck limits (a .acts .now) (a .ps .now) (a .n) (a .m)) (c .before .before .check .result) _ (c .refused .result) (c .before .before .check .ensures) (c .before .if1 .taken) (c .refused .ensures)
 
 result-requires : tie.Need-result-requires
 result-requires c κs = search needs
@@ -26,7 +28,9 @@ accepted-requires : tie.Need-accepted-requires
 accepted-requires c κs = search needs
 
 returns-2 : tie.Need-returns-2
-returns-2 c = ways.claim-over (c .before .before .before .before .before .before .before .args .acts .now) (c .before .before .before .before .before .before .before .args .ps .now) (c .before .before .before .before .before .before .before .args .n) (c .before .before .before .before .before .before .before .args .m) (c .before .before .before .before .check .result) (c .before .before .result .result) (c .accepted .result) (c .before .before .before .before .check .ensures) (c .before .before .result .ensures) (c .before .before .before .if1 .left) (c .before .if2 .taken) (c .accepted .ensures)
+returns-2 c =
+    let a = c .before .before .before .before .before .before .before .args in
+    ways.claim-over (a .acts .now) (a .ps .now) (a .n) (a .m) (c .before .before .before .before .check .result) (c .before .before .result .result) (c .accepted .result) (c .before .before .before .before .check .ensures) (c .before .before .result .ensures) (c .before .before .before .if1 .left) (c .before .if2 .taken) (c .accepted .ensures)
 
 stands-requires : tie.Need-stands-requires
 stands-requires c κs = search needs
@@ -35,13 +39,17 @@ accepted-requires-2 : tie.Need-accepted-requires-2
 accepted-requires-2 c κs = search needs
 
 returns-3 : tie.Need-returns-3
-returns-3 c = ways.claim-told (c .before .before .before .before .before .before .before .before .before .args .acts .now) (c .before .before .before .before .before .before .before .before .before .args .ps .now) (c .before .before .before .before .before .before .before .before .before .args .n) (c .before .before .before .before .before .before .before .before .before .args .m) (c .before .before .before .before .before .before .check .result) (c .before .before .before .before .result .result) (c .accepted2 .result) (c .before .before .before .before .before .before .check .ensures) (c .before .before .before .before .result .ensures) (c .before .before .before .before .before .if1 .left) true (c .before .before .before .if2 .left) (sym (c .before .if3 .taken) ∙ c .before .before .stands .ensures) (c .accepted2 .ensures)
+returns-3 c =
+    let a = c .before .before .before .before .before .before .before .before .before .args in
+    ways.claim-told (a .acts .now) (a .ps .now) (a .n) (a .m) (c .before .before .before .before .before .before .check .result) (c .before .before .before .before .result .result) (c .accepted2 .result) (c .before .before .before .before .before .before .check .ensures) (c .before .before .before .before .result .ensures) (c .before .before .before .before .before .if1 .left) true (c .before .before .before .if2 .left) (sym (c .before .if3 .taken) ∙ c .before .before .stands .ensures) (c .accepted2 .ensures)
 
 accepted-requires-3 : tie.Need-accepted-requires-3
 accepted-requires-3 c κs = search needs
 
 returns-4 : tie.Need-returns-4
-returns-4 c = ways.claim-told (c .before .before .before .before .before .before .before .before .before .args .acts .now) (c .before .before .before .before .before .before .before .before .before .args .ps .now) (c .before .before .before .before .before .before .before .before .before .args .n) (c .before .before .before .before .before .before .before .before .before .args .m) (c .before .before .before .before .before .before .check .result) (c .before .before .before .before .result .result) (c .accepted3 .result) (c .before .before .before .before .before .before .check .ensures) (c .before .before .before .before .result .ensures) (c .before .before .before .before .before .if1 .left) false (c .before .before .before .if2 .left) (sym (c .before .if3 .left) ∙ c .before .before .stands .ensures) (c .accepted3 .ensures)
+returns-4 c =
+    let a = c .before .before .before .before .before .before .before .before .before .args in
+    ways.claim-told (a .acts .now) (a .ps .now) (a .n) (a .m) (c .before .before .before .before .before .before .check .result) (c .before .before .before .before .result .result) (c .accepted3 .result) (c .before .before .before .before .before .before .check .ensures) (c .before .before .before .before .result .ensures) (c .before .before .before .before .before .if1 .left) false (c .before .before .before .if2 .left) (sym (c .before .if3 .left) ∙ c .before .before .stands .ensures) (c .accepted3 .ensures)
 
 pub can-declare-draw-spec : {M : Type 1} → statement M
 can-declare-draw-spec =

@@ -31,29 +31,56 @@ same-length-2 : tie.Need-same-length-2
 same-length-2 c = search needs
 
 returns : tie.Need-returns
-returns c = let q : Position = positionGiven (c .before .before .before .before .before .before .before .before .args .next) (c .before .before .before .before .before .before .before .before .args .in-check) (c .before .before .before .before .before .before .before .before .args .list .now) in ways.move-refused (callAnswer limits (c .before .before .before .before .before .before .before .before .args .acts .now) (c .before .before .before .before .before .before .before .before .args .ps .now) (c .before .before .before .before .before .before .before .before .args .n) (c .before .before .before .before .before .before .before .before .args .m) (makeMove (c .before .before .before .before .before .before .before .before .args .x) q)) (c .before .before .move-answer .result) (c .before .before .before .before .before .before .before .before .args .n) (c .before .before .before .before .before .before .before .before .args .m) (c .before .before .before .before .before .before .before .before .args .x) (c .before .before .before .before .before .before .before .before .args .acts .now) (c .before .before .before .before .before .before .before .before .args .ps .now) q (c .counts .result) (c .before .before .move-answer .ensures) (c .before .if1 .taken) (c .counts .ensures)
+returns c =
+    let a = c .before .before .before .before .before .before .before .before .args in
+    let q : Position = positionGiven (a .next) (a .in-check) (a .list .now) in
+    ways.move-refused (callAnswer limits (a .acts .now) (a .ps .now) (a .n) (a .m) (makeMove (a .x) q)) (c .before .before .move-answer .result) (a .n) (a .m) (a .x) (a .acts .now) (a .ps .now) q (c .counts .result) (c .before .before .move-answer .ensures) (c .before .if1 .taken) (c .counts .ensures)
 
 cast-from-number : tie.Need-cast-from-number
-cast-from-number c = let q : Position = positionGiven (c .before .before .before .before .before .before .before .before .args .next) (c .before .before .before .before .before .before .before .before .args .in-check) (c .before .before .before .before .before .before .before .before .args .list .now) in let f = move-found (c .before .before .before .before .before .before .before .before .args .acts .now) (c .before .before .before .before .before .before .before .before .args .ps .now) (c .before .before .before .before .before .before .before .before .args .n) (c .before .before .before .before .before .before .before .before .args .m) (c .before .before .before .before .before .before .before .before .args .x) q (sym (c .before .before .move-answer .ensures) ∙ c .before .if1 .left) in omega (arith, f .number)
+cast-from-number c =
+    let a = c .before .before .before .before .before .before .before .before .args in
+    let q : Position = positionGiven (a .next) (a .in-check) (a .list .now) in
+    let f = move-found (a .acts .now) (a .ps .now) (a .n) (a .m) (a .x) q (sym (c .before .before .move-answer .ensures) ∙ c .before .if1 .left) in
+    omega (arith, f .number)
 
 from-number-requires : tie.Need-from-number-requires
 from-number-requires c κs = search needs
 
 put-action-requires : tie.Need-put-action-requires
 unfolding actionCheck
-put-action-requires c κs = let q : Position = positionGiven (c .before .before .before .before .before .before .before .before .before .args .next) (c .before .before .before .before .before .before .before .before .before .args .in-check) (c .before .before .before .before .before .before .before .before .before .args .list .now) in let f = move-found (c .before .before .before .before .before .before .before .before .before .args .acts .now) (c .before .before .before .before .before .before .before .before .before .args .ps .now) (c .before .before .before .before .before .before .before .before .before .args .n) (c .before .before .before .before .before .before .before .before .before .args .m) (c .before .before .before .before .before .before .before .before .before .args .x) q (sym (c .before .before .before .move-answer .ensures) ∙ c .before .before .if1 .left) in (f .room, ap (λ (x : ChessMove). actionCheck (MakeMove x)) (c .from-number .ensures) ∙ ap (λ (x : Answer). x .number) (number-of-parts (c .before .before .before .before .before .before .before .before .before .args .x) (f .number)))
+put-action-requires c κs =
+    let a = c .before .before .before .before .before .before .before .before .before .args in
+    let q : Position = positionGiven (a .next) (a .in-check) (a .list .now) in
+    let f = move-found (a .acts .now) (a .ps .now) (a .n) (a .m) (a .x) q (sym (c .before .before .before .move-answer .ensures) ∙ c .before .before .if1 .left) in
+    (f .room, ap (λ (x : ChessMove). actionCheck (MakeMove x)) (c .from-number .ensures) ∙ ap (λ (x : Answer). x .number) (number-of-parts (a .x) (f .number)))
 
 add-put-position : tie.Need-add-put-position
-add-put-position c = let q : Position = positionGiven (c .before .before .before .before .before .before .before .before .before .before .before .before .before .args .next) (c .before .before .before .before .before .before .before .before .before .before .before .before .before .args .in-check) (c .before .before .before .before .before .before .before .before .before .before .before .before .before .args .list .now) in let f = move-found (c .before .before .before .before .before .before .before .before .before .before .before .before .before .args .acts .now) (c .before .before .before .before .before .before .before .before .before .before .before .before .before .args .ps .now) (c .before .before .before .before .before .before .before .before .before .before .before .before .before .args .n) (c .before .before .before .before .before .before .before .before .before .before .before .before .before .args .m) (c .before .before .before .before .before .before .before .before .before .before .before .before .before .args .x) q (sym (c .before .before .before .before .before .before .before .move-answer .ensures) ∙ c .before .before .before .before .before .before .if1 .left) in omega (arith, f .some)
+add-put-position c =
+    let a = c .before .before .before .before .before .before .before .before .before .before .before .before .before .args in
+    let q : Position = positionGiven (a .next) (a .in-check) (a .list .now) in
+    let f = move-found (a .acts .now) (a .ps .now) (a .n) (a .m) (a .x) q (sym (c .before .before .before .before .before .before .before .move-answer .ensures) ∙ c .before .before .before .before .before .before .if1 .left) in
+    omega (arith, f .some)
 
 put-position-requires : tie.Need-put-position-requires
-put-position-requires c κs = let q : Position = positionGiven (c .before .before .before .before .before .before .before .before .before .before .before .before .before .args .next) (c .before .before .before .before .before .before .before .before .before .before .before .before .before .args .in-check) (c .before .before .before .before .before .before .before .before .before .before .before .before .before .args .list .now) in let f = move-found (c .before .before .before .before .before .before .before .before .before .before .before .before .before .args .acts .now) (c .before .before .before .before .before .before .before .before .before .before .before .before .before .args .ps .now) (c .before .before .before .before .before .before .before .before .before .before .before .before .before .args .n) (c .before .before .before .before .before .before .before .before .before .before .before .before .before .args .m) (c .before .before .before .before .before .before .before .before .before .before .before .before .before .args .x) q (sym (c .before .before .before .before .before .before .before .move-answer .ensures) ∙ c .before .before .before .before .before .before .if1 .left) in (omega (arith, f .place), f .check)
+put-position-requires c κs =
+    let a = c .before .before .before .before .before .before .before .before .before .before .before .before .before .args in
+    let q : Position = positionGiven (a .next) (a .in-check) (a .list .now) in
+    let f = move-found (a .acts .now) (a .ps .now) (a .n) (a .m) (a .x) q (sym (c .before .before .before .before .before .before .before .move-answer .ensures) ∙ c .before .before .before .before .before .before .if1 .left) in
+    (omega (arith, f .place), f .check)
 
 add-counts : tie.Need-add-counts
-add-counts c = let q : Position = positionGiven (c .before .before .before .before .before .before .before .before .before .before .before .before .before .before .before .before .args .next) (c .before .before .before .before .before .before .before .before .before .before .before .before .before .before .before .before .args .in-check) (c .before .before .before .before .before .before .before .before .before .before .before .before .before .before .before .before .args .list .now) in let f = move-found (c .before .before .before .before .before .before .before .before .before .before .before .before .before .before .before .before .args .acts .now) (c .before .before .before .before .before .before .before .before .before .before .before .before .before .before .before .before .args .ps .now) (c .before .before .before .before .before .before .before .before .before .before .before .before .before .before .before .before .args .n) (c .before .before .before .before .before .before .before .before .before .before .before .before .before .before .before .before .args .m) (c .before .before .before .before .before .before .before .before .before .before .before .before .before .before .before .before .args .x) q (sym (c .before .before .before .before .before .before .before .before .before .before .move-answer .ensures) ∙ c .before .before .before .before .before .before .before .before .before .if1 .left) in omega (arith, f .few)
+add-counts c =
+    let a = c .before .before .before .before .before .before .before .before .before .before .before .before .before .before .before .before .args in
+    let q : Position = positionGiven (a .next) (a .in-check) (a .list .now) in
+    let f = move-found (a .acts .now) (a .ps .now) (a .n) (a .m) (a .x) q (sym (c .before .before .before .before .before .before .before .before .before .before .move-answer .ensures) ∙ c .before .before .before .before .before .before .before .before .before .if1 .left) in
+    omega (arith, f .few)
 
 add-counts-2 : tie.Need-add-counts-2
-add-counts-2 c = let q : Position = positionGiven (c .before .before .before .before .before .before .before .before .before .before .before .before .before .before .before .before .args .next) (c .before .before .before .before .before .before .before .before .before .before .before .before .before .before .before .before .args .in-check) (c .before .before .before .before .before .before .before .before .before .before .before .before .before .before .before .before .args .list .now) in let f = move-found (c .before .before .before .before .before .before .before .before .before .before .before .before .before .before .before .before .args .acts .now) (c .before .before .before .before .before .before .before .before .before .before .before .before .before .before .before .before .args .ps .now) (c .before .before .before .before .before .before .before .before .before .before .before .before .before .before .before .before .args .n) (c .before .before .before .before .before .before .before .before .before .before .before .before .before .before .before .before .args .m) (c .before .before .before .before .before .before .before .before .before .before .before .before .before .before .before .before .args .x) q (sym (c .before .before .before .before .before .before .before .before .before .before .move-answer .ensures) ∙ c .before .before .before .before .before .before .before .before .before .if1 .left) in omega (arith, f .some)
+add-counts-2 c =
+    let a = c .before .before .before .before .before .before .before .before .before .before .before .before .before .before .before .before .args in
+    let q : Position = positionGiven (a .next) (a .in-check) (a .list .now) in
+    let f = move-found (a .acts .now) (a .ps .now) (a .n) (a .m) (a .x) q (sym (c .before .before .before .before .before .before .before .before .before .before .move-answer .ensures) ∙ c .before .before .before .before .before .before .before .before .before .if1 .left) in
+    omega (arith, f .some)
 
 counts-requires-2 : tie.Need-counts-requires-2
 counts-requires-2 c κs = search needs
@@ -65,7 +92,10 @@ same-length-4 : tie.Need-same-length-4
 same-length-4 c = search needs
 
 returns-2 : tie.Need-returns-2
-returns-2 c = let q : Position = positionGiven (c .before .before .before .before .before .before .before .before .before .before .before .before .before .before .before .before .before .args .next) (c .before .before .before .before .before .before .before .before .before .before .before .before .before .before .before .before .before .args .in-check) (c .before .before .before .before .before .before .before .before .before .before .before .before .before .before .before .before .before .args .list .now) in ways.move-accepted (callAnswer limits (c .before .before .before .before .before .before .before .before .before .before .before .before .before .before .before .before .before .args .acts .now) (c .before .before .before .before .before .before .before .before .before .before .before .before .before .before .before .before .before .args .ps .now) (c .before .before .before .before .before .before .before .before .before .before .before .before .before .before .before .before .before .args .n) (c .before .before .before .before .before .before .before .before .before .before .before .before .before .before .before .before .before .args .m) (makeMove (c .before .before .before .before .before .before .before .before .before .before .before .before .before .before .before .before .before .args .x) q)) (c .before .before .before .before .before .before .before .before .before .before .before .move-answer .result) (c .before .before .before .before .before .before .before .before .before .before .before .before .before .before .before .before .before .args .n) (c .before .before .before .before .before .before .before .before .before .before .before .before .before .before .before .before .before .args .m) (c .before .before .before .before .before .before .before .before .before .before .before .before .before .before .before .before .before .args .x) (c .before .before .before .before .before .before .before .before .before .before .before .before .before .before .before .before .before .args .acts .now) (c .before .before .before .before .before .before .before .before .before .before .before .before .before .before .before .before .before .args .ps .now) q (c .counts2 .result) (c .before .before .before .before .before .before .before .before .before .before .before .move-answer .ensures) _ _ (c .before .before .before .before .before .before .before .before .before .before .if1 .left) (c .counts2 .ensures) (c .before .before .before .before .before .before .before .put-action .ensures ∙ ap (λ (x : ChessMove). written (c .before .before .before .before .before .before .before .before .before .before .before .before .before .before .before .before .before .args .acts .now) (actionSize * c .before .before .before .before .before .before .before .before .before .before .before .before .before .before .before .before .before .args .n) (actionBytes (MakeMove x))) (c .before .before .before .before .before .before .before .before .from-number .ensures)) (c .before .before .before .put-position .ensures)
+returns-2 c =
+    let a = c .before .before .before .before .before .before .before .before .before .before .before .before .before .before .before .before .before .args in
+    let q : Position = positionGiven (a .next) (a .in-check) (a .list .now) in
+    ways.move-accepted (callAnswer limits (a .acts .now) (a .ps .now) (a .n) (a .m) (makeMove (a .x) q)) (c .before .before .before .before .before .before .before .before .before .before .before .move-answer .result) (a .n) (a .m) (a .x) (a .acts .now) (a .ps .now) q (c .counts2 .result) (c .before .before .before .before .before .before .before .before .before .before .before .move-answer .ensures) _ _ (c .before .before .before .before .before .before .before .before .before .before .if1 .left) (c .counts2 .ensures) (c .before .before .before .before .before .before .before .put-action .ensures ∙ ap (λ (x : ChessMove). written (a .acts .now) (actionSize * a .n) (actionBytes (MakeMove x))) (c .before .before .before .before .before .before .before .before .from-number .ensures)) (c .before .before .before .put-position .ensures)
 
 pub make-move-spec : {M : Type 1} → statement M
 make-move-spec =

@@ -10,16 +10,22 @@ check-requires : tie.Need-check-requires
 check-requires c κs = search needs
 
 returns : tie.Need-returns
-returns c = ways.open-refused (c .before .before .before .before .args .acts .now) (c .before .before .before .before .args .ps .now) (c .before .before .before .before .args .n) (c .before .before .before .before .args .m) (c .before .check .result) (c .before .check .ensures) (λ z. omega (arith, z, c .if1 .taken))
+returns c =
+    let a = c .before .before .before .before .args in
+    ways.open-refused (a .acts .now) (a .ps .now) (a .n) (a .m) (c .before .check .result) (c .before .check .ensures) (λ z. omega (arith, z, c .if1 .taken))
 
 result-requires : tie.Need-result-requires
 result-requires c κs = search needs
 
 returns-2 : tie.Need-returns-2
-returns-2 c = ways.open-ended (c .before .before .before .before .before .before .args .acts .now) (c .before .before .before .before .before .before .args .ps .now) (c .before .before .before .before .before .before .args .n) (c .before .before .before .before .before .before .args .m) (c .before .before .before .check .result) (c .before .before .before .check .ensures) (c .before .result .result) (omega (arith, c .before .before .if1 .left)) (c .before .result .ensures) (c .if2 .taken)
+returns-2 c =
+    let a = c .before .before .before .before .before .before .args in
+    ways.open-ended (a .acts .now) (a .ps .now) (a .n) (a .m) (c .before .before .before .check .result) (c .before .before .before .check .ensures) (c .before .result .result) (omega (arith, c .before .before .if1 .left)) (c .before .result .ensures) (c .if2 .taken)
 
 returns-3 : tie.Need-returns-3
-returns-3 c = ways.open-passed (c .before .before .before .before .before .before .args .acts .now) (c .before .before .before .before .before .before .args .ps .now) (c .before .before .before .before .before .before .args .n) (c .before .before .before .before .before .before .args .m) (c .before .before .before .check .result) (c .before .before .before .check .ensures) (c .before .result .result) (omega (arith, c .before .before .if1 .left)) (c .before .result .ensures) (c .if2 .left)
+returns-3 c =
+    let a = c .before .before .before .before .before .before .args in
+    ways.open-passed (a .acts .now) (a .ps .now) (a .n) (a .m) (c .before .before .before .check .result) (c .before .before .before .check .ensures) (c .before .result .result) (omega (arith, c .before .before .if1 .left)) (c .before .result .ensures) (c .if2 .left)
 
 pub open-check-spec : {M : Type 1} → statement M
 open-check-spec = tie.close (tie.spec check-requires returns result-requires returns-2 returns-3)

@@ -12,22 +12,30 @@ open-check-requires c κs = search needs
 
 returns : tie.Need-returns
 unfolding otherAnswer firstRefusal
-returns c = ways.other-closed (c .before .before .before .before .args .acts .now) (c .before .before .before .before .args .ps .now) (c .before .before .before .before .args .n) (c .before .before .before .before .args .m) (c .before .open-check .result) (c .before .before .before .before .args .action) (c .before .open-check .ensures) (c .if1 .taken)
+returns c =
+    let a = c .before .before .before .before .args in
+    ways.other-closed (a .acts .now) (a .ps .now) (a .n) (a .m) (c .before .open-check .result) (a .action) (c .before .open-check .ensures) (c .if1 .taken)
 
 other-check-requires : tie.Need-other-check-requires
 other-check-requires c κs = search needs
 
 returns-2 : tie.Need-returns-2
 unfolding otherAnswer firstRefusal
-returns-2 c = ways.other-own (c .before .before .before .before .before .before .args .acts .now) (c .before .before .before .before .before .before .args .ps .now) (c .before .before .before .before .before .before .args .n) (c .before .before .before .before .before .before .args .m) (c .before .before .before .open-check .result) (c .before .before .before .before .before .before .args .action) (c .before .before .before .open-check .ensures) (c .before .other-check .result) (c .before .before .if1 .left) (c .before .other-check .ensures) (c .if2 .taken)
+returns-2 c =
+    let a = c .before .before .before .before .before .before .args in
+    ways.other-own (a .acts .now) (a .ps .now) (a .n) (a .m) (c .before .before .before .open-check .result) (a .action) (c .before .before .before .open-check .ensures) (c .before .other-check .result) (c .before .before .if1 .left) (c .before .other-check .ensures) (c .if2 .taken)
 
 returns-3 : tie.Need-returns-3
 unfolding otherAnswer firstRefusal
-returns-3 c = ways.other-full (c .before .before .before .before .before .before .before .args .acts .now) (c .before .before .before .before .before .before .before .args .ps .now) (c .before .before .before .before .before .before .before .args .n) (c .before .before .before .before .before .before .before .args .m) (c .before .before .before .before .open-check .result) (c .before .before .before .before .before .before .before .args .action) (c .before .before .before .before .open-check .ensures) (c .before .before .other-check .result) (c .before .before .before .if1 .left) (c .before .before .other-check .ensures) (c .before .if2 .left) (c .if3 .taken)
+returns-3 c =
+    let a = c .before .before .before .before .before .before .before .args in
+    ways.other-full (a .acts .now) (a .ps .now) (a .n) (a .m) (c .before .before .before .before .open-check .result) (a .action) (c .before .before .before .before .open-check .ensures) (c .before .before .other-check .result) (c .before .before .before .if1 .left) (c .before .before .other-check .ensures) (c .before .if2 .left) (c .if3 .taken)
 
 returns-4 : tie.Need-returns-4
 unfolding otherAnswer firstRefusal
-returns-4 c = ways.other-passed (c .before .before .before .before .before .before .before .args .acts .now) (c .before .before .before .before .before .before .before .args .ps .now) (c .before .before .before .before .before .before .before .args .n) (c .before .before .before .before .before .before .before .args .m) (c .before .before .before .before .open-check .result) (c .before .before .before .before .before .before .before .args .action) (c .before .before .before .before .open-check .ensures) (c .before .before .other-check .result) (c .before .before .before .if1 .left) (c .before .before .other-check .ensures) (c .before .if2 .left) (c .if3 .left)
+returns-4 c =
+    let a = c .before .before .before .before .before .before .before .args in
+    ways.other-passed (a .acts .now) (a .ps .now) (a .n) (a .m) (c .before .before .before .before .open-check .result) (a .action) (c .before .before .before .before .open-check .ensures) (c .before .before .other-check .result) (c .before .before .before .if1 .left) (c .before .before .other-check .ensures) (c .before .if2 .left) (c .if3 .left)
 
 pub other-answer-spec : {M : Type 1} → statement M
 other-answer-spec =

@@ -30,7 +30,10 @@ same-length : tie.Need-same-length
 same-length c = search needs
 
 returns : tie.Need-returns
-returns c = put-written (actionSize * c .before .before .before .before .before .args .n) (actionCheck (c .before .before .before .before .before .args .action)) (c .before .before .before .before .before .args .acts .now) (actionBytes (c .before .before .before .before .before .args .action)) _ (c .before .before .before .before .before .pre .1) (omega (arith, c .before .before .before .before .before .pre .0, length-bytes (c .before .before .before .before .before .args .action))) (c .before .before .to-bytes .ensures .1)
+returns c =
+    let a = c .before .before .before .before .before .args in
+    let given = c .before .before .before .before .before .pre in
+    put-written (actionSize * a .n) (actionCheck (a .action)) (a .acts .now) (actionBytes (a .action)) _ (given .1) (omega (arith, given .0, length-bytes (a .action))) (c .before .before .to-bytes .ensures .1)
 
 pub put-action-spec : {M : Type 1} → statement M
 put-action-spec =

@@ -32,7 +32,11 @@ same-length : tie.Need-same-length
 same-length c = search needs
 
 returns : tie.Need-returns
-returns c = let p : Position = positionGiven (c .before .before .before .before .before .before .args .b) (c .before .before .before .before .before .before .args .in-check) (c .before .before .before .before .before .before .args .list .now) in put-written (positionSize * c .before .before .before .before .before .before .args .k) (positionCheck p) (c .before .before .before .before .before .before .args .ps .now) (positionBytes p) _ (c .before .before .before .before .before .before .pre .1) (omega (arith, c .before .before .before .before .before .before .pre .0, one-size p (c .before .before .before .before .before .before .pre .1))) (c .before .before .to-bytes .ensures .1)
+returns c =
+    let a = c .before .before .before .before .before .before .args in
+    let given = c .before .before .before .before .before .before .pre in
+    let p : Position = positionGiven (a .b) (a .in-check) (a .list .now) in
+    put-written (positionSize * a .k) (positionCheck p) (a .ps .now) (positionBytes p) _ (given .1) (omega (arith, given .0, one-size p (given .1))) (c .before .before .to-bytes .ensures .1)
 
 pub put-position-spec : {M : Type 1} → statement M
 put-position-spec =

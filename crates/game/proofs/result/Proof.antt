@@ -16,7 +16,9 @@ refused-requires c κs = search needs
 
 returns : tie.Need-returns
 unfolding resultAnswer
-returns c = ways.told-refused (logCheck limits (c .before .before .before .before .before .args .acts .now) (c .before .before .before .before .before .args .ps .now) (c .before .before .before .before .before .args .n) (c .before .before .before .before .before .args .m)) (c .before .before .check .result) (result (historyOf (c .before .before .before .before .before .args .acts .now) (c .before .before .before .before .before .args .ps .now) (c .before .before .before .before .before .args .n))) (c .refused .result) (c .before .before .check .ensures) (c .before .if1 .taken) (c .refused .ensures)
+returns c =
+    let a = c .before .before .before .before .before .args in
+    ways.told-refused (logCheck limits (a .acts .now) (a .ps .now) (a .n) (a .m)) (c .before .before .check .result) (result (historyOf (a .acts .now) (a .ps .now) (a .n))) (c .refused .result) (c .before .before .check .ensures) (c .before .if1 .taken) (c .refused .ensures)
 
 result-requires : tie.Need-result-requires
 result-requires c κs = search needs
@@ -25,7 +27,9 @@ accepted-requires : tie.Need-accepted-requires
 accepted-requires c κs = search needs
 
 returns-2 : tie.Need-returns-2
-returns-2 c = ways.result-told (c .before .before .before .before .before .before .args .acts .now) (c .before .before .before .before .before .before .args .ps .now) (c .before .before .before .before .before .before .args .n) (c .before .before .before .before .before .before .args .m) (c .before .before .before .check .result) (c .before .result .result) (c .accepted .result) (c .before .before .before .check .ensures) (c .before .result .ensures) (c .before .before .if1 .left) (c .accepted .ensures)
+returns-2 c =
+    let a = c .before .before .before .before .before .before .args in
+    ways.result-told (a .acts .now) (a .ps .now) (a .n) (a .m) (c .before .before .before .check .result) (c .before .result .result) (c .accepted .result) (c .before .before .before .check .ensures) (c .before .result .ensures) (c .before .before .if1 .left) (c .accepted .ensures)
 
 pub result-spec : {M : Type 1} → statement M
 result-spec =

@@ -19,10 +19,16 @@ same-length : tie.Need-same-length
 same-length c = search needs
 
 returns : tie.Need-returns
-returns c = let q : Position = positionGiven (c .before .before .before .before .before .before .before .args .b) (c .before .before .before .before .before .before .before .args .in-check) (c .before .before .before .before .before .before .before .args .list .now) in ways.start-refused (startAnswer limits (c .before .before .before .before .before .before .before .args .acts .now) (c .before .before .before .before .before .before .before .args .ps .now) q) (c .before .before .start-answer .result) (c .before .before .before .before .before .before .before .args .ps .now) q (c .counts .result) (c .before .before .start-answer .ensures) (c .before .if1 .taken) (c .counts .ensures)
+returns c =
+    let a = c .before .before .before .before .before .before .before .args in
+    let q : Position = positionGiven (a .b) (a .in-check) (a .list .now) in
+    ways.start-refused (startAnswer limits (a .acts .now) (a .ps .now) q) (c .before .before .start-answer .result) (a .ps .now) q (c .counts .result) (c .before .before .start-answer .ensures) (c .before .if1 .taken) (c .counts .ensures)
 
 put-position-requires : tie.Need-put-position-requires
-put-position-requires c κs = let q : Position = positionGiven (c .before .before .before .before .before .before .before .args .b) (c .before .before .before .before .before .before .before .args .in-check) (c .before .before .before .before .before .before .before .args .list .now) in ways.start-found (c .before .before .before .before .before .before .before .args .acts .now) (c .before .before .before .before .before .before .before .args .ps .now) q (sym (c .before .before .start-answer .ensures) ∙ c .before .if1 .left)
+put-position-requires c κs =
+    let a = c .before .before .before .before .before .before .before .args in
+    let q : Position = positionGiven (a .b) (a .in-check) (a .list .now) in
+    ways.start-found (a .acts .now) (a .ps .now) q (sym (c .before .before .start-answer .ensures) ∙ c .before .if1 .left)
 
 counts-requires-2 : tie.Need-counts-requires-2
 counts-requires-2 c κs = search needs
@@ -31,7 +37,10 @@ same-length-2 : tie.Need-same-length-2
 same-length-2 c = search needs
 
 returns-2 : tie.Need-returns-2
-returns-2 c = let q : Position = positionGiven (c .before .before .before .before .before .before .before .before .before .before .before .args .b) (c .before .before .before .before .before .before .before .before .before .before .before .args .in-check) (c .before .before .before .before .before .before .before .before .before .before .before .args .list .now) in ways.start-accepted (startAnswer limits (c .before .before .before .before .before .before .before .before .before .before .before .args .acts .now) (c .before .before .before .before .before .before .before .before .before .before .before .args .ps .now) q) (c .before .before .before .before .before .before .start-answer .result) (c .before .before .before .before .before .before .before .before .before .before .before .args .ps .now) q (c .counts2 .result) (c .before .before .before .before .before .before .start-answer .ensures) _ (c .before .before .before .before .before .if1 .left) (c .counts2 .ensures) (c .before .before .before .put-position .ensures)
+returns-2 c =
+    let a = c .before .before .before .before .before .before .before .before .before .before .before .args in
+    let q : Position = positionGiven (a .b) (a .in-check) (a .list .now) in
+    ways.start-accepted (startAnswer limits (a .acts .now) (a .ps .now) q) (c .before .before .before .before .before .before .start-answer .result) (a .ps .now) q (c .counts2 .result) (c .before .before .before .before .before .before .start-answer .ensures) _ (c .before .before .before .before .before .if1 .left) (c .counts2 .ensures) (c .before .before .before .put-position .ensures)
 
 pub start-spec : {M : Type 1} → statement M
 start-spec =

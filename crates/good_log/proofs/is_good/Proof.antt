@@ -25,7 +25,9 @@ is-position-requires c κs = search needs
 
 returns : tie.Need-returns Inv-loop μ-loop
 unfolding sound
-returns c = sym (not-begun (c .before .before .before .before .before .args .acts .now) (c .before .before .before .before .before .args .ps .now) (c .before .before .before .before .before .args .n) (c .before .before .before .before .before .args .m) (ap isPosition (sym (c .before .before .at .ensures)) ∙ sym (c .before .is-position .ensures) ∙ not-true (c .before .is-position .result) (c .if1 .taken)))
+returns c =
+    let a = c .before .before .before .before .before .args in
+    sym (not-begun (a .acts .now) (a .ps .now) (a .n) (a .m) (ap isPosition (sym (c .before .before .at .ensures)) ∙ sym (c .before .is-position .ensures) ∙ not-true (c .before .is-position .result) (c .if1 .taken)))
 
 loop-holds : tie.Need-loop-holds Inv-loop μ-loop
 unfolding sound movesIn
@@ -35,7 +37,10 @@ next-requires : tie.Need-next-requires Inv-loop μ-loop
 next-requires c κs = (c .before .loop .inv .within, omega (arith, c .before .before .before .before .before .before .before .pre .0, c .loop-test .taken))
 
 returns-2 : tie.Need-returns-2 Inv-loop μ-loop
-returns-2 c = sym (going-out (c .before .before .before .before .before .before .before .before .before .args .acts .now) (c .before .before .before .before .before .before .before .before .before .args .ps .now) (c .before .before .before .before .before .before .before .before .before .args .n) (c .before .before .before .before .before .before .before .before .before .args .m) (c .before .before .before .loop .i) (c .before .before .before .loop .k) (record { few = c .before .before .before .before .before .before .before .before .before .pre .0; some = c .before .before .before .before .before .before .before .before .before .pre .1; room = c .before .before .before .before .before .before .before .before .before .pre .2; place = c .before .before .before .before .before .before .before .before .before .pre .3 }) (c .before .before .before .loop .inv) (c .before .before .loop-test .taken) (λ j. c .before .before .before .before .before .before .before .before .shared-slice-known .given j .fits) (c .before .next .result) (c .before .next .ensures) (c .if2 .taken))
+returns-2 c =
+    let a = c .before .before .before .before .before .before .before .before .before .args in
+    let given = c .before .before .before .before .before .before .before .before .before .pre in
+    sym (going-out (a .acts .now) (a .ps .now) (a .n) (a .m) (c .before .before .before .loop .i) (c .before .before .before .loop .k) (record { few = given .0; some = given .1; room = given .2; place = given .3 }) (c .before .before .before .loop .inv) (c .before .before .loop-test .taken) (λ j. c .before .before .before .before .before .before .before .before .shared-slice-known .given j .fits) (c .before .next .result) (c .before .next .ensures) (c .if2 .taken))
 
 add-i : tie.Need-add-i Inv-loop μ-loop
 add-i c = omega (arith, c .before .before .before .before .before .before .before .before .before .pre .0, c .before .before .loop-test .taken)
@@ -44,10 +49,16 @@ loop-less : tie.Need-loop-less Inv-loop μ-loop
 loop-less c = omega (arith, c .before .before .loop-test .taken)
 
 loop-again : tie.Need-loop-again Inv-loop μ-loop
-loop-again c = going-on (c .before .before .before .before .before .before .before .before .before .args .acts .now) (c .before .before .before .before .before .before .before .before .before .args .ps .now) (c .before .before .before .before .before .before .before .before .before .args .n) (c .before .before .before .before .before .before .before .before .before .args .m) (c .before .before .before .loop .i) (c .before .before .before .loop .k) (record { few = c .before .before .before .before .before .before .before .before .before .pre .0; some = c .before .before .before .before .before .before .before .before .before .pre .1; room = c .before .before .before .before .before .before .before .before .before .pre .2; place = c .before .before .before .before .before .before .before .before .before .pre .3 }) (c .before .before .before .loop .inv) (c .before .before .loop-test .taken) (λ j. c .before .before .before .before .before .before .before .before .shared-slice-known .given j .fits) (c .before .next .result) (c .before .next .ensures) (c .if2 .left)
+loop-again c =
+    let a = c .before .before .before .before .before .before .before .before .before .args in
+    let given = c .before .before .before .before .before .before .before .before .before .pre in
+    going-on (a .acts .now) (a .ps .now) (a .n) (a .m) (c .before .before .before .loop .i) (c .before .before .before .loop .k) (record { few = given .0; some = given .1; room = given .2; place = given .3 }) (c .before .before .before .loop .inv) (c .before .before .loop-test .taken) (λ j. c .before .before .before .before .before .before .before .before .shared-slice-known .given j .fits) (c .before .next .result) (c .before .next .ensures) (c .if2 .left)
 
 returns-3 : tie.Need-returns-3 Inv-loop μ-loop
-returns-3 c = let e : c .before .loop .i ≡ c .before .before .before .before .before .before .before .args .n = omega (arith, c .before .loop .inv .far, c .loop-test .left) in pass-end (c .before .before .before .before .before .before .before .args .acts .now) (c .before .before .before .before .before .before .before .args .ps .now) (c .before .before .before .before .before .before .before .args .n) (c .before .before .before .before .before .before .before .args .m) (c .before .loop .k) (c .before .loop .inv .counted ∙ ap (movesIn (c .before .before .before .before .before .before .before .args .acts .now)) e) (ap (sound limits (c .before .before .before .before .before .before .before .args .acts .now) (c .before .before .before .before .before .before .before .args .ps .now)) (sym e) ∙ c .before .loop .inv .ok)
+returns-3 c =
+    let a = c .before .before .before .before .before .before .before .args in
+    let e : c .before .loop .i ≡ a .n = omega (arith, c .before .loop .inv .far, c .loop-test .left) in
+    pass-end (a .acts .now) (a .ps .now) (a .n) (a .m) (c .before .loop .k) (c .before .loop .inv .counted ∙ ap (movesIn (a .acts .now)) e) (ap (sound limits (a .acts .now) (a .ps .now)) (sym e) ∙ c .before .loop .inv .ok)
 
 pub is-good-spec : {M : Type 1} → statement M
 is-good-spec =

@@ -19,7 +19,9 @@ is-position-requires : tie.Need-is-position-requires
 is-position-requires c κs = search needs
 
 returns-2 : tie.Need-returns-2
-returns-2 c = rw (sym (c .before .is-position .ensures) ∙ not-true (c .before .is-position .result) (c .if2 .taken)) (sym (and-false (listsMove (c .before .before .before .before .before .before .args .p .now) (c .before .before .before .before .before .before .args .m))))
+returns-2 c =
+    let a = c .before .before .before .before .before .before .args in
+    rw (sym (c .before .is-position .ensures) ∙ not-true (c .before .is-position .result) (c .if2 .taken)) (sym (and-false (listsMove (a .p .now) (a .m))))
 
 byte-at-requires : tie.Need-byte-at-requires
 byte-at-requires c κs = search needs
@@ -28,7 +30,9 @@ byte-at-requires-2 : tie.Need-byte-at-requires-2
 byte-at-requires-2 c κs = search needs
 
 returns-3 : tie.Need-returns-3
-returns-3 c = rw (sym (c .before .before .before .before .before .lists .ensures) ∙ not-false (c .before .before .before .before .before .lists .result) (c .before .before .before .before .if1 .left), sym (c .before .before .before .is-position .ensures) ∙ not-false (c .before .before .before .is-position .result) (c .before .before .if2 .left), side-at (c .before .before .before .before .before .before .before .before .args .p .now), side-at (c .before .before .before .before .before .before .before .before .args .q .now)) (ap₂ (λ (x y : ℕ). not (eqb x y)) (c .before .byte-at .ensures) (c .byte-at2 .ensures))
+returns-3 c =
+    let a = c .before .before .before .before .before .before .before .before .args in
+    rw (sym (c .before .before .before .before .before .lists .ensures) ∙ not-false (c .before .before .before .before .before .lists .result) (c .before .before .before .before .if1 .left), sym (c .before .before .before .is-position .ensures) ∙ not-false (c .before .before .before .is-position .result) (c .before .before .if2 .left), side-at (a .p .now), side-at (a .q .now)) (ap₂ (λ (x y : ℕ). not (eqb x y)) (c .before .byte-at .ensures) (c .byte-at2 .ensures))
 
 pub move-fits-spec : {M : Type 1} → statement M
 move-fits-spec =

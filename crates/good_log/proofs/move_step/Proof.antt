@@ -23,10 +23,14 @@ add-result : tie.Need-add-result
 add-result c = search needs
 
 returns-2 : tie.Need-returns-2
-returns-2 c = rw (ne-eqb _ _ (c .before .before .before .before .if1 .left), ← add-one (c .before .before .before .before .before .before .args .k), ← c .before .before .before .at .ensures, ← c .before .before .at2 .ensures, ← c .before .move-fits .ensures, c .if2 .taken)
+returns-2 c =
+    let a = c .before .before .before .before .before .before .args in
+    rw (ne-eqb _ _ (c .before .before .before .before .if1 .left), ← add-one (a .k), ← c .before .before .before .at .ensures, ← c .before .before .at2 .ensures, ← c .before .move-fits .ensures, c .if2 .taken)
 
 returns-3 : tie.Need-returns-3
-returns-3 c = rw (ne-eqb _ _ (c .before .before .before .before .if1 .left), ← add-one (c .before .before .before .before .before .before .args .k), ← c .before .before .before .at .ensures, ← c .before .before .at2 .ensures, ← c .before .move-fits .ensures, c .if2 .left)
+returns-3 c =
+    let a = c .before .before .before .before .before .before .args in
+    rw (ne-eqb _ _ (c .before .before .before .before .if1 .left), ← add-one (a .k), ← c .before .before .before .at .ensures, ← c .before .before .at2 .ensures, ← c .before .move-fits .ensures, c .if2 .left)
 
 pub move-step-spec : {M : Type 1} → statement M
 move-step-spec =

@@ -27,7 +27,9 @@ cast-entries : tie.Need-cast-entries Inv-loop μ-loop
 cast-entries c = omega (arith, c .shared-slice-known2 .given lengthAt)
 
 loop-holds : tie.Need-loop-holds Inv-loop μ-loop
-loop-holds c = (zero-le, omega (arith, c .shared-slice-known2 .given lengthAt), lists-start (c .before .before .before .args .s .now) (c .before .before .before .args .m) (c .before .if1 .left))
+loop-holds c =
+    let a = c .before .before .before .args in
+    (zero-le, omega (arith, c .shared-slice-known2 .given lengthAt), lists-start (a .s .now) (a .m) (c .before .if1 .left))
 
 mul-at : tie.Need-mul-at Inv-loop μ-loop
 mul-at c = omega (arith, c .before .before .shared-slice-known2 .given lengthAt)
@@ -48,7 +50,9 @@ number-of-requires : tie.Need-number-of-requires Inv-loop μ-loop
 number-of-requires c κs = search needs
 
 returns-2 : tie.Need-returns-2 Inv-loop μ-loop
-returns-2 c = (sym (lists-stop (c .before .before .before .before .before .before .before .before .before .args .s .now) (c .before .before .before .before .before .before .before .before .before .args .m) (getD (c .before .before .before .before .before .before .before .before .before .args .s .now) lengthAt 0) (c .before .before .before .before .before .loop .i) (c .before .before .before .before .loop-test .taken) (sym (c .before .number-of .ensures) ∙ c .if2 .taken)) ∙ c .before .before .before .before .before .loop .inv .2)
+returns-2 c =
+    let a = c .before .before .before .before .before .before .before .before .before .args in
+    (sym (lists-stop (a .s .now) (a .m) (getD (a .s .now) lengthAt 0) (c .before .before .before .before .before .loop .i) (c .before .before .before .before .loop-test .taken) (sym (c .before .number-of .ensures) ∙ c .if2 .taken)) ∙ c .before .before .before .before .before .loop .inv .2)
 
 add-i : tie.Need-add-i Inv-loop μ-loop
 add-i c = omega (arith, c .before .before .before .before .before .before .shared-slice-known2 .given lengthAt)
@@ -57,10 +61,14 @@ loop-less : tie.Need-loop-less Inv-loop μ-loop
 loop-less c = omega (arith, c .before .before .before .before .loop-test .taken)
 
 loop-again : tie.Need-loop-again Inv-loop μ-loop
-loop-again c = (omega (arith, c .before .before .before .before .loop-test .taken), c .before .before .before .before .before .loop .inv .1, sym (lists-turn (c .before .before .before .before .before .before .before .before .before .args .s .now) (c .before .before .before .before .before .before .before .before .before .args .m) (getD (c .before .before .before .before .before .before .before .before .before .args .s .now) lengthAt 0) (c .before .before .before .before .before .loop .i) (c .before .before .before .before .loop-test .taken) (λ e. c .if2 .left (c .before .number-of .ensures ∙ e))) ∙ c .before .before .before .before .before .loop .inv .2)
+loop-again c =
+    let a = c .before .before .before .before .before .before .before .before .before .args in
+    (omega (arith, c .before .before .before .before .loop-test .taken), c .before .before .before .before .before .loop .inv .1, sym (lists-turn (a .s .now) (a .m) (getD (a .s .now) lengthAt 0) (c .before .before .before .before .before .loop .i) (c .before .before .before .before .loop-test .taken) (λ e. c .if2 .left (c .before .number-of .ensures ∙ e))) ∙ c .before .before .before .before .before .loop .inv .2)
 
 returns-3 : tie.Need-returns-3 Inv-loop μ-loop
-returns-3 c = (sym (lists-end (c .before .before .before .before .before .args .s .now) (c .before .before .before .before .before .args .m) (getD (c .before .before .before .before .before .args .s .now) lengthAt 0) (c .before .loop .i) (c .loop-test .left)) ∙ c .before .loop .inv .2)
+returns-3 c =
+    let a = c .before .before .before .before .before .args in
+    (sym (lists-end (a .s .now) (a .m) (getD (a .s .now) lengthAt 0) (c .before .loop .i) (c .loop-test .left)) ∙ c .before .loop .inv .2)
 
 pub lists-spec : {M : Type 1} → statement M
 lists-spec =
