@@ -1,0 +1,276 @@
+//! The board record and its texts.
+
+use crate::error::{Error, certain};
+use crate::lent::{self, Record};
+use crate::moves::{Move, text_of};
+use crate::piece::{ALL_COLORS, ALL_PIECES, CastleRights, Color, Piece};
+use crate::square::{ALL_FILES, File, Square};
+use std::fmt;
+use std::str::FromStr;
+
+const INITIAL: &str = "rnbqkbnr/pppppppp/8/8/8/8/PPPPPPPP/RNBQKBNR w KQkq - 0 1";
+
+/// A position's record: 64 squares, the side to move, both sides' rights and the en passant file, every one in range.
+///
+/// As with the original's `BoardBuilder`, nothing asks whether such a position can come up in a game. The steps take the board and hand
+/// back the next one.
+///
+/// ```
+/// use menkhodur::{Board, Color, Piece, Square};
+///
+/// let board = Board::new().piece(Square::B1, Piece::Knight, Color::White).side_to_move(Color::Black);
+/// assert_eq!(board.to_fen(), "8/8/8/8/8/8/8/1N6 b - - 0 1");
+/// assert_eq!(Board::from_fen("8/8/8/8/8/8/8/1N6 B - e9"), Ok(board));
+/// ```
+#[derive(Clone, Copy, PartialEq, Eq, Hash)]
+#[doc(alias = "BoardBuilder")]
+pub struct Board(Record);
+
+impl Board {
+    /// The empty board, white to move.
+    ///
+    /// ```
+    /// assert_eq!(menkhodur::Board::new().to_fen(), "8/8/8/8/8/8/8/8 w - - 0 1");
+    /// ```
+    // `default` is taken: as in the original it is the initial position.
+    #[allow(clippy::new_without_default)]
+    pub fn new() -> Board {
+        Board([0; 68])
+    }
+
+    /// The board that a FEN text says, the text being any bytes. Refused: [`Error::InvalidFen`].
+    ///
+    /// ```
+    /// use menkhodur::{Board, Error};
+    ///
+    /// assert_eq!(Board::from_fen(" w - -"), Ok(Board::new()));
+    /// assert_eq!(Board::from_fen(b"\xff w - -"), Err(Error::InvalidFen));
+    /// ```
+    pub fn from_fen(text: impl AsRef<[u8]>) -> Result<Board, Error> {
+        lent::fen_read(text.as_ref()).map(Board)
+    }
+
+    /// The board's one FEN, 25 to 85 bytes: the key that the position is filed under.
+    ///
+    /// ```
+    /// use menkhodur::Board;
+    ///
+    /// let key = "rnbqkbnr/pppppppp/8/8/8/8/PPPPPPPP/RNBQKBNR w KQkq - 0 1";
+    /// assert_eq!(Board::default().to_fen(), key);
+    /// ```
+    pub fn to_fen(&self) -> String {
+        let mut room = [0; 85];
+        let length = certain(lent::fen_write(&self.0, &mut room));
+        text_of(&room[..length])
+    }
+
+    /// The board with these 68 numbers, in the order of [`lent::Record`]. Refused: [`Error::OutOfRange`].
+    ///
+    /// ```
+    /// use menkhodur::{Board, Error};
+    ///
+    /// assert_eq!(Board::from_numbers(&[0; 68]), Ok(Board::new()));
+    /// assert_eq!(Board::from_numbers(&[13; 68]), Err(Error::OutOfRange));
+    /// ```
+    pub fn from_numbers(numbers: &Record) -> Result<Board, Error> {
+        // A step judges its whole record, so the range is asked of the archive and not said here again; this one changes nothing.
+        lent::side_to_move(numbers, numbers[64]).map(Board)
+    }
+
+    /// The board's 68 numbers.
+    ///
+    /// ```
+    /// assert_eq!(menkhodur::Board::default().numbers()[..5], [4, 2, 3, 5, 6]);
+    /// ```
+    pub fn numbers(&self) -> &Record {
+        &self.0
+    }
+
+    /// Puts a piece on a square, in place of what stood there.
+    ///
+    /// ```
+    /// use menkhodur::{Board, Color, Piece, Square};
+    ///
+    /// let board = Board::new().piece(Square::A8, Piece::Rook, Color::Black);
+    /// assert_eq!(board.piece_on(Square::A8), Some(Piece::Rook));
+    /// ```
+    pub fn piece(self, square: Square, piece: Piece, color: Color) -> Board {
+        let code = 1 + piece as u8 + 6 * color as u8;
+        Board(certain(lent::piece(&self.0, square.to_int(), code)))
+    }
+
+    /// Takes away what stands on a square.
+    ///
+    /// ```
+    /// use menkhodur::{Board, Square};
+    ///
+    /// assert_eq!(Board::default().clear_square(Square::A1).piece_on(Square::A1), None);
+    /// ```
+    pub fn clear_square(self, square: Square) -> Board {
+        Board(certain(lent::clear_square(&self.0, square.to_int())))
+    }
+
+    /// Sets the side to move.
+    ///
+    /// ```
+    /// use menkhodur::{Board, Color};
+    ///
+    /// assert_eq!(Board::new().side_to_move(Color::Black).get_side_to_move(), Color::Black);
+    /// ```
+    pub fn side_to_move(self, color: Color) -> Board {
+        Board(certain(lent::side_to_move(&self.0, color as u8)))
+    }
+
+    /// Sets a colour's castling rights.
+    ///
+    /// ```
+    /// use menkhodur::{Board, CastleRights, Color};
+    ///
+    /// let board = Board::new().castle_rights(Color::Black, CastleRights::QueenSide);
+    /// assert_eq!(board.to_fen(), "8/8/8/8/8/8/8/8 w q - 0 1");
+    /// ```
+    pub fn castle_rights(self, color: Color, rights: CastleRights) -> Board {
+        Board(certain(lent::castle_rights(&self.0, color as u8, rights as u8)))
+    }
+
+    /// Sets the en passant file, or none.
+    ///
+    /// ```
+    /// use menkhodur::{Board, File};
+    ///
+    /// let board = Board::new().en_passant(Some(File::E));
+    /// assert_eq!(board.to_fen(), "8/8/8/8/8/8/8/8 w - e6 0 1");
+    /// assert_eq!(board.en_passant(None), Board::new());
+    /// ```
+    pub fn en_passant(self, file: Option<File>) -> Board {
+        Board(certain(lent::en_passant(&self.0, file.map_or(0, |file| file as u8 + 1))))
+    }
+
+    /// The kind of piece on a square.
+    ///
+    /// ```
+    /// use menkhodur::{Board, Piece, Square};
+    ///
+    /// assert_eq!(Board::default().piece_on(Square::D8), Some(Piece::Queen));
+    /// ```
+    pub fn piece_on(&self, square: Square) -> Option<Piece> {
+        self.index_on(square).map(|index| ALL_PIECES[index % 6])
+    }
+
+    /// The colour of the piece on a square.
+    ///
+    /// ```
+    /// use menkhodur::{Board, Color, Square};
+    ///
+    /// assert_eq!(Board::default().color_on(Square::D8), Some(Color::Black));
+    /// assert_eq!(Board::default().color_on(Square::D4), None);
+    /// ```
+    pub fn color_on(&self, square: Square) -> Option<Color> {
+        self.index_on(square).map(|index| ALL_COLORS[index / 6])
+    }
+
+    fn index_on(&self, square: Square) -> Option<usize> {
+        usize::from(self.0[square.to_index()]).checked_sub(1)
+    }
+
+    /// The side to move.
+    ///
+    /// ```
+    /// use menkhodur::{Board, Color};
+    ///
+    /// assert_eq!(Board::default().get_side_to_move(), Color::White);
+    /// ```
+    pub fn get_side_to_move(&self) -> Color {
+        ALL_COLORS[usize::from(self.0[64])]
+    }
+
+    /// A colour's castling rights.
+    ///
+    /// ```
+    /// use menkhodur::{Board, CastleRights, Color};
+    ///
+    /// assert_eq!(Board::default().get_castle_rights(Color::Black), CastleRights::Both);
+    /// ```
+    pub fn get_castle_rights(&self, color: Color) -> CastleRights {
+        CastleRights::numbered(self.0[65 + color.to_index()])
+    }
+
+    /// The en passant file. The original's `get_en_passant` gives a square on the pawn's own rank, which a FEN does not have.
+    ///
+    /// ```
+    /// use menkhodur::{Board, File};
+    ///
+    /// assert_eq!(Board::from_fen(" b - d3").unwrap().en_passant_file(), Some(File::D));
+    /// assert_eq!(Board::default().en_passant_file(), None);
+    /// ```
+    pub fn en_passant_file(&self) -> Option<File> {
+        usize::from(self.0[67]).checked_sub(1).map(|index| ALL_FILES[index])
+    }
+
+    /// The one listed move that a SAN text names, the text being any bytes. Refused: [`Error::ListOutOfRange`] for more than 255 moves,
+    /// [`Error::InvalidSanMove`].
+    ///
+    /// ```
+    /// use menkhodur::{Board, Error, Move, Square};
+    ///
+    /// let list = [Move::new(Square::B1, Square::C3, None), Move::new(Square::G1, Square::F3, None)];
+    /// assert_eq!(Board::default().read_san(&list, "Nf3"), Ok(list[1]));
+    /// assert_eq!(Board::default().read_san(&list, "Nd2"), Err(Error::InvalidSanMove));
+    /// ```
+    pub fn read_san(&self, list: &[Move], text: impl AsRef<[u8]>) -> Result<Move, Error> {
+        lent::san_read(&self.0, Move::numbers(list), text.as_ref()).map(Move::of_list)
+    }
+
+    /// The SAN name of a listed move, 2 to 11 bytes, which is read as exactly this move. Refused: [`Error::ListOutOfRange`] for more than
+    /// 255 moves, [`Error::MoveNotListed`], [`Error::NoName`].
+    ///
+    /// ```
+    /// use menkhodur::{Board, Error, Move, Square};
+    ///
+    /// let list = [Move::new(Square::B1, Square::C3, None), Move::new(Square::G1, Square::F3, None)];
+    /// assert_eq!(Board::default().name(&list, list[1]).unwrap(), "Nf3");
+    /// assert_eq!(Board::default().name(&list[..1], list[1]), Err(Error::MoveNotListed));
+    /// ```
+    pub fn name(&self, list: &[Move], chess_move: Move) -> Result<String, Error> {
+        let mut room = [0; 11];
+        let length = lent::san_name(&self.0, Move::numbers(list), u64::from(chess_move.number()), &mut room)?;
+        Ok(text_of(&room[..length]))
+    }
+
+    pub(crate) fn of_good_log(record: Record) -> Board {
+        Board(record)
+    }
+}
+
+/// The initial position.
+///
+/// ```
+/// assert!(menkhodur::Board::default().to_fen().starts_with("rnbqkbnr/pppppppp/8/8"));
+/// ```
+impl Default for Board {
+    fn default() -> Board {
+        certain(Board::from_fen(INITIAL))
+    }
+}
+
+/// Reads a FEN, as [`Board::from_fen`] does.
+impl FromStr for Board {
+    type Err = Error;
+
+    fn from_str(text: &str) -> Result<Board, Error> {
+        Board::from_fen(text)
+    }
+}
+
+/// Writes the FEN, as [`Board::to_fen`] does.
+impl fmt::Display for Board {
+    fn fmt(&self, f: &mut fmt::Formatter<'_>) -> fmt::Result {
+        f.pad(&self.to_fen())
+    }
+}
+
+impl fmt::Debug for Board {
+    fn fmt(&self, f: &mut fmt::Formatter<'_>) -> fmt::Result {
+        write!(f, "Board({self})")
+    }
+}

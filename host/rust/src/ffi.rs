@@ -1,0 +1,185 @@
+//! The archive as C has it (`host/menkhodur.h`): structs by value, slices as a pointer and then a length.
+
+use crate::error::Error;
+use crate::lent;
+
+#[repr(C)]
+#[derive(Clone, Copy)]
+pub(crate) struct Board {
+    pub(crate) pieces: [u8; 64],
+    pub(crate) side_to_move: u8,
+    pub(crate) white_castle_rights: u8,
+    pub(crate) black_castle_rights: u8,
+    pub(crate) en_passant: u8,
+}
+
+#[repr(C)]
+#[derive(Clone, Copy)]
+pub(crate) struct Answer {
+    pub(crate) number: u64,
+    pub(crate) value: u64,
+}
+
+#[repr(C)]
+#[derive(Clone, Copy)]
+pub(crate) struct Stepped {
+    pub(crate) number: u64,
+    pub(crate) board: Board,
+}
+
+#[repr(C)]
+#[derive(Clone, Copy)]
+pub(crate) struct Fen {
+    pub(crate) number: u64,
+    // Nothing fills it yet; without it the board would not be where the archive puts it.
+    #[allow(dead_code)]
+    pub(crate) offset: u64,
+    pub(crate) board: Board,
+}
+
+#[repr(C)]
+#[derive(Clone, Copy)]
+pub(crate) struct Counts {
+    pub(crate) number: u64,
+    pub(crate) actions: u64,
+    pub(crate) moves: u64,
+}
+
+impl Board {
+    pub(crate) fn of(record: &lent::Record) -> Board {
+        let [pieces @ .., side_to_move, white_castle_rights, black_castle_rights, en_passant] = *record;
+        Board { pieces, side_to_move, white_castle_rights, black_castle_rights, en_passant }
+    }
+
+    pub(crate) fn record(&self) -> lent::Record {
+        let mut record = [0; 68];
+        record[..64].copy_from_slice(&self.pieces);
+        record[64..].copy_from_slice(&[self.side_to_move, self.white_castle_rights, self.black_castle_rights, self.en_passant]);
+        record
+    }
+}
+
+impl Answer {
+    pub(crate) fn judged(self) -> Result<u64, Error> {
+        Error::judge(self.number, self.value).map(|()| self.value)
+    }
+}
+
+impl Stepped {
+    pub(crate) fn judged(self) -> Result<lent::Record, Error> {
+        Error::judge(self.number, 0).map(|()| self.board.record())
+    }
+}
+
+impl Fen {
+    pub(crate) fn judged(self) -> Result<lent::Record, Error> {
+        Error::judge(self.number, 0).map(|()| self.board.record())
+    }
+}
+
+impl Counts {
+    pub(crate) fn judged(self) -> Result<lent::Counts, Error> {
+        Error::judge(self.number, 0).map(|()| lent::Counts { actions: self.actions, moves: self.moves })
+    }
+}
+
+// The declarations are those of the archive's crate, which `host/menkhodur.h` repeats; the tests below and those of the package run each
+// of them. `safe` are those that take and give numbers alone: every number is judged, and none of the caller's memory is looked at.
+unsafe extern "C" {
+    pub(crate) safe fn menkhodur_make_square(rank: u8, file: u8) -> Answer;
+    pub(crate) safe fn menkhodur_rights_add(rights: u8, added: u8) -> Answer;
+    pub(crate) safe fn menkhodur_rights_remove(rights: u8, removed: u8) -> Answer;
+    pub(crate) safe fn menkhodur_square_rights(colour: u8, square: u8) -> Answer;
+
+    pub(crate) safe fn menkhodur_piece(board: Board, square: u8, code: u8) -> Stepped;
+    pub(crate) safe fn menkhodur_clear_square(board: Board, square: u8) -> Stepped;
+    pub(crate) safe fn menkhodur_side_to_move(board: Board, colour: u8) -> Stepped;
+    pub(crate) safe fn menkhodur_castle_rights(board: Board, colour: u8, rights: u8) -> Stepped;
+    pub(crate) safe fn menkhodur_en_passant(board: Board, file: u8) -> Stepped;
+
+    pub(crate) fn menkhodur_fen_read(text: *const u8, length: usize) -> Fen;
+    pub(crate) fn menkhodur_fen_write(board: Board, out: *mut u8, room: usize) -> Answer;
+
+    pub(crate) fn menkhodur_move_read(text: *const u8, length: usize) -> Answer;
+    pub(crate) fn menkhodur_move_write(number: u64, out: *mut u8, room: usize) -> Answer;
+    pub(crate) fn menkhodur_san_read(board: Board, list: *const u16, entries: usize, text: *const u8, length: usize) -> Answer;
+    pub(crate) fn menkhodur_san_name(board: Board, list: *const u16, entries: usize, number: u64, out: *mut u8, room: usize) -> Answer;
+
+    pub(crate) fn menkhodur_game_start(
+        actions: *const u8,
+        actions_length: usize,
+        positions: *mut u8,
+        positions_length: usize,
+        board: Board,
+        in_check: u8,
+        list: *const u16,
+        entries: usize,
+    ) -> Counts;
+    pub(crate) fn menkhodur_game_make_move(
+        actions: *mut u8,
+        actions_length: usize,
+        positions: *mut u8,
+        positions_length: usize,
+        action_count: u64,
+        move_count: u64,
+        number: u64,
+        next: Board,
+        in_check: u8,
+        list: *const u16,
+        entries: usize,
+    ) -> Counts;
+    pub(crate) fn menkhodur_game_offer_draw(
+        actions: *mut u8,
+        actions_length: usize,
+        positions: *const u8,
+        positions_length: usize,
+        action_count: u64,
+        move_count: u64,
+        colour: u8,
+    ) -> Counts;
+    pub(crate) fn menkhodur_game_resign(
+        actions: *mut u8,
+        actions_length: usize,
+        positions: *const u8,
+        positions_length: usize,
+        action_count: u64,
+        move_count: u64,
+        colour: u8,
+    ) -> Counts;
+    pub(crate) fn menkhodur_game_accept_draw(
+        actions: *mut u8,
+        actions_length: usize,
+        positions: *const u8,
+        positions_length: usize,
+        action_count: u64,
+        move_count: u64,
+    ) -> Counts;
+    pub(crate) fn menkhodur_game_declare_draw(
+        actions: *mut u8,
+        actions_length: usize,
+        positions: *const u8,
+        positions_length: usize,
+        action_count: u64,
+        move_count: u64,
+    ) -> Counts;
+    pub(crate) fn menkhodur_game_result(
+        actions: *const u8,
+        actions_length: usize,
+        positions: *const u8,
+        positions_length: usize,
+        action_count: u64,
+        move_count: u64,
+    ) -> Answer;
+    pub(crate) fn menkhodur_game_can_declare_draw(
+        actions: *const u8,
+        actions_length: usize,
+        positions: *const u8,
+        positions_length: usize,
+        action_count: u64,
+        move_count: u64,
+    ) -> Answer;
+}
+
+#[cfg(test)]
+#[path = "ffi_tests.rs"]
+mod tests;

@@ -1,0 +1,151 @@
+//! What the safe layer does not show: the layouts, and the fields that come back with a refusal.
+
+use super::*;
+use crate::lent::{ACTIONS_PART, POSITIONS_PART};
+use std::mem::{align_of, offset_of, size_of};
+
+// Out of range in its side alone, and with no two neighbours alike, so that a record that comes back shifted would show.
+fn bad_record() -> lent::Record {
+    let mut record = std::array::from_fn(|i| (i % 13) as u8);
+    record[64..].copy_from_slice(&[2, 1, 3, 8]);
+    record
+}
+
+fn counts(answer: Counts) -> (u64, u64, u64) {
+    (answer.number, answer.actions, answer.moves)
+}
+
+fn start(actions: &[u8], positions: &mut [u8], record: &lent::Record, in_check: u8, list: &[u16]) -> (u64, u64, u64) {
+    let (part, room) = (positions.as_mut_ptr(), positions.len());
+    let (board, entries) = (Board::of(record), list.len());
+    // SAFETY: each pointer and length are those of one slice, and the one that is written is borrowed mutably.
+    counts(unsafe { menkhodur_game_start(actions.as_ptr(), actions.len(), part, room, board, in_check, list.as_ptr(), entries) })
+}
+
+#[test]
+fn structs_lie_as_the_header_has_them() {
+    assert_eq!((size_of::<Board>(), align_of::<Board>()), (68, 1));
+    assert_eq!(offset_of!(Board, pieces), 0);
+    assert_eq!(offset_of!(Board, side_to_move), 64);
+    assert_eq!(offset_of!(Board, white_castle_rights), 65);
+    assert_eq!(offset_of!(Board, black_castle_rights), 66);
+    assert_eq!(offset_of!(Board, en_passant), 67);
+
+    assert_eq!((size_of::<Answer>(), align_of::<Answer>()), (16, 8));
+    assert_eq!((offset_of!(Answer, number), offset_of!(Answer, value)), (0, 8));
+
+    assert_eq!((size_of::<Stepped>(), align_of::<Stepped>()), (80, 8));
+    assert_eq!((offset_of!(Stepped, number), offset_of!(Stepped, board)), (0, 8));
+
+    assert_eq!((size_of::<Fen>(), align_of::<Fen>()), (88, 8));
+    assert_eq!((offset_of!(Fen, number), offset_of!(Fen, offset), offset_of!(Fen, board)), (0, 8, 16));
+
+    assert_eq!((size_of::<Counts>(), align_of::<Counts>()), (24, 8));
+    assert_eq!((offset_of!(Counts, number), offset_of!(Counts, actions), offset_of!(Counts, moves)), (0, 8, 16));
+}
+
+#[test]
+fn the_parts_have_the_papers_lengths() {
+    assert_eq!((ACTIONS_PART, POSITIONS_PART), (8_192, 594_500));
+}
+
+#[test]
+fn a_record_is_the_struct_and_back() {
+    let record = bad_record();
+    let board = Board::of(&record);
+    assert_eq!(board.pieces, record[..64]);
+    assert_eq!([board.side_to_move, board.white_castle_rights, board.black_castle_rights, board.en_passant], [2, 1, 3, 8]);
+    assert_eq!(board.record(), record);
+}
+
+#[test]
+fn a_refused_step_hands_its_record_back() {
+    let (bad, good) = (Board::of(&bad_record()), Board::of(&[0; 68]));
+    let of_bad = [
+        menkhodur_piece(bad, 0, 1),
+        menkhodur_clear_square(bad, 0),
+        menkhodur_side_to_move(bad, 0),
+        menkhodur_castle_rights(bad, 0, 0),
+        menkhodur_en_passant(bad, 0),
+    ];
+    assert!(of_bad.iter().all(|step| step.number == 5 && step.board.record() == bad_record()));
+    let of_good = [
+        menkhodur_piece(good, 64, 1),
+        menkhodur_piece(good, 0, 13),
+        menkhodur_clear_square(good, 64),
+        menkhodur_side_to_move(good, 2),
+        menkhodur_castle_rights(good, 0, 4),
+        menkhodur_en_passant(good, 9),
+    ];
+    assert!(of_good.iter().all(|step| step.number == 5 && step.board.record() == [0; 68]));
+}
+
+#[test]
+fn a_refused_fen_is_all_zeros_and_the_offset_is_unused() {
+    for (text, number) in [(&b"8/8 w -"[..], 1), (b"rnbq x - -", 1), (b"", 1), (b" w - -", 0)] {
+        // SAFETY: pointer and length are those of one slice, and the function only reads.
+        let fen = unsafe { menkhodur_fen_read(text.as_ptr(), text.len()) };
+        assert_eq!((fen.number, fen.offset, fen.board.record()), (number, 0, [0; 68]));
+    }
+}
+
+#[test]
+fn a_refused_value_is_zero_but_for_the_length_needed() {
+    let mut room = [0; 24];
+    let mut write_fen = |record: &lent::Record| {
+        // SAFETY: pointer and length are those of one slice, borrowed mutably.
+        let answer = unsafe { menkhodur_fen_write(Board::of(record), room.as_mut_ptr(), room.len()) };
+        (answer.number, answer.value)
+    };
+    assert_eq!(write_fen(&[0; 68]), (7, 25));
+    assert_eq!(write_fen(&bad_record()), (5, 0));
+    for (text, number) in [(&b"z9e4"[..], 2), (b"e2e", 3), (b"e2e4k", 3)] {
+        // SAFETY: pointer and length are those of one slice, and the function only reads.
+        let answer = unsafe { menkhodur_move_read(text.as_ptr(), text.len()) };
+        assert_eq!((answer.number, answer.value), (number, 0));
+    }
+    let list = [1153];
+    for (number, want) in [(1153, 8), (70_000, 11)] {
+        // SAFETY: each pointer and length are those of one slice; the room of none is not written.
+        let answer = unsafe { menkhodur_san_name(Board::of(&[0; 68]), list.as_ptr(), 1, number, [].as_mut_ptr(), 0) };
+        assert_eq!((answer.number, answer.value), (want, 0));
+    }
+    // SAFETY: each pointer and length are those of one slice, and the function only reads.
+    let answer = unsafe { menkhodur_san_read(Board::of(&[0; 68]), list.as_ptr(), 1, b"Nc3".as_ptr(), 3) };
+    assert_eq!((answer.number, answer.value), (4, 0));
+    let squares = [menkhodur_make_square(8, 0), menkhodur_rights_add(4, 0), menkhodur_rights_remove(0, 4), menkhodur_square_rights(2, 0)];
+    assert!(squares.iter().all(|answer| (answer.number, answer.value) == (5, 0)));
+}
+
+#[test]
+fn a_start_gives_no_counts_and_leaves_the_actions() {
+    let actions = vec![0xA5; ACTIONS_PART];
+    let mut positions = vec![0xA5; POSITIONS_PART];
+    assert_eq!(start(&actions[1..], &mut positions, &[0; 68], 0, &[]), (16, 0, 0));
+    assert_eq!(start(&actions, &mut positions[1..], &[0; 68], 0, &[]), (16, 0, 0));
+    assert_eq!(start(&actions, &mut positions, &bad_record(), 0, &[]), (5, 0, 0));
+    assert_eq!(start(&actions, &mut positions, &[0; 68], 2, &[]), (5, 0, 0));
+    assert_eq!(start(&actions, &mut positions, &[0; 68], 0, &[28_672]), (6, 0, 0));
+    assert!(positions.iter().all(|&byte| byte == 0xA5));
+    assert_eq!(start(&actions, &mut positions, &[0; 68], 0, &[1153]), (0, 0, 0));
+    assert!(actions.iter().all(|&byte| byte == 0xA5));
+    assert!(positions[580..].iter().all(|&byte| byte == 0xA5));
+}
+
+#[test]
+fn counts_of_a_refused_call_come_back_as_given() {
+    let mut actions = vec![0; ACTIONS_PART];
+    let mut positions = vec![0; POSITIONS_PART];
+    assert_eq!(start(&actions, &mut positions, &[0; 68], 0, &[1153]), (0, 0, 0));
+    let mut offer = |n: u64, m: u64, colour: u8| {
+        let (part, room) = (actions.as_mut_ptr(), actions.len());
+        // SAFETY: each pointer and length are those of one slice, and the one that is written is borrowed mutably.
+        counts(unsafe { menkhodur_game_offer_draw(part, room, positions.as_ptr(), positions.len(), n, m, colour) })
+    };
+    for (n, m) in [(70_000, 0), (0, 70_000), (1 << 16, 0), (0, 1 << 16), (1 << 32, 1 << 32), (u64::MAX, u64::MAX), (1, 0)] {
+        assert_eq!(offer(n, m, 0), (9, n, m));
+    }
+    assert_eq!(offer(0, 0, 2), (5, 0, 0));
+    assert_eq!(offer(0, 0, 1), (0, 1, 0));
+    assert_eq!(offer(1, 0, 0), (0, 2, 0));
+}

@@ -1,0 +1,390 @@
+//! The archive's functions over lent slices, with plain numbers as document 01 has them.
+//!
+//! A program that keeps its records, lists and log parts itself, say in a mapped file, calls these and copies nothing. Every number is
+//! judged by the archive: one that is out of range is a refusal, never cut and never unsound. The types at the root of the package
+//! stand on these functions and rule most refusals out.
+//!
+//! ```
+//! use menkhodur::lent;
+//!
+//! let record = lent::fen_read(b" w - e4").unwrap();
+//! let mut room = [b'.'; 30];
+//! let length = lent::fen_write(&record, &mut room).unwrap();
+//! assert_eq!(&room[..length], b"8/8/8/8/8/8/8/8 w - e6 0 1");
+//! assert_eq!(&room[length..], b"....");
+//! ```
+
+use crate::error::Error;
+use crate::ffi;
+
+/// A board record: 64 squares from a1 (0 empty, 1 to 6 white pawn, knight, bishop, rook, queen, king, 7 to 12 black), the side to move
+/// (0 white, 1 black), white's rights, black's rights, and the en passant file (0 none, 1 to 8).
+pub type Record = [u8; 68];
+
+/// Bytes of one action in its part.
+pub const ACTION_BYTES: usize = 4;
+/// Bytes of one position in its part.
+pub const POSITION_BYTES: usize = 580;
+/// The most actions that a log holds.
+pub const MAX_ACTIONS: usize = 2_048;
+/// The most moves that a log holds.
+pub const MAX_MOVES: usize = 1_024;
+/// The most moves that a list holds.
+pub const MAX_LIST: usize = 255;
+/// The length that the part of the actions must have.
+pub const ACTIONS_PART: usize = MAX_ACTIONS * ACTION_BYTES;
+/// The length that the part of the positions must have: a start and one after each move.
+pub const POSITIONS_PART: usize = (MAX_MOVES + 1) * POSITION_BYTES;
+
+/// How many actions a log has, and how many of them are moves.
+#[derive(Clone, Copy, Debug, Default, PartialEq, Eq, Hash)]
+pub struct Counts {
+    /// All actions: moves, offers, acceptances, declarations and resignations.
+    pub actions: u64,
+    /// The moves among them.
+    pub moves: u64,
+}
+
+/// A position as it is lent to the log: the record, whether its side to move is in check (0 or 1), and the moves it has.
+#[derive(Clone, Copy, Debug)]
+pub struct Given<'a> {
+    /// The record.
+    pub record: &'a Record,
+    /// 1 if the side to move is in check, else 0.
+    pub in_check: u8,
+    /// The numbers of the moves that can be made.
+    pub list: &'a [u16],
+}
+
+/// The number of the square on a rank (0 to 7) and a file (0 to 7). Refused: 5.
+///
+/// ```
+/// use menkhodur::{Error, lent};
+///
+/// assert_eq!(lent::make_square(3, 4), Ok(28));
+/// assert_eq!(lent::make_square(8, 0), Err(Error::OutOfRange));
+/// ```
+pub fn make_square(rank: u8, file: u8) -> Result<u8, Error> {
+    byte(ffi::menkhodur_make_square(rank, file))
+}
+
+/// Castling rights with others added: 1 king side, 2 queen side, 3 both. Refused: 5.
+///
+/// ```
+/// assert_eq!(menkhodur::lent::rights_add(1, 2), Ok(3));
+/// ```
+pub fn rights_add(rights: u8, added: u8) -> Result<u8, Error> {
+    byte(ffi::menkhodur_rights_add(rights, added))
+}
+
+/// Castling rights with others removed. Refused: 5.
+///
+/// ```
+/// assert_eq!(menkhodur::lent::rights_remove(3, 1), Ok(2));
+/// ```
+pub fn rights_remove(rights: u8, removed: u8) -> Result<u8, Error> {
+    byte(ffi::menkhodur_rights_remove(rights, removed))
+}
+
+/// The rights that a colour (0 or 1) loses when something moves from or to a square (0 to 63). Refused: 5.
+///
+/// ```
+/// assert_eq!(menkhodur::lent::square_rights(0, 4), Ok(3));
+/// assert_eq!(menkhodur::lent::square_rights(1, 4), Ok(0));
+/// ```
+pub fn square_rights(colour: u8, square: u8) -> Result<u8, Error> {
+    byte(ffi::menkhodur_square_rights(colour, square))
+}
+
+/// The record with a piece (1 to 12) on a square. Refused: 5, also for a record that is out of range itself.
+///
+/// ```
+/// use menkhodur::{Error, lent};
+///
+/// let record = lent::piece(&[0; 68], 63, 12).unwrap();
+/// assert_eq!(record[63], 12);
+/// assert_eq!(lent::piece(&record, 63, 0), Err(Error::OutOfRange));
+/// ```
+pub fn piece(record: &Record, square: u8, code: u8) -> Result<Record, Error> {
+    ffi::menkhodur_piece(ffi::Board::of(record), square, code).judged()
+}
+
+/// The record with a square empty. Refused: 5, also for a record that is out of range itself.
+///
+/// ```
+/// let mut record = [0; 68];
+/// record[63] = 12;
+/// assert_eq!(menkhodur::lent::clear_square(&record, 63), Ok([0; 68]));
+/// ```
+pub fn clear_square(record: &Record, square: u8) -> Result<Record, Error> {
+    ffi::menkhodur_clear_square(ffi::Board::of(record), square).judged()
+}
+
+/// The record with a side (0 or 1) to move. Refused: 5, also for a record that is out of range itself.
+///
+/// ```
+/// assert_eq!(menkhodur::lent::side_to_move(&[0; 68], 1).unwrap()[64], 1);
+/// ```
+pub fn side_to_move(record: &Record, colour: u8) -> Result<Record, Error> {
+    ffi::menkhodur_side_to_move(ffi::Board::of(record), colour).judged()
+}
+
+/// The record with a colour's rights (0 to 3). Refused: 5, also for a record that is out of range itself.
+///
+/// ```
+/// assert_eq!(menkhodur::lent::castle_rights(&[0; 68], 1, 3).unwrap()[64..], [0, 0, 3, 0]);
+/// ```
+pub fn castle_rights(record: &Record, colour: u8, rights: u8) -> Result<Record, Error> {
+    ffi::menkhodur_castle_rights(ffi::Board::of(record), colour, rights).judged()
+}
+
+/// The record with an en passant file (1 to 8), or with none (0). Refused: 5, also for a record that is out of range itself.
+///
+/// ```
+/// assert_eq!(menkhodur::lent::en_passant(&[0; 68], 5).unwrap()[67], 5);
+/// ```
+pub fn en_passant(record: &Record, file: u8) -> Result<Record, Error> {
+    ffi::menkhodur_en_passant(ffi::Board::of(record), file).judged()
+}
+
+/// The record that a FEN text says. Refused: 1.
+///
+/// ```
+/// use menkhodur::{Error, lent};
+///
+/// assert_eq!(lent::fen_read(b" w - -"), Ok([0; 68]));
+/// assert_eq!(lent::fen_read(&[255]), Err(Error::InvalidFen));
+/// ```
+pub fn fen_read(text: &[u8]) -> Result<Record, Error> {
+    // SAFETY: pointer and length are those of one slice, borrowed for the call, and the function only reads.
+    unsafe { ffi::menkhodur_fen_read(text.as_ptr(), text.len()) }.judged()
+}
+
+/// Writes the record's FEN, 25 to 85 bytes, and gives its length. Refused: 5, 7.
+///
+/// ```
+/// use menkhodur::{Error, lent};
+///
+/// assert_eq!(lent::fen_write(&[0; 68], &mut [0; 85]), Ok(25));
+/// assert_eq!(lent::fen_write(&[0; 68], &mut [0; 24]), Err(Error::OutputTooShort { needed: 25 }));
+/// ```
+pub fn fen_write(record: &Record, out: &mut [u8]) -> Result<usize, Error> {
+    // SAFETY: pointer and length are those of one slice, borrowed mutably for the call; nothing else that is passed points into it.
+    length(unsafe { ffi::menkhodur_fen_write(ffi::Board::of(record), out.as_mut_ptr(), out.len()) })
+}
+
+/// The number of the move that a coordinate text says. Refused: 2, 3.
+///
+/// ```
+/// use menkhodur::{Error, lent};
+///
+/// assert_eq!(lent::move_read(b"e2e4q"), Ok(22_284));
+/// assert_eq!(lent::move_read(b"z9e4"), Err(Error::InvalidSquare));
+/// ```
+pub fn move_read(text: &[u8]) -> Result<u16, Error> {
+    // SAFETY: pointer and length are those of one slice, borrowed for the call, and the function only reads.
+    number(unsafe { ffi::menkhodur_move_read(text.as_ptr(), text.len()) })
+}
+
+/// Writes a move in coordinates, 4 or 5 bytes, and gives the length. Refused: 6 for a number over 28,671, 7.
+///
+/// ```
+/// use menkhodur::{Error, lent};
+///
+/// let mut room = [0; 5];
+/// assert_eq!(lent::move_write(22_284, &mut room), Ok(5));
+/// assert_eq!(&room, b"e2e4q");
+/// assert_eq!(lent::move_write(70_000, &mut room), Err(Error::ListOutOfRange));
+/// ```
+pub fn move_write(number: u64, out: &mut [u8]) -> Result<usize, Error> {
+    // SAFETY: pointer and length are those of one slice, borrowed mutably for the call, and nothing else is passed that points anywhere.
+    length(unsafe { ffi::menkhodur_move_write(number, out.as_mut_ptr(), out.len()) })
+}
+
+/// The number of the one listed move that a SAN text names. Refused: 5, 6, 4.
+///
+/// ```
+/// use menkhodur::{Error, lent};
+///
+/// let knight = lent::fen_read(b"8/8/8/8/8/8/8/1N6 w - -").unwrap();
+/// assert_eq!(lent::san_read(&knight, &[1153], b"Nc3+?!"), Ok(1153));
+/// assert_eq!(lent::san_read(&knight, &[1153], b"Nc3x"), Err(Error::InvalidSanMove));
+/// ```
+pub fn san_read(record: &Record, list: &[u16], text: &[u8]) -> Result<u16, Error> {
+    // SAFETY: each pointer and length are those of one slice, borrowed for the call, the list's of aligned `u16`; the function only reads.
+    number(unsafe { ffi::menkhodur_san_read(ffi::Board::of(record), list.as_ptr(), list.len(), text.as_ptr(), text.len()) })
+}
+
+/// Writes the SAN name of a listed move, 2 to 11 bytes, and gives its length. Refused: 5, 6, 11, 8, 7.
+///
+/// ```
+/// use menkhodur::{Error, lent};
+///
+/// let knight = lent::fen_read(b"8/8/8/8/8/8/8/1N6 w - -").unwrap();
+/// let mut room = [0; 11];
+/// assert_eq!(lent::san_name(&knight, &[1153], 1153, &mut room), Ok(3));
+/// assert_eq!(&room[..3], b"Nc3");
+/// assert_eq!(lent::san_name(&knight, &[1153], 70_000, &mut room), Err(Error::MoveNotListed));
+/// ```
+pub fn san_name(record: &Record, list: &[u16], number: u64, out: &mut [u8]) -> Result<usize, Error> {
+    let (entries, room) = (list.len(), out.len());
+    // SAFETY: each pointer and length are those of one slice, the list's of aligned `u16`. The room is borrowed mutably for the call, so
+    // that the list cannot lie in it.
+    length(unsafe { ffi::menkhodur_san_name(ffi::Board::of(record), list.as_ptr(), entries, number, out.as_mut_ptr(), room) })
+}
+
+/// Starts a log at a position, which is written over the first of its part, and gives the counts, 0 and 0. The part of the actions is
+/// only looked at for its length. Refused: 16, 5, 6.
+///
+/// ```
+/// use menkhodur::lent::{self, ACTIONS_PART, Counts, Given, POSITIONS_PART};
+///
+/// let actions = vec![0; ACTIONS_PART];
+/// let mut positions = vec![0; POSITIONS_PART];
+/// let start = Given { record: &[0; 68], in_check: 0, list: &[1153] };
+/// assert_eq!(lent::game_start(&actions, &mut positions, start), Ok(Counts { actions: 0, moves: 0 }));
+/// assert_eq!(positions[68..72], [0, 1, 129, 4]);
+/// ```
+pub fn game_start(actions: &[u8], positions: &mut [u8], start: Given<'_>) -> Result<Counts, Error> {
+    let board = ffi::Board::of(start.record);
+    let (part, room, entries) = (positions.as_mut_ptr(), positions.len(), start.list.len());
+    // SAFETY: each pointer and length are those of one slice, the list's of aligned `u16`. The positions, all that is written, are
+    // borrowed mutably for the call, so that neither the actions nor the list can lie in them.
+    unsafe { ffi::menkhodur_game_start(actions.as_ptr(), actions.len(), part, room, board, start.in_check, start.list.as_ptr(), entries) }
+        .judged()
+}
+
+/// Makes a move of the last position's list and stores the position after it; gives the new counts. Refused: 16, 9, 10, 11, 5, 6, 12, 13.
+///
+/// ```
+/// use menkhodur::lent::{self, ACTIONS_PART, Counts, Given, POSITIONS_PART};
+///
+/// let (mut actions, mut positions) = (vec![0; ACTIONS_PART], vec![0; POSITIONS_PART]);
+/// let start = lent::fen_read(b"8/8/8/8/8/8/8/1N6 w - -").unwrap();
+/// let next = lent::fen_read(b"8/8/8/8/8/2N5/8/8 b - -").unwrap();
+/// let counts = lent::game_start(&actions, &mut positions, Given { record: &start, in_check: 0, list: &[1153] }).unwrap();
+/// let next = Given { record: &next, in_check: 0, list: &[] };
+/// let counts = lent::game_make_move(&mut actions, &mut positions, counts, 1153, next).unwrap();
+/// assert_eq!(counts, Counts { actions: 1, moves: 1 });
+/// assert_eq!(actions[..4], [1, 0, 129, 4]);
+/// ```
+pub fn game_make_move(actions: &mut [u8], positions: &mut [u8], counts: Counts, number: u64, next: Given<'_>) -> Result<Counts, Error> {
+    // SAFETY: each pointer and length are those of one slice, the list's of aligned `u16`. Both parts are borrowed mutably for the call,
+    // so that they overlap neither each other nor the list.
+    unsafe {
+        ffi::menkhodur_game_make_move(
+            actions.as_mut_ptr(),
+            actions.len(),
+            positions.as_mut_ptr(),
+            positions.len(),
+            counts.actions,
+            counts.moves,
+            number,
+            ffi::Board::of(next.record),
+            next.in_check,
+            next.list.as_ptr(),
+            next.list.len(),
+        )
+    }
+    .judged()
+}
+
+/// Offers a draw in a colour's name (0 or 1) and gives the new counts. Refused: 16, 9, 10, 5, 13.
+///
+/// ```
+/// use menkhodur::lent::{self, ACTIONS_PART, Given, POSITIONS_PART};
+///
+/// let (mut actions, mut positions) = (vec![0; ACTIONS_PART], vec![0; POSITIONS_PART]);
+/// let start = Given { record: &[0; 68], in_check: 0, list: &[1153] };
+/// let counts = lent::game_start(&actions, &mut positions, start).unwrap();
+/// let counts = lent::game_offer_draw(&mut actions, &positions, counts, 1).unwrap();
+/// assert_eq!((counts.actions, counts.moves), (1, 0));
+/// let counts = lent::game_accept_draw(&mut actions, &positions, counts).unwrap();
+/// assert_eq!(lent::game_result(&actions, &positions, counts), Ok(6));
+/// ```
+pub fn game_offer_draw(actions: &mut [u8], positions: &[u8], counts: Counts, colour: u8) -> Result<Counts, Error> {
+    let (n, m) = (counts.actions, counts.moves);
+    let (part, room) = (actions.as_mut_ptr(), actions.len());
+    // SAFETY: each pointer and length are those of one slice. The actions, all that is written, are borrowed mutably for the call, so that
+    // the positions cannot lie in them.
+    unsafe { ffi::menkhodur_game_offer_draw(part, room, positions.as_ptr(), positions.len(), n, m, colour) }.judged()
+}
+
+/// Resigns in a colour's name (0 or 1) and gives the new counts. Refused: 16, 9, 10, 5, 13.
+///
+/// ```
+/// use menkhodur::lent::{self, ACTIONS_PART, Given, POSITIONS_PART};
+///
+/// let (mut actions, mut positions) = (vec![0; ACTIONS_PART], vec![0; POSITIONS_PART]);
+/// let start = Given { record: &[0; 68], in_check: 0, list: &[1153] };
+/// let counts = lent::game_start(&actions, &mut positions, start).unwrap();
+/// let counts = lent::game_resign(&mut actions, &positions, counts, 1).unwrap();
+/// assert_eq!(lent::game_result(&actions, &positions, counts), Ok(4));
+/// ```
+pub fn game_resign(actions: &mut [u8], positions: &[u8], counts: Counts, colour: u8) -> Result<Counts, Error> {
+    let (n, m) = (counts.actions, counts.moves);
+    let (part, room) = (actions.as_mut_ptr(), actions.len());
+    // SAFETY: each pointer and length are those of one slice. The actions, all that is written, are borrowed mutably for the call, so that
+    // the positions cannot lie in them.
+    unsafe { ffi::menkhodur_game_resign(part, room, positions.as_ptr(), positions.len(), n, m, colour) }.judged()
+}
+
+/// Accepts the offer that stands and gives the new counts. Refused: 16, 9, 10, 14, 13. [`game_offer_draw`] has an example.
+pub fn game_accept_draw(actions: &mut [u8], positions: &[u8], counts: Counts) -> Result<Counts, Error> {
+    let (n, m) = (counts.actions, counts.moves);
+    let (part, room) = (actions.as_mut_ptr(), actions.len());
+    // SAFETY: each pointer and length are those of one slice. The actions, all that is written, are borrowed mutably for the call, so that
+    // the positions cannot lie in them.
+    unsafe { ffi::menkhodur_game_accept_draw(part, room, positions.as_ptr(), positions.len(), n, m) }.judged()
+}
+
+/// Declares a draw on the claim that stands and gives the new counts. Refused: 16, 9, 10, 15, 13.
+///
+/// ```
+/// use menkhodur::Error;
+/// use menkhodur::lent::{self, ACTIONS_PART, Given, POSITIONS_PART};
+///
+/// let (mut actions, mut positions) = (vec![0; ACTIONS_PART], vec![0; POSITIONS_PART]);
+/// let start = Given { record: &[0; 68], in_check: 0, list: &[1153] };
+/// let counts = lent::game_start(&actions, &mut positions, start).unwrap();
+/// assert_eq!(lent::game_can_declare_draw(&actions, &positions, counts), Ok(false));
+/// assert_eq!(lent::game_declare_draw(&mut actions, &positions, counts), Err(Error::NoClaim));
+/// ```
+pub fn game_declare_draw(actions: &mut [u8], positions: &[u8], counts: Counts) -> Result<Counts, Error> {
+    let (n, m) = (counts.actions, counts.moves);
+    let (part, room) = (actions.as_mut_ptr(), actions.len());
+    // SAFETY: each pointer and length are those of one slice. The actions, all that is written, are borrowed mutably for the call, so that
+    // the positions cannot lie in them.
+    unsafe { ffi::menkhodur_game_declare_draw(part, room, positions.as_ptr(), positions.len(), n, m) }.judged()
+}
+
+/// The result: 0 while the game goes on, 1 to 7 in the order of [`GameResult`](crate::GameResult). Refused: 16, 9.
+/// [`game_resign`] has an example.
+pub fn game_result(actions: &[u8], positions: &[u8], counts: Counts) -> Result<u8, Error> {
+    let (n, m) = (counts.actions, counts.moves);
+    // SAFETY: each pointer and length are those of one slice, borrowed for the call, and the function only reads.
+    byte(unsafe { ffi::menkhodur_game_result(actions.as_ptr(), actions.len(), positions.as_ptr(), positions.len(), n, m) })
+}
+
+/// Whether a draw may be declared. Refused: 16, 9. [`game_declare_draw`] has an example.
+pub fn game_can_declare_draw(actions: &[u8], positions: &[u8], counts: Counts) -> Result<bool, Error> {
+    let (n, m) = (counts.actions, counts.moves);
+    // SAFETY: each pointer and length are those of one slice, borrowed for the call, and the function only reads.
+    let answer =
+        unsafe { ffi::menkhodur_game_can_declare_draw(actions.as_ptr(), actions.len(), positions.as_ptr(), positions.len(), n, m) };
+    Ok(answer.judged()? == 1)
+}
+
+// The contracts bound the values: squares to 63, rights to 3, results to 7, moves to 28,671, lengths to 85. The casts cut nothing.
+
+fn byte(answer: ffi::Answer) -> Result<u8, Error> {
+    answer.judged().map(|value| value as u8)
+}
+
+fn number(answer: ffi::Answer) -> Result<u16, Error> {
+    answer.judged().map(|value| value as u16)
+}
+
+fn length(answer: ffi::Answer) -> Result<usize, Error> {
+    answer.judged().map(|value| value as usize)
+}

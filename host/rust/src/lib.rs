@@ -1,0 +1,43 @@
+//! Chess positions, move texts and game logs, done by a proved archive: one position has one name.
+//!
+//! This package is a safe cover for `libmenkhodur.a`, which `rt staticlib menkhodur` writes. "Document 01" is the repository's
+//! `docs/papers/01-scope.md`, and "the original" is the Rust crate chess 3.2.0, whose names are kept where the meaning is the same.
+//! There is no move generator: whoever calls lends the list of moves that a position has.
+//!
+//! ```
+//! use menkhodur::{Board, Color, Error, Log, Move, Position, Square};
+//! # fn main() -> Result<(), Error> {
+//! let board = Board::from_fen("rnbqkbnr/pppppppp/8/8/8/8/PPPPPPPP/RNBQKBNR w KQkq -")?;
+//! let list = [Move::new(Square::E2, Square::E4, None), Move::new(Square::G1, Square::F3, None)];
+//! let knight = board.read_san(&list, "Nf3")?;
+//! let mut log = Log::start(&Position { board, in_check: false, list: &list })?;
+//! log.resign(Color::Black)?;
+//! assert_eq!(board.to_fen(), "rnbqkbnr/pppppppp/8/8/8/8/PPPPPPPP/RNBQKBNR w KQkq - 0 1");
+//! assert_eq!(board.name(&list, knight)?, "Nf3");
+//! # Ok(())
+//! # }
+//! ```
+//!
+//! Two layers: the types here, whose numbers are in range by construction, and [`lent`], the archive's functions over slices that the
+//! caller keeps. Either way a refusal is an [`Error`] with document 01's number, and has changed nothing.
+
+#![deny(missing_docs)]
+#![deny(clippy::undocumented_unsafe_blocks)]
+#![warn(clippy::all)]
+
+mod board;
+mod error;
+mod ffi;
+pub mod lent;
+mod log;
+mod moves;
+mod piece;
+mod square;
+
+pub use board::Board;
+pub use error::Error;
+pub use lent::Counts;
+pub use log::{Action, GameResult, Log, Position};
+pub use moves::{MAX_MOVE, Move};
+pub use piece::{ALL_CASTLE_RIGHTS, ALL_COLORS, ALL_PIECES, CastleRights, Color, Piece};
+pub use square::{ALL_FILES, ALL_RANKS, File, Rank, Square};

@@ -1,0 +1,407 @@
+//! The game log: moves, offers, endings and claims.
+
+use crate::board::Board;
+use crate::error::{Error, certain};
+use crate::lent::{self, ACTION_BYTES, ACTIONS_PART, Counts, Given, MAX_ACTIONS, MAX_MOVES, POSITION_BYTES, POSITIONS_PART};
+use crate::moves::Move;
+use crate::piece::{ALL_COLORS, Color};
+use std::fmt;
+
+/// How a game has ended, in the order of document 01's numbers 1 to 7.
+///
+/// ```
+/// use menkhodur::GameResult;
+///
+/// assert_eq!(GameResult::WhiteCheckmates.number(), 1);
+/// assert_eq!(GameResult::DrawDeclared.number(), 7);
+/// ```
+#[derive(Clone, Copy, Debug, PartialEq, Eq, PartialOrd, Ord, Hash)]
+pub enum GameResult {
+    /// 1: black is to move, in check and without a move.
+    WhiteCheckmates,
+    /// 2: white has resigned.
+    WhiteResigns,
+    /// 3: white is to move, in check and without a move.
+    BlackCheckmates,
+    /// 4: black has resigned.
+    BlackResigns,
+    /// 5: the side to move has no move and is not in check.
+    Stalemate,
+    /// 6: an offered draw was accepted.
+    DrawAccepted,
+    /// 7: a draw was declared.
+    DrawDeclared,
+}
+
+const ALL_RESULTS: [GameResult; 7] = [
+    GameResult::WhiteCheckmates,
+    GameResult::WhiteResigns,
+    GameResult::BlackCheckmates,
+    GameResult::BlackResigns,
+    GameResult::Stalemate,
+    GameResult::DrawAccepted,
+    GameResult::DrawDeclared,
+];
+
+impl GameResult {
+    /// The result's number, 1 to 7; 0 is a game that goes on.
+    ///
+    /// ```
+    /// assert_eq!(menkhodur::GameResult::Stalemate.number(), 5);
+    /// ```
+    pub fn number(self) -> u8 {
+        self as u8 + 1
+    }
+}
+
+/// What a log holds an entry for.
+///
+/// ```
+/// use menkhodur::{Action, Board, Color, Log, Move, Position};
+///
+/// let list = [Move::from_text("b1c3").unwrap()];
+/// let mut log = Log::start(&Position { board: Board::default(), in_check: false, list: &list }).unwrap();
+/// log.offer_draw(Color::White).unwrap();
+/// log.resign(Color::Black).unwrap();
+/// let actions: Vec<Action> = log.actions().collect();
+/// assert_eq!(actions, [Action::OfferDraw(Color::White), Action::Resign(Color::Black)]);
+/// ```
+#[derive(Clone, Copy, Debug, PartialEq, Eq, Hash)]
+pub enum Action {
+    /// A move was made.
+    MakeMove(Move),
+    /// A colour has offered a draw.
+    OfferDraw(Color),
+    /// The offered draw was accepted.
+    AcceptDraw,
+    /// A draw was declared.
+    DeclareDraw,
+    /// A colour has resigned.
+    Resign(Color),
+}
+
+impl Action {
+    fn of_good_log(bytes: &[u8]) -> Action {
+        let color = ALL_COLORS[usize::from(bytes[1])];
+        match bytes[0] {
+            1 => Action::MakeMove(Move::of_list(u16::from_le_bytes([bytes[2], bytes[3]]))),
+            2 => Action::OfferDraw(color),
+            3 => Action::AcceptDraw,
+            4 => Action::DeclareDraw,
+            _ => Action::Resign(color),
+        }
+    }
+}
+
+/// A position as a log is given it: the board, whether its side to move is in check, and the moves that can be made. The library has no
+/// move generator: an empty list is what ends a game.
+///
+/// ```
+/// use menkhodur::{Board, GameResult, Log, Position};
+///
+/// let mated = Position { board: Board::new(), in_check: true, list: &[] };
+/// assert_eq!(Log::start(&mated).unwrap().result(), Some(GameResult::BlackCheckmates));
+/// ```
+#[derive(Clone, Copy, Debug, PartialEq, Eq)]
+pub struct Position<'a> {
+    /// The board.
+    pub board: Board,
+    /// Whether the side to move is in check.
+    pub in_check: bool,
+    /// The moves that can be made, at most 255.
+    pub list: &'a [Move],
+}
+
+impl Position<'_> {
+    fn given(&self) -> Given<'_> {
+        Given { record: self.board.numbers(), in_check: u8::from(self.in_check), list: Move::numbers(self.list) }
+    }
+}
+
+/// A game from its start: what was done, and each position that came up. A log is always good: some sequence of accepted calls has made
+/// it. A refused call leaves it as it was. Each log keeps the two parts whole on the heap, 602,692 bytes.
+///
+/// ```
+/// use menkhodur::{Board, Color, Error, GameResult, Log, Move, Position};
+///
+/// let list = [Move::from_text("b1c3").unwrap()];
+/// let mut log = Log::start(&Position { board: Board::default(), in_check: false, list: &list }).unwrap();
+///
+/// let after = Board::from_fen("rnbqkbnr/pppppppp/8/8/8/2N5/PPPPPPPP/R1BQKBNR b KQkq -").unwrap();
+/// let replies = [Move::from_text("b8c6").unwrap()];
+/// log.make_move(list[0], &Position { board: after, in_check: false, list: &replies }).unwrap();
+///
+/// log.resign(Color::Black).unwrap();
+/// assert_eq!(log.result(), Some(GameResult::BlackResigns));
+/// assert_eq!(log.offer_draw(Color::White), Err(Error::GameOver));
+/// ```
+// Boxed slices are made on the heap from the first; arrays would pass over the stack, and no thread's stack is known to have the room.
+// Bytes past the used ones stay zero from the start on, so that comparing whole parts compares games.
+#[derive(Clone, PartialEq, Eq)]
+#[doc(alias = "Game")]
+pub struct Log {
+    actions: Box<[u8]>,
+    positions: Box<[u8]>,
+    counts: Counts,
+}
+
+impl Log {
+    /// A log with a start and no action. Refused: [`Error::ListOutOfRange`] for more than 255 moves.
+    ///
+    /// ```
+    /// use menkhodur::{Board, Log, Position};
+    ///
+    /// let log = Log::start(&Position { board: Board::default(), in_check: false, list: &[] }).unwrap();
+    /// assert_eq!(log.current_position(), Board::default());
+    /// assert_eq!(log.counts().actions, 0);
+    /// ```
+    pub fn start(start: &Position<'_>) -> Result<Log, Error> {
+        let mut log = Log::blank();
+        log.counts = lent::game_start(&log.actions, &mut log.positions, start.given())?;
+        Ok(log)
+    }
+
+    /// The log in stored bytes: at least the used ones of each part, as [`Log::used_actions`] and [`Log::used_positions`] gave them, and
+    /// the counts. What is past them is not looked at. Refused: [`Error::PartTooShort`] for fewer bytes than the counts use,
+    /// [`Error::LogNotGood`] for a log that no sequence of accepted calls makes, or for a count over its limit.
+    ///
+    /// ```
+    /// use menkhodur::{Board, Color, Error, Log, Move, Position};
+    ///
+    /// let list = [Move::from_text("b1c3").unwrap()];
+    /// let mut log = Log::start(&Position { board: Board::default(), in_check: false, list: &list }).unwrap();
+    /// log.offer_draw(Color::White).unwrap();
+    ///
+    /// let (mut actions, positions) = (log.used_actions().to_vec(), log.used_positions().to_vec());
+    /// assert_eq!(Log::from_parts(&actions, &positions, log.counts()), Ok(log.clone()));
+    /// assert_eq!(Log::from_parts(&actions, &positions[1..], log.counts()), Err(Error::PartTooShort));
+    /// actions[0] = 3;
+    /// assert_eq!(Log::from_parts(&actions, &positions, log.counts()), Err(Error::LogNotGood));
+    /// ```
+    pub fn from_parts(actions: &[u8], positions: &[u8], counts: Counts) -> Result<Log, Error> {
+        let (actions_used, positions_used) = used(counts);
+        // Zeros in place of a missing position could pass for one, so what is missing is refused before anything is copied.
+        let actions = actions.get(..actions_used).ok_or(Error::PartTooShort)?;
+        let positions = positions.get(..positions_used).ok_or(Error::PartTooShort)?;
+        let mut log = Log::blank();
+        log.actions[..actions_used].copy_from_slice(actions);
+        log.positions[..positions_used].copy_from_slice(positions);
+        log.counts = counts;
+        lent::game_result(&log.actions, &log.positions, counts)?;
+        Ok(log)
+    }
+
+    fn blank() -> Log {
+        Log {
+            actions: vec![0; ACTIONS_PART].into_boxed_slice(),
+            positions: vec![0; POSITIONS_PART].into_boxed_slice(),
+            counts: Counts::default(),
+        }
+    }
+
+    /// Makes a move of the current position's list; `next` is the position after it. Refused, in this order: [`Error::GameOver`],
+    /// [`Error::MoveNotListed`], [`Error::ListOutOfRange`] for more than 255 moves in `next`, [`Error::WrongSideToMove`],
+    /// [`Error::LogFull`].
+    ///
+    /// ```
+    /// use menkhodur::{Board, Color, Error, Log, Move, Position};
+    ///
+    /// let list = [Move::from_text("b1c3").unwrap()];
+    /// let mut log = Log::start(&Position { board: Board::default(), in_check: false, list: &list }).unwrap();
+    /// let mut next = Position { board: Board::default(), in_check: false, list: &[] };
+    /// assert_eq!(log.make_move(Move::from_text("e2e4").unwrap(), &next), Err(Error::MoveNotListed));
+    /// assert_eq!(log.make_move(list[0], &next), Err(Error::WrongSideToMove));
+    /// next.board = next.board.side_to_move(Color::Black);
+    /// assert_eq!(log.make_move(list[0], &next), Ok(()));
+    /// ```
+    pub fn make_move(&mut self, chess_move: Move, next: &Position<'_>) -> Result<(), Error> {
+        let number = u64::from(chess_move.number());
+        self.counts = lent::game_make_move(&mut self.actions, &mut self.positions, self.counts, number, next.given())?;
+        Ok(())
+    }
+
+    /// A colour offers a draw. Refused: [`Error::GameOver`], [`Error::LogFull`].
+    ///
+    /// ```
+    /// use menkhodur::{Board, Color, GameResult, Log, Move, Position};
+    ///
+    /// let list = [Move::from_text("b1c3").unwrap()];
+    /// let mut log = Log::start(&Position { board: Board::default(), in_check: false, list: &list }).unwrap();
+    /// log.offer_draw(Color::White).unwrap();
+    /// log.accept_draw().unwrap();
+    /// assert_eq!(log.result(), Some(GameResult::DrawAccepted));
+    /// ```
+    pub fn offer_draw(&mut self, color: Color) -> Result<(), Error> {
+        self.counts = lent::game_offer_draw(&mut self.actions, &self.positions, self.counts, color as u8)?;
+        Ok(())
+    }
+
+    /// The draw that was offered is accepted: the offer is the last action, or the last but one by the side not to move. Refused:
+    /// [`Error::GameOver`], [`Error::NoDrawOffer`], [`Error::LogFull`].
+    ///
+    /// ```
+    /// use menkhodur::{Board, Error, Log, Move, Position};
+    ///
+    /// let list = [Move::from_text("b1c3").unwrap()];
+    /// let mut log = Log::start(&Position { board: Board::default(), in_check: false, list: &list }).unwrap();
+    /// assert_eq!(log.accept_draw(), Err(Error::NoDrawOffer));
+    /// ```
+    pub fn accept_draw(&mut self) -> Result<(), Error> {
+        self.counts = lent::game_accept_draw(&mut self.actions, &self.positions, self.counts)?;
+        Ok(())
+    }
+
+    /// A draw is declared, on a hundred reversible moves or the third of three equal positions. Refused: [`Error::GameOver`],
+    /// [`Error::NoClaim`], [`Error::LogFull`].
+    ///
+    /// ```
+    /// use menkhodur::{Board, Error, Log, Move, Position};
+    ///
+    /// let list = [Move::from_text("b1c3").unwrap()];
+    /// let mut log = Log::start(&Position { board: Board::default(), in_check: false, list: &list }).unwrap();
+    /// assert_eq!(log.declare_draw(), Err(Error::NoClaim));
+    /// ```
+    pub fn declare_draw(&mut self) -> Result<(), Error> {
+        self.counts = lent::game_declare_draw(&mut self.actions, &self.positions, self.counts)?;
+        Ok(())
+    }
+
+    /// A colour resigns. Refused: [`Error::GameOver`], [`Error::LogFull`].
+    ///
+    /// ```
+    /// use menkhodur::{Board, Color, GameResult, Log, Move, Position};
+    ///
+    /// let list = [Move::from_text("b1c3").unwrap()];
+    /// let mut log = Log::start(&Position { board: Board::default(), in_check: false, list: &list }).unwrap();
+    /// log.resign(Color::White).unwrap();
+    /// assert_eq!(log.result(), Some(GameResult::WhiteResigns));
+    /// ```
+    pub fn resign(&mut self, color: Color) -> Result<(), Error> {
+        self.counts = lent::game_resign(&mut self.actions, &self.positions, self.counts, color as u8)?;
+        Ok(())
+    }
+
+    /// How the game has ended, or `None` while it goes on.
+    ///
+    /// ```
+    /// use menkhodur::{Board, GameResult, Log, Position};
+    ///
+    /// let log = Log::start(&Position { board: Board::default(), in_check: false, list: &[] }).unwrap();
+    /// assert_eq!(log.result(), Some(GameResult::Stalemate));
+    /// ```
+    pub fn result(&self) -> Option<GameResult> {
+        let number = certain(lent::game_result(&self.actions, &self.positions, self.counts));
+        usize::from(number).checked_sub(1).map(|index| ALL_RESULTS[index])
+    }
+
+    /// Whether a draw may be declared.
+    ///
+    /// ```
+    /// use menkhodur::{Board, Log, Position};
+    ///
+    /// let log = Log::start(&Position { board: Board::default(), in_check: false, list: &[] }).unwrap();
+    /// assert!(!log.can_declare_draw());
+    /// ```
+    pub fn can_declare_draw(&self) -> bool {
+        certain(lent::game_can_declare_draw(&self.actions, &self.positions, self.counts))
+    }
+
+    /// What was done, in order. [`Action`] has an example.
+    pub fn actions(&self) -> impl Iterator<Item = Action> + '_ {
+        self.used_actions().chunks_exact(ACTION_BYTES).map(Action::of_good_log)
+    }
+
+    /// The board of the current position.
+    ///
+    /// ```
+    /// use menkhodur::{Board, Log, Position};
+    ///
+    /// let log = Log::start(&Position { board: Board::default(), in_check: false, list: &[] }).unwrap();
+    /// assert_eq!(log.current_position(), Board::default());
+    /// ```
+    pub fn current_position(&self) -> Board {
+        let mut record = [0; 68];
+        record.copy_from_slice(&self.last_position()[..68]);
+        Board::of_good_log(record)
+    }
+
+    /// The side to move in the current position.
+    ///
+    /// ```
+    /// use menkhodur::{Board, Color, Log, Position};
+    ///
+    /// let log = Log::start(&Position { board: Board::default(), in_check: false, list: &[] }).unwrap();
+    /// assert_eq!(log.side_to_move(), Color::White);
+    /// ```
+    pub fn side_to_move(&self) -> Color {
+        self.current_position().get_side_to_move()
+    }
+
+    /// Whether the side to move is in check in the current position.
+    ///
+    /// ```
+    /// use menkhodur::{Board, Log, Position};
+    ///
+    /// let log = Log::start(&Position { board: Board::default(), in_check: true, list: &[] }).unwrap();
+    /// assert!(log.in_check());
+    /// ```
+    pub fn in_check(&self) -> bool {
+        self.last_position()[68] == 1
+    }
+
+    /// The moves of the current position's list, in order.
+    ///
+    /// ```
+    /// use menkhodur::{Board, Log, Move, Position};
+    ///
+    /// let list = [Move::from_text("b1c3").unwrap(), Move::from_text("e2e4").unwrap()];
+    /// let log = Log::start(&Position { board: Board::default(), in_check: false, list: &list }).unwrap();
+    /// assert_eq!(log.current_moves(), list);
+    /// ```
+    pub fn current_moves(&self) -> Vec<Move> {
+        let position = self.last_position();
+        let listed = position[70..].chunks_exact(2).take(usize::from(position[69]));
+        listed.map(|bytes| Move::of_list(u16::from_le_bytes([bytes[0], bytes[1]]))).collect()
+    }
+
+    fn last_position(&self) -> &[u8] {
+        let used = self.used_positions();
+        &used[used.len() - POSITION_BYTES..]
+    }
+
+    /// The counts of actions and moves, to be stored beside the used bytes.
+    ///
+    /// ```
+    /// use menkhodur::{Board, Counts, Log, Position};
+    ///
+    /// let log = Log::start(&Position { board: Board::default(), in_check: false, list: &[] }).unwrap();
+    /// assert_eq!(log.counts(), Counts { actions: 0, moves: 0 });
+    /// ```
+    pub fn counts(&self) -> Counts {
+        self.counts
+    }
+
+    /// The used bytes of the actions' part, 4 for each. [`Log::from_parts`] has an example.
+    pub fn used_actions(&self) -> &[u8] {
+        &self.actions[..used(self.counts).0]
+    }
+
+    /// The used bytes of the positions' part, 580 for the start and for each move. [`Log::from_parts`] has an example.
+    pub fn used_positions(&self) -> &[u8] {
+        &self.positions[..used(self.counts).1]
+    }
+}
+
+/// How many bytes of each part the counts use; a count over its limit, which the archive refuses, uses no more than the limit.
+fn used(counts: Counts) -> (usize, usize) {
+    let at_most = |count: u64, limit: usize| usize::try_from(count).map_or(limit, |count| count.min(limit));
+    (at_most(counts.actions, MAX_ACTIONS) * ACTION_BYTES, (at_most(counts.moves, MAX_MOVES) + 1) * POSITION_BYTES)
+}
+
+impl fmt::Debug for Log {
+    fn fmt(&self, f: &mut fmt::Formatter<'_>) -> fmt::Result {
+        // The parts would be hundreds of thousands of numbers.
+        let mut shown = f.debug_struct("Log");
+        shown.field("counts", &self.counts).field("current_position", &self.current_position()).finish_non_exhaustive()
+    }
+}

@@ -1,0 +1,115 @@
+use menkhodur::lent::{self, ACTIONS_PART, Given, POSITIONS_PART, Record};
+use menkhodur::{Board, Counts, Error, Log, Move, Position};
+
+/// The moves of a text with coordinates, as `"b1c3 g1f3"`.
+pub fn moves(texts: &str) -> Vec<Move> {
+    texts.split_whitespace().map(|text| text.parse().unwrap()).collect()
+}
+
+/// The board after a move that is neither castling nor en passant.
+pub fn after(board: Board, made: Move) -> Board {
+    let (source, dest) = (made.get_source(), made.get_dest());
+    let (piece, color) = (board.piece_on(source).unwrap(), board.color_on(source).unwrap());
+    let piece = made.get_promotion().unwrap_or(piece);
+    board.clear_square(source).piece(dest, piece, color).side_to_move(!color)
+}
+
+/// A game of listed moves: before each move the list holds that move and `more`, and at the end it is `last`.
+pub fn play(board: Board, texts: &str, more: &str, last: &str) -> Log {
+    let (made, more) = (moves(texts), moves(more));
+    let listed = |made: Move| [vec![made], more.clone()].concat();
+    let lists: Vec<Vec<Move>> = made.iter().copied().map(listed).chain([moves(last)]).collect();
+    let mut board = board;
+    let mut log = Log::start(&Position { board, in_check: false, list: &lists[0] }).unwrap();
+    for (made, list) in made.into_iter().zip(&lists[1..]) {
+        board = after(board, made);
+        log.make_move(made, &Position { board, in_check: false, list }).unwrap();
+    }
+    log
+}
+
+/// Parts that the test keeps, filled so that a stray write shows.
+#[derive(Clone, PartialEq, Eq)]
+pub struct Parts {
+    pub actions: Vec<u8>,
+    pub positions: Vec<u8>,
+    pub counts: Counts,
+}
+
+impl Parts {
+    pub fn unused() -> Parts {
+        Parts { actions: vec![0xA5; ACTIONS_PART], positions: vec![0xA5; POSITIONS_PART], counts: Counts::default() }
+    }
+
+    pub fn start(record: &Record, list: &[u16]) -> Parts {
+        let mut parts = Parts::unused();
+        parts.counts = lent::game_start(&parts.actions, &mut parts.positions, Given { record, in_check: 0, list }).unwrap();
+        parts
+    }
+
+    /// Whole parts with a log's used bytes.
+    pub fn of(log: &Log) -> Parts {
+        let mut parts = Parts::unused();
+        parts.actions[..log.used_actions().len()].copy_from_slice(log.used_actions());
+        parts.positions[..log.used_positions().len()].copy_from_slice(log.used_positions());
+        parts.counts = log.counts();
+        parts
+    }
+
+    pub fn make_move(&mut self, number: u64, next: Given<'_>) -> Result<Counts, Error> {
+        lent::game_make_move(&mut self.actions, &mut self.positions, self.counts, number, next)
+    }
+
+    pub fn offer_draw(&mut self, colour: u8) -> Result<Counts, Error> {
+        lent::game_offer_draw(&mut self.actions, &self.positions, self.counts, colour)
+    }
+
+    pub fn resign(&mut self, colour: u8) -> Result<Counts, Error> {
+        lent::game_resign(&mut self.actions, &self.positions, self.counts, colour)
+    }
+
+    pub fn accept_draw(&mut self) -> Result<Counts, Error> {
+        lent::game_accept_draw(&mut self.actions, &self.positions, self.counts)
+    }
+
+    pub fn declare_draw(&mut self) -> Result<Counts, Error> {
+        lent::game_declare_draw(&mut self.actions, &self.positions, self.counts)
+    }
+
+    pub fn result(&self) -> Result<u8, Error> {
+        lent::game_result(&self.actions, &self.positions, self.counts)
+    }
+
+    pub fn can_declare_draw(&self) -> Result<bool, Error> {
+        lent::game_can_declare_draw(&self.actions, &self.positions, self.counts)
+    }
+
+    /// Asks for a refusal that leaves every byte of both parts.
+    pub fn refuses(&mut self, want: Error, call: impl FnOnce(&mut Parts) -> Result<Counts, Error>) {
+        let before = self.clone();
+        assert_eq!(call(self), Err(want));
+        assert!(*self == before, "{want}: a refused call has changed the log");
+    }
+
+    /// Asks for the same refusal of every call that appends.
+    pub fn refuses_all(&mut self, want: Error) {
+        let next = Given { record: &[0; 68], in_check: 0, list: &[] };
+        self.refuses(want, |parts| parts.make_move(1153, next));
+        self.refuses(want, |parts| parts.offer_draw(0));
+        self.refuses(want, |parts| parts.resign(1));
+        self.refuses(want, Parts::accept_draw);
+        self.refuses(want, Parts::declare_draw);
+    }
+}
+
+/// Numbers that look random and are the same each time.
+pub struct Numbers(pub u64);
+
+impl Numbers {
+    pub fn below(&mut self, bound: u64) -> u64 {
+        self.0 ^= self.0 << 13;
+        self.0 ^= self.0 >> 7;
+        self.0 ^= self.0 << 17;
+        self.0 % bound
+    }
+}

@@ -1,0 +1,186 @@
+//! Every refusal of the calls without a log, with the room that was lent as it was.
+
+use menkhodur::lent::{self, Record};
+use menkhodur::{Board, Error, Move};
+
+const KNIGHT: &[u8] = b"8/8/8/8/8/8/8/1N6 w - -";
+
+fn record(fen: &[u8]) -> Record {
+    lent::fen_read(fen).unwrap()
+}
+
+/// One record for each of the 68 numbers, out of range in that number alone, by one and by as much as a byte can.
+fn out_of_range() -> impl Iterator<Item = Record> {
+    (0..68).flat_map(|place| {
+        let over = [13, 2, 4, 4, 9][usize::max(place, 63) - 63];
+        [over, 255].map(|number| {
+            let mut record = record(b"rnbqkbnr/pppppppp/8/8/8/8/PPPPPPPP/RNBQKBNR w KQkq -");
+            record[place] = number;
+            record
+        })
+    })
+}
+
+/// Asks for a refusal that leaves every byte of the room.
+fn refuses_room(want: Error, length: usize, call: impl FnOnce(&mut [u8]) -> Result<usize, Error>) {
+    let mut room = vec![0xA5; length];
+    assert_eq!(call(&mut room), Err(want));
+    assert!(room.iter().all(|&byte| byte == 0xA5), "{want}: a refused call has written");
+}
+
+#[test]
+fn number_1_fen() {
+    let texts: [&[u8]; 8] = [b"", b"8/8 w -", b"8/8/8/8/8/8/8/9 w - -", b"8 x - -", b"8  w - -", b"\xff w - -", b"8 w\r - -", b"0 w - -"];
+    for text in texts {
+        assert_eq!(lent::fen_read(text), Err(Error::InvalidFen));
+        assert_eq!(Board::from_fen(text), Err(Error::InvalidFen));
+    }
+    assert_eq!("8/8 w -".parse::<Board>().unwrap_err().number(), 1);
+}
+
+#[test]
+fn number_2_square() {
+    for text in [&b"z9e4"[..], b"e2z9", b"e0e4", b"e2e9", b"E2e4", b"i1e4q", b"h\xc3\xa9", b"z9z"] {
+        assert_eq!(lent::move_read(text), Err(Error::InvalidSquare));
+        assert_eq!(Move::from_text(text), Err(Error::InvalidSquare));
+    }
+    assert_eq!("z9e4".parse::<Move>().unwrap_err().number(), 2);
+}
+
+#[test]
+fn number_3_coordinates() {
+    for text in [&b""[..], b"e", b"z", b"e2", b"e2e", b"e2z", b"e2e4k", b"e2e4p", b"e2e4Q", b"e2e4 "] {
+        assert_eq!(lent::move_read(text), Err(Error::InvalidUciMove));
+        assert_eq!(Move::from_text(text), Err(Error::InvalidUciMove));
+    }
+    assert_eq!("e2e4k".parse::<Move>().unwrap_err().number(), 3);
+}
+
+#[test]
+fn number_4_san() {
+    let board = Board::from_fen(KNIGHT).unwrap();
+    let (list, other) = ([1153], [Move::from_number(1153).unwrap()]);
+    for text in [&b""[..], b"N", b"Nc", b"Nc4", b"c3", b"Bc3", b"Nc3x", b"Nxc3", b"Nc3Q", b"O-O", b"\xff"] {
+        assert_eq!(lent::san_read(board.numbers(), &list, text), Err(Error::InvalidSanMove));
+        assert_eq!(board.read_san(&other, text), Err(Error::InvalidSanMove));
+    }
+    assert_eq!(board.read_san(&[other[0], other[0]], "Nc3").unwrap_err().number(), 4);
+    assert_eq!(board.read_san(&[], "Nc3"), Err(Error::InvalidSanMove));
+}
+
+#[test]
+fn number_5_squares_and_rights() {
+    let refused = [
+        lent::make_square(8, 0),
+        lent::make_square(0, 8),
+        lent::make_square(255, 255),
+        lent::rights_add(4, 0),
+        lent::rights_add(0, 4),
+        lent::rights_remove(4, 0),
+        lent::rights_remove(0, 255),
+        lent::square_rights(2, 0),
+        lent::square_rights(0, 64),
+    ];
+    assert_eq!(refused, [Err(Error::OutOfRange); 9]);
+}
+
+#[test]
+fn number_5_steps() {
+    let empty = [0; 68];
+    let of_a_number = [
+        lent::piece(&empty, 64, 1),
+        lent::piece(&empty, 0, 0),
+        lent::piece(&empty, 0, 13),
+        lent::clear_square(&empty, 64),
+        lent::side_to_move(&empty, 2),
+        lent::castle_rights(&empty, 2, 0),
+        lent::castle_rights(&empty, 0, 4),
+        lent::en_passant(&empty, 9),
+    ];
+    assert_eq!(of_a_number, [Err(Error::OutOfRange); 8]);
+    for bad in out_of_range() {
+        assert_eq!(lent::piece(&bad, 0, 1), Err(Error::OutOfRange));
+        assert_eq!(lent::clear_square(&bad, 0), Err(Error::OutOfRange));
+        assert_eq!(lent::side_to_move(&bad, 0), Err(Error::OutOfRange));
+        assert_eq!(lent::castle_rights(&bad, 0, 0), Err(Error::OutOfRange));
+        assert_eq!(lent::en_passant(&bad, 0), Err(Error::OutOfRange));
+    }
+}
+
+#[test]
+fn number_5_records() {
+    for bad in out_of_range() {
+        refuses_room(Error::OutOfRange, 85, |room| lent::fen_write(&bad, room));
+        refuses_room(Error::OutOfRange, 0, |room| lent::fen_write(&bad, room));
+        refuses_room(Error::OutOfRange, 11, |room| lent::san_name(&bad, &[1153], 1153, room));
+        refuses_room(Error::OutOfRange, 11, |room| lent::san_name(&bad, &[28_672], 0, room));
+        assert_eq!(lent::san_read(&bad, &[28_672], b"Nc3"), Err(Error::OutOfRange));
+        assert_eq!(Board::from_numbers(&bad).unwrap_err().number(), 5);
+    }
+}
+
+#[test]
+fn number_6_moves_are_never_cut() {
+    for number in [28_672, 65_535, 65_536, 65_536 + 1_804, 70_000, (1 << 32) + 1_804, u64::MAX] {
+        refuses_room(Error::ListOutOfRange, 5, |room| lent::move_write(number, room));
+        refuses_room(Error::ListOutOfRange, 0, |room| lent::move_write(number, room));
+        assert_eq!(Move::from_number(number).unwrap_err().number(), 6);
+    }
+}
+
+#[test]
+fn number_6_lists() {
+    let knight = record(KNIGHT);
+    let long = [1153; 256];
+    for list in [&long[..], &[1153, 28_672], &[65_535]] {
+        assert_eq!(lent::san_read(&knight, list, b""), Err(Error::ListOutOfRange));
+        refuses_room(Error::ListOutOfRange, 11, |room| lent::san_name(&knight, list, 1153, room));
+        refuses_room(Error::ListOutOfRange, 0, |room| lent::san_name(&knight, list, 70_000, room));
+    }
+    let board = Board::from_fen(KNIGHT).unwrap();
+    let long = [Move::from_number(1153).unwrap(); 256];
+    assert_eq!(board.read_san(&long, "Nc3").unwrap_err().number(), 6);
+    assert_eq!(board.name(&long, long[0]).unwrap_err().number(), 6);
+    assert_eq!(board.read_san(&long[..255], "Nc3").unwrap_err().number(), 4);
+}
+
+#[test]
+fn number_7_rooms() {
+    let full = record(b"r1b1k2r/p1p1p1p1/1p1p1p1p/P1P1P1P1/1P1P1P1P/p1p1p1p1/1P1P1P1P/R1B1K2R b KQkq e3");
+    let needed = lent::fen_write(&full, &mut [0; 85]).unwrap();
+    for length in 0..needed {
+        refuses_room(Error::OutputTooShort { needed }, length, |room| lent::fen_write(&full, room));
+    }
+    for (number, needed) in [(1_804, 4), (22_284, 5)] {
+        for length in 0..needed {
+            refuses_room(Error::OutputTooShort { needed }, length, |room| lent::move_write(number, room));
+        }
+    }
+    let pawn = record(b"8/8/8/4P3/8/8/8/8 w - -");
+    let needed = "exd6 e.p.".len();
+    for length in 0..needed {
+        refuses_room(Error::OutputTooShort { needed }, length, |room| lent::san_name(&pawn, &[2788], 2788, room));
+    }
+    assert_eq!(Error::OutputTooShort { needed }.number(), 7);
+}
+
+#[test]
+fn number_8_no_name() {
+    let pawn = record(b"8/4P3/8/8/8/8/8/8 w - -");
+    refuses_room(Error::NoName, 11, |room| lent::san_name(&pawn, &[3892, 28_468], 28_468, room));
+    refuses_room(Error::NoName, 0, |room| lent::san_name(&pawn, &[3892, 28_468], 28_468, room));
+    let board = Board::from_fen(KNIGHT).unwrap();
+    let twice = [Move::from_number(1153).unwrap(); 2];
+    assert_eq!(board.name(&twice, twice[0]).unwrap_err().number(), 8);
+}
+
+#[test]
+fn number_11_names_are_never_cut() {
+    let knight = record(KNIGHT);
+    for number in [0, 1154, 28_672, 65_536 + 1153, 70_000, (1 << 32) + 1153, u64::MAX] {
+        refuses_room(Error::MoveNotListed, 11, |room| lent::san_name(&knight, &[1153], number, room));
+        refuses_room(Error::MoveNotListed, 0, |room| lent::san_name(&knight, &[1153], number, room));
+    }
+    let board = Board::from_fen(KNIGHT).unwrap();
+    assert_eq!(board.name(&[], Move::from_number(1153).unwrap()).unwrap_err().number(), 11);
+}

@@ -1,0 +1,257 @@
+//! Every refusal of the log's calls, with both parts and the counts as they were.
+
+use crate::common::{Parts, after, moves, play};
+use menkhodur::lent::{self, ACTIONS_PART, Given, POSITIONS_PART, Record};
+use menkhodur::{Board, Color, Counts, Error, Log, Move, Position};
+
+const TO_C3: u64 = 1153;
+
+fn knight() -> Record {
+    lent::fen_read(b"8/8/8/8/8/8/8/1N6 w - -").unwrap()
+}
+
+fn moved() -> Record {
+    lent::fen_read(b"8/8/8/8/8/2N5/8/8 b - -").unwrap()
+}
+
+fn started() -> Parts {
+    Parts::start(&knight(), &[1153])
+}
+
+fn refuses_start(parts: &mut Parts, want: Error, given: Given<'_>) {
+    parts.refuses(want, |parts| lent::game_start(&parts.actions, &mut parts.positions, given));
+}
+
+/// A log's own refusals: what it holds, and its counts, are compared.
+fn refuses(log: &mut Log, want: Error, call: impl FnOnce(&mut Log) -> Result<(), Error>) {
+    let before = log.clone();
+    assert_eq!(call(log), Err(want));
+    assert!(*log == before, "{want}: a refused call has changed the log");
+}
+
+#[test]
+fn number_5_positions_and_colours() {
+    let mut parts = started();
+    let mut bad = moved();
+    bad[0] = 13;
+    for (record, in_check) in [(&bad, 0), (&moved(), 2), (&moved(), 255)] {
+        let given = Given { record, in_check, list: &[28_672] };
+        parts.refuses(Error::OutOfRange, |parts| parts.make_move(TO_C3, given));
+        refuses_start(&mut parts, Error::OutOfRange, given);
+    }
+    for colour in [2, 255] {
+        parts.refuses(Error::OutOfRange, |parts| parts.offer_draw(colour));
+        parts.refuses(Error::OutOfRange, |parts| parts.resign(colour));
+    }
+}
+
+#[test]
+fn number_6_lists() {
+    let mut parts = started();
+    let long = [1153; 256];
+    for list in [&long[..], &[28_672], &[0, 65_535]] {
+        // White to move would be 12, were the list not looked at first.
+        let given = Given { record: &knight(), in_check: 0, list };
+        parts.refuses(Error::ListOutOfRange, |parts| parts.make_move(TO_C3, given));
+        refuses_start(&mut parts, Error::ListOutOfRange, given);
+    }
+    let list = [Move::from_number(TO_C3).unwrap(); 256];
+    let board = Board::from_numbers(&knight()).unwrap();
+    assert_eq!(Log::start(&Position { board, in_check: false, list: &list }), Err(Error::ListOutOfRange));
+    let mut log = Log::start(&Position { board, in_check: false, list: &list[..255] }).unwrap();
+    let next = Position { board, in_check: false, list: &list };
+    refuses(&mut log, Error::ListOutOfRange, |log| log.make_move(list[0], &next));
+}
+
+#[test]
+fn number_9_counts_are_never_cut() {
+    for (actions, moves) in [
+        (1, 0),
+        (0, 1),
+        (2_049, 0),
+        (0, 1_025),
+        (1 << 16, 0),
+        (0, 1 << 16),
+        (70_000, 0),
+        (0, 70_000),
+        (1 << 32, 0),
+        (0, 1 << 32),
+        (u64::MAX, 0),
+        (0, u64::MAX),
+        (u64::MAX, u64::MAX),
+    ] {
+        let mut parts = started();
+        parts.counts = Counts { actions, moves };
+        parts.refuses_all(Error::LogNotGood);
+        assert_eq!(parts.result(), Err(Error::LogNotGood));
+        assert_eq!(parts.can_declare_draw(), Err(Error::LogNotGood));
+        assert_eq!(Log::from_parts(&parts.actions, &parts.positions, parts.counts), Err(Error::LogNotGood));
+    }
+}
+
+#[test]
+fn number_9_bytes() {
+    let log = play(Board::from_numbers(&knight()).unwrap(), "b1c3", "", "b1c3");
+    // Each alters one used byte: of the action its kind, colour and move, of the start its record, check and list, and of the second
+    // position its side to move.
+    let edits = [(true, 0, 0), (true, 0, 6), (true, 1, 1), (true, 2, 130), (true, 3, 5)];
+    let more = [(false, 0, 13), (false, 68, 2), (false, 69, 0), (false, 70, 130), (false, 72, 1), (false, 580 + 64, 0)];
+    for (action, place, byte) in edits.into_iter().chain(more) {
+        let mut parts = Parts::of(&log);
+        let part = if action { &mut parts.actions } else { &mut parts.positions };
+        assert_ne!(part[place], byte);
+        part[place] = byte;
+        parts.refuses_all(Error::LogNotGood);
+        assert_eq!(parts.result(), Err(Error::LogNotGood));
+        assert_eq!(parts.can_declare_draw(), Err(Error::LogNotGood));
+        assert_eq!(Log::from_parts(&parts.actions, &parts.positions, parts.counts), Err(Error::LogNotGood));
+    }
+}
+
+#[test]
+fn number_10_after_each_ending() {
+    let board = Board::from_numbers(&knight()).unwrap();
+    let mut resigned = play(board, "", "", "b1c3");
+    resigned.resign(Color::White).unwrap();
+    let mut accepted = play(board, "", "", "b1c3");
+    accepted.offer_draw(Color::Black).unwrap();
+    accepted.accept_draw().unwrap();
+    let stalemate = play(board, "", "", "");
+    let mate = Log::start(&Position { board, in_check: true, list: &[] }).unwrap();
+    for mut log in [resigned, accepted, stalemate, mate] {
+        let mut parts = Parts::of(&log);
+        parts.refuses_all(Error::GameOver);
+        // Whether a game is over is asked of a good log only.
+        parts.counts.actions += 1;
+        parts.refuses_all(Error::LogNotGood);
+        let next = Position { board, in_check: false, list: &[] };
+        refuses(&mut log, Error::GameOver, |log| log.make_move(moves("b1c3")[0], &next));
+        refuses(&mut log, Error::GameOver, |log| log.offer_draw(Color::White));
+        refuses(&mut log, Error::GameOver, |log| log.resign(Color::White));
+        refuses(&mut log, Error::GameOver, Log::accept_draw);
+        refuses(&mut log, Error::GameOver, Log::declare_draw);
+        assert!(!log.can_declare_draw());
+    }
+}
+
+#[test]
+fn number_11_moves_are_never_cut() {
+    let mut parts = started();
+    let next = Given { record: &moved(), in_check: 0, list: &[] };
+    for number in [0, 1154, 28_672, 65_536 + TO_C3, 70_000, (1 << 32) + TO_C3, u64::MAX] {
+        parts.refuses(Error::MoveNotListed, |parts| parts.make_move(number, next));
+        // Not even a position that is out of range is looked at before the move.
+        let bad = Given { record: &[255; 68], in_check: 2, list: &[65_535] };
+        parts.refuses(Error::MoveNotListed, |parts| parts.make_move(number, bad));
+    }
+    let mut log = play(Board::default(), "", "", "b1c3");
+    let next = Position { board: Board::default(), in_check: false, list: &[] };
+    refuses(&mut log, Error::MoveNotListed, |log| log.make_move(moves("c3b1")[0], &next));
+}
+
+#[test]
+fn number_12_side() {
+    let mut parts = started();
+    let next = Given { record: &knight(), in_check: 0, list: &[] };
+    parts.refuses(Error::WrongSideToMove, |parts| parts.make_move(TO_C3, next));
+    let mut log = play(Board::default(), "", "", "b1c3");
+    let next = Position { board: Board::default(), in_check: false, list: &[] };
+    refuses(&mut log, Error::WrongSideToMove, |log| log.make_move(moves("b1c3")[0], &next));
+}
+
+/// A log with 2,048 actions, of which the last are offers.
+fn full(mut log: Log) -> Log {
+    while log.counts().actions < 2_048 {
+        log.offer_draw(Color::White).unwrap();
+    }
+    log
+}
+
+#[test]
+fn number_13_actions() {
+    let mut log = full(play(Board::default(), "", "", "b1c3"));
+    let board = Board::default().side_to_move(Color::Black);
+    let next = Position { board, in_check: false, list: &[] };
+    refuses(&mut log, Error::LogFull, |log| log.make_move(moves("b1c3")[0], &next));
+    refuses(&mut log, Error::LogFull, |log| log.offer_draw(Color::Black));
+    refuses(&mut log, Error::LogFull, |log| log.resign(Color::Black));
+    refuses(&mut log, Error::LogFull, Log::accept_draw);
+    // What else is wrong comes before a full log.
+    refuses(&mut log, Error::NoClaim, Log::declare_draw);
+    let wrong_side = Position { board: Board::default(), ..next };
+    refuses(&mut log, Error::WrongSideToMove, |log| log.make_move(moves("b1c3")[0], &wrong_side));
+    let mut parts = Parts::of(&log);
+    parts.refuses(Error::OutOfRange, |parts| parts.offer_draw(2));
+    parts.refuses(Error::OutOfRange, |parts| parts.resign(2));
+}
+
+#[test]
+fn number_13_claims_and_offers() {
+    let back_and_forth = "b1c3 b8c6 c3b1 c6b8 b1c3 b8c6 c3b1 c6b8";
+    let mut log = full(play(Board::default(), back_and_forth, "b1c3 b8c6 c3b1 c6b8", "b1c3 b1c3 b8c6 c3b1 c6b8"));
+    assert!(log.can_declare_draw());
+    refuses(&mut log, Error::LogFull, Log::declare_draw);
+    Parts::of(&log).refuses(Error::LogFull, Parts::declare_draw);
+
+    // Offers and then two moves: full, and with no offer that stands.
+    let mut log = play(Board::default(), "", "", "b1c3");
+    while log.counts().actions < 2_046 {
+        log.offer_draw(Color::White).unwrap();
+    }
+    for (made, list) in [("b1c3", "b8c6"), ("b8c6", "c3b1")] {
+        let board = after(log.current_position(), moves(made)[0]);
+        log.make_move(moves(made)[0], &Position { board, in_check: false, list: &moves(list) }).unwrap();
+    }
+    assert_eq!(log.counts(), Counts { actions: 2_048, moves: 2 });
+    refuses(&mut log, Error::NoDrawOffer, Log::accept_draw);
+}
+
+#[test]
+fn number_13_moves() {
+    let board = Board::default();
+    let mut log = play(board, &"b1c3 b8c6 c3b1 c6b8 ".repeat(256), "", "b1c3");
+    assert_eq!(log.counts(), Counts { actions: 1_024, moves: 1_024 });
+    let next = Position { board: board.side_to_move(Color::Black), in_check: false, list: &[] };
+    refuses(&mut log, Error::LogFull, |log| log.make_move(moves("b1c3")[0], &next));
+    log.offer_draw(Color::White).unwrap();
+    assert_eq!(log.counts(), Counts { actions: 1_025, moves: 1_024 });
+    assert_eq!(Log::from_parts(log.used_actions(), log.used_positions(), log.counts()), Ok(log));
+}
+
+#[test]
+fn number_14_offers() {
+    let mut parts = started();
+    parts.refuses(Error::NoDrawOffer, Parts::accept_draw);
+    let mut log = play(Board::default(), "b1c3", "", "b8c6");
+    refuses(&mut log, Error::NoDrawOffer, Log::accept_draw);
+    assert_eq!(log.accept_draw().unwrap_err().number(), 14);
+}
+
+#[test]
+fn number_15_claims() {
+    let mut parts = started();
+    parts.refuses(Error::NoClaim, Parts::declare_draw);
+    let mut log = play(Board::default(), "b1c3 b8c6 c3b1 c6b8", "", "b1c3");
+    assert!(!log.can_declare_draw());
+    refuses(&mut log, Error::NoClaim, Log::declare_draw);
+    assert_eq!(log.declare_draw().unwrap_err().number(), 15);
+}
+
+#[test]
+fn number_16_parts() {
+    let whole = started();
+    for (actions, positions) in [(ACTIONS_PART - 1, POSITIONS_PART), (ACTIONS_PART, POSITIONS_PART - 1), (0, 0), (4, 580)] {
+        let mut parts = whole.clone();
+        parts.actions.truncate(actions);
+        parts.positions.truncate(positions);
+        // Counts that are over their limits, or a position that is out of range, are only looked at in parts that are long enough.
+        for counts in [Counts::default(), Counts { actions: 70_000, moves: u64::MAX }] {
+            parts.counts = counts;
+            parts.refuses_all(Error::PartTooShort);
+            assert_eq!(parts.result(), Err(Error::PartTooShort));
+            assert_eq!(parts.can_declare_draw(), Err(Error::PartTooShort));
+        }
+        refuses_start(&mut parts, Error::PartTooShort, Given { record: &[255; 68], in_check: 2, list: &[65_535] });
+    }
+    assert_eq!(Error::PartTooShort.number(), 16);
+}

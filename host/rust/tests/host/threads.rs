@@ -1,0 +1,58 @@
+//! The archive keeps nothing between calls, so what is owned can be sent and what is shared can be asked.
+
+use crate::common::play;
+use menkhodur::{ALL_COLORS, Action, Board, Error, GameResult, Log, Move, Position, Square};
+use std::thread;
+
+#[test]
+fn everything_is_send_and_sync() {
+    fn both<T: Send + Sync + 'static>() {}
+    both::<Board>();
+    both::<Move>();
+    both::<Square>();
+    both::<Log>();
+    both::<Action>();
+    both::<GameResult>();
+    both::<Error>();
+    both::<Position<'static>>();
+    let _: Box<dyn std::error::Error + Send + Sync> = Error::GameOver.into();
+}
+
+#[test]
+fn one_log_is_asked_by_many() {
+    let log = play(Board::default(), &"b1c3 b8c6 c3b1 c6b8 ".repeat(3), "", "b1c3");
+    thread::scope(|scope| {
+        for _ in 0..4 {
+            scope.spawn(|| {
+                for _ in 0..50 {
+                    assert_eq!((log.result(), log.can_declare_draw()), (None, true));
+                }
+            });
+        }
+    });
+}
+
+#[test]
+fn many_make_their_own() {
+    let workers = ALL_COLORS.map(|color| {
+        thread::spawn(move || {
+            let mut log = play(Board::default(), "b1c3 b8c6", "", "c3b1");
+            log.resign(color).unwrap();
+            log
+        })
+    });
+    let results = workers.map(|worker| worker.join().unwrap().result());
+    assert_eq!(results, [Some(GameResult::WhiteResigns), Some(GameResult::BlackResigns)]);
+}
+
+/// The two parts have over 600,000 bytes: a thread with a fifth of that would be gone if they ever lay on its stack.
+#[test]
+fn a_log_does_not_lie_on_the_stack() {
+    let small = thread::Builder::new().stack_size(128 * 1024);
+    let worker = small.spawn(|| {
+        let log = play(Board::default(), "b1c3 b8c6", "", "c3b1");
+        let copy = log.clone();
+        Log::from_parts(copy.used_actions(), copy.used_positions(), copy.counts()) == Ok(log)
+    });
+    assert!(worker.unwrap().join().unwrap());
+}
