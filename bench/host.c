@@ -1,0 +1,346 @@
+/* How long each function takes through the archive: nanoseconds a call, the best of several rounds. A call goes through a pointer,
+ * which is in the time.
+ *
+ *     rt staticlib menkhodur
+ *     gcc -std=c11 -O2 bench/host.c target/staticlib/libmenkhodur.a -o target/bench_host && target/bench_host examples/positions.fen
+ *
+ * FEN: the positions of the file, each different. Lists: the moves of the men of such a position by the way they go (checks,
+ * castling and captures in passing left out), of positions with 30 to 38 of them. Logs: 300 and 1,024 moves through such positions, the
+ * last eight a round of knights, so that a claim stands by two earlier equal positions, and an offer at the end: every call is accepted.
+ */
+#define _POSIX_C_SOURCE 199309L
+#include "../host/menkhodur.h"
+
+#include <stdio.h>
+#include <stdlib.h>
+#include <string.h>
+#include <time.h>
+
+enum { MOST = 2048, ROUNDS = 100, FEWEST_ENTRIES = 30, MOST_ENTRIES = 38 };
+
+struct scene {
+    menkhodur_board board;
+    uint16_t list[256];
+    size_t entries;
+    uint64_t move;
+    uint8_t name[MENKHODUR_LONGEST_NAME];
+    size_t name_length;
+};
+
+struct log {
+    uint8_t actions[MENKHODUR_ACTIONS_LENGTH], positions[MENKHODUR_POSITIONS_LENGTH];
+    uint64_t action_count, move_count;
+};
+
+static char lines[MOST][128];
+static size_t lengths[MOST], line_count;
+static menkhodur_board boards[MOST];
+static struct scene scenes[MOST];
+static size_t scene_count;
+static uint8_t coordinates[MOST][MENKHODUR_LONGEST_COORDINATE];
+static struct log logs[2], *log_in_use;
+static volatile uint64_t sink;
+
+static unsigned any(unsigned below)
+{
+    static uint64_t seed = UINT64_C(88172645463325252);
+    seed ^= seed << 13;
+    seed ^= seed >> 7;
+    seed ^= seed << 17;
+    return (unsigned)(seed >> 33) % below;
+}
+
+/* ---- Lists ---- */
+
+static int side_of(uint8_t code)
+{
+    return code > 6;
+}
+
+static void add(struct scene *s, int from, int to)
+{
+    uint8_t code = s->board.pieces[from];
+    int last = to / 8 == 0 || to / 8 == 7;
+    if (code % 6 != 1 || !last) s->list[s->entries++] = (uint16_t)(from + 64 * to);
+    else for (int promotion = 2; promotion <= 5; promotion++) s->list[s->entries++] = (uint16_t)(from + 64 * to + 4096 * promotion);
+}
+
+/* Whether the way goes on behind this square. */
+static int reach(struct scene *s, int from, int rank, int file)
+{
+    uint8_t there;
+    if (rank < 0 || rank > 7 || file < 0 || file > 7) return 0;
+    there = s->board.pieces[8 * rank + file];
+    if (!there || side_of(there) != s->board.side_to_move) add(s, from, 8 * rank + file);
+    return !there;
+}
+
+static void add_man(struct scene *s, int from, int kind)
+{
+    static const int ways[16][2] = { { 1, 0 }, { -1, 0 }, { 0, 1 }, { 0, -1 }, { 1, 1 }, { 1, -1 }, { -1, 1 }, { -1, -1 },
+                                     { 1, 2 }, { 1, -2 }, { -1, 2 }, { -1, -2 }, { 2, 1 }, { 2, -1 }, { -2, 1 }, { -2, -1 } };
+    int first = kind == 2 ? 8 : kind == 3 ? 4 : 0, end = kind == 2 ? 16 : kind == 4 ? 4 : 8;
+    for (int w = first; w < end; w++)
+        for (int k = 1; k < 8 && reach(s, from, from / 8 + k * ways[w][0], from % 8 + k * ways[w][1]) && kind >= 3 && kind <= 5; k++) {}
+}
+
+static void add_pawn(struct scene *s, int from)
+{
+    int step = s->board.side_to_move ? -8 : 8, home = s->board.side_to_move ? 6 : 1, to = from + step;
+    if (to < 0 || to > 63) return;
+    if (!s->board.pieces[to]) {
+        add(s, from, to);
+        if (from / 8 == home && !s->board.pieces[to + step]) add(s, from, to + step);
+    }
+    for (int turn = -1; turn <= 1; turn += 2) {
+        int file = from % 8 + turn;
+        uint8_t there = file >= 0 && file < 8 ? s->board.pieces[to + turn] : 0;
+        if (there && side_of(there) != s->board.side_to_move) add(s, from, to + turn);
+    }
+}
+
+static void make_list(struct scene *s)
+{
+    s->entries = 0;
+    for (int from = 0; from < 64 && s->entries < 200; from++) {
+        uint8_t code = s->board.pieces[from];
+        if (!code || side_of(code) != s->board.side_to_move) continue;
+        if (code % 6 == 1) add_pawn(s, from);
+        else add_man(s, from, side_of(code) ? code - 6 : code);
+    }
+}
+
+/* ---- Inputs ---- */
+
+static void read_lines(const char *path)
+{
+    FILE *f = fopen(path, "r");
+    if (!f) {
+        perror(path);
+        exit(1);
+    }
+    while (line_count < MOST && fgets(lines[line_count], sizeof lines[0], f)) {
+        lengths[line_count] = strcspn(lines[line_count], "\n");
+        boards[line_count] = menkhodur_fen_read((const uint8_t *)lines[line_count], lengths[line_count]).board;
+        line_count++;
+    }
+    fclose(f);
+}
+
+static void make_scenes(void)
+{
+    for (size_t i = 0; i < line_count; i++) {
+        struct scene *s = &scenes[scene_count];
+        menkhodur_answer named;
+        s->board = boards[i];
+        make_list(s);
+        if (s->entries < FEWEST_ENTRIES || s->entries > MOST_ENTRIES) continue;
+        s->move = s->list[any((unsigned)s->entries)];
+        named = menkhodur_san_name(s->board, s->list, s->entries, s->move, s->name, sizeof s->name);
+        if (named.number) continue;
+        s->name_length = (size_t)named.value;
+        menkhodur_move_write(s->move, coordinates[scene_count], sizeof coordinates[0]);
+        scene_count++;
+    }
+}
+
+static void must(uint64_t number, const char *what)
+{
+    if (number == 0) return;
+    printf("bench/host.c: %s was refused with %d\n", what, (int)number);
+    exit(1);
+}
+
+static struct scene scene_for(uint8_t side)
+{
+    for (;;) {
+        struct scene *s = &scenes[any((unsigned)scene_count)];
+        if (s->board.side_to_move == side) return *s;
+    }
+}
+
+/* The position `k` moves into the knights' round, its list with the move that goes on. */
+static struct scene round_scene(uint64_t k)
+{
+    static const uint8_t from[4] = { 6, 62, 21, 45 }, to[4] = { 21, 45, 6, 62 };
+    static const char start[] = "rnbqkbnr/pppppppp/8/8/8/8/PPPPPPPP/RNBQKBNR w KQkq -";
+    struct scene s;
+    s.board = menkhodur_fen_read((const uint8_t *)start, sizeof start - 1).board;
+    for (uint64_t i = 0; i < k % 4; i++) {
+        s.board.pieces[to[i]] = s.board.pieces[from[i]];
+        s.board.pieces[from[i]] = 0;
+        s.board.side_to_move ^= 1;
+    }
+    make_list(&s);
+    s.move = from[k % 4] + 64u * to[k % 4];
+    return s;
+}
+
+static struct scene log_scene(uint64_t k, uint64_t moves)
+{
+    return k + 8 < moves ? scene_for((uint8_t)(k % 2)) : round_scene(k + 8 - moves);
+}
+
+static void make_log(struct log *l, uint64_t moves)
+{
+    struct scene now = log_scene(0, moves);
+    menkhodur_counts c = menkhodur_game_start(l->actions, sizeof l->actions, l->positions, sizeof l->positions, now.board, 0, now.list, now.entries);
+    must(c.number, "a start");
+    while (c.moves < moves) {
+        struct scene next = log_scene(c.moves + 1, moves);
+        c = menkhodur_game_make_move(l->actions, sizeof l->actions, l->positions, sizeof l->positions, c.actions, c.moves, now.move, next.board, 0,
+                                     next.list, next.entries);
+        must(c.number, "a move");
+        now = next;
+    }
+    c = menkhodur_game_offer_draw(l->actions, sizeof l->actions, l->positions, sizeof l->positions, c.actions, c.moves, 0);
+    must(c.number, "an offer");
+    l->action_count = c.actions;
+    l->move_count = c.moves;
+}
+
+/* ---- Calls ---- */
+
+#define PARTS log_in_use->actions, sizeof log_in_use->actions, log_in_use->positions, sizeof log_in_use->positions
+#define COUNTS log_in_use->action_count, log_in_use->move_count
+
+static uint64_t make_square(size_t i) { return menkhodur_make_square(i % 8, i / 8 % 8).value; }
+static uint64_t rights_add(size_t i) { return menkhodur_rights_add(i % 4, i / 4 % 4).value; }
+static uint64_t rights_remove(size_t i) { return menkhodur_rights_remove(i % 4, i / 4 % 4).value; }
+static uint64_t square_rights(size_t i) { return menkhodur_square_rights(i % 2, i / 2 % 64).value; }
+static uint64_t piece(size_t i) { return menkhodur_piece(boards[i % line_count], i % 64, 1 + i % 12).number; }
+static uint64_t clear_square(size_t i) { return menkhodur_clear_square(boards[i % line_count], i % 64).number; }
+static uint64_t side_to_move(size_t i) { return menkhodur_side_to_move(boards[i % line_count], i % 2).number; }
+static uint64_t castle_rights(size_t i) { return menkhodur_castle_rights(boards[i % line_count], i % 2, i / 2 % 4).number; }
+static uint64_t en_passant(size_t i) { return menkhodur_en_passant(boards[i % line_count], i % 9).number; }
+static uint64_t fen_read(size_t i) { return menkhodur_fen_read((const uint8_t *)lines[i % line_count], lengths[i % line_count]).number; }
+static uint64_t move_read(size_t i) { return menkhodur_move_read(coordinates[i % scene_count], 4).value; }
+
+static uint64_t fen_write(size_t i)
+{
+    uint8_t out[MENKHODUR_LONGEST_FEN];
+    return menkhodur_fen_write(boards[i % line_count], out, sizeof out).value;
+}
+
+static uint64_t move_write(size_t i)
+{
+    uint8_t out[MENKHODUR_LONGEST_COORDINATE];
+    return menkhodur_move_write(scenes[i % scene_count].move, out, sizeof out).value;
+}
+
+static uint64_t san_read(size_t i)
+{
+    const struct scene *s = &scenes[i % scene_count];
+    return menkhodur_san_read(s->board, s->list, s->entries, s->name, s->name_length).value;
+}
+
+static uint64_t san_name(size_t i)
+{
+    const struct scene *s = &scenes[i % scene_count];
+    uint8_t out[MENKHODUR_LONGEST_NAME];
+    return menkhodur_san_name(s->board, s->list, s->entries, s->move, out, sizeof out).value;
+}
+
+/* Into a log of its own, so that the others stay good. */
+static uint64_t game_start(size_t i)
+{
+    static struct log other;
+    const struct scene *s = &scenes[i % scene_count];
+    return menkhodur_game_start(other.actions, sizeof other.actions, other.positions, sizeof other.positions, s->board, 0, s->list,
+                                s->entries).number;
+}
+
+/* The counts are not handed on, so that every call finds the same log. At 1,024 moves a move is refused with 13, after all other checks. */
+static uint64_t game_make_move(size_t i)
+{
+    static struct scene now, next;
+    if (i == 0) now = round_scene(8), next = round_scene(9);
+    return menkhodur_game_make_move(PARTS, COUNTS, now.move, next.board, 0, next.list, next.entries).number;
+}
+
+static uint64_t game_offer_draw(size_t i) { return menkhodur_game_offer_draw(PARTS, COUNTS, i % 2).number; }
+static uint64_t game_resign(size_t i) { return menkhodur_game_resign(PARTS, COUNTS, i % 2).number; }
+static uint64_t game_accept_draw(size_t i) { (void)i; return menkhodur_game_accept_draw(PARTS, COUNTS).number; }
+static uint64_t game_declare_draw(size_t i) { (void)i; return menkhodur_game_declare_draw(PARTS, COUNTS).number; }
+static uint64_t game_result(size_t i) { (void)i; return menkhodur_game_result(PARTS, COUNTS).number; }
+static uint64_t game_can_declare_draw(size_t i) { (void)i; return 1 - menkhodur_game_can_declare_draw(PARTS, COUNTS).value; }
+
+/* ---- Times ---- */
+
+static double now(void)
+{
+    struct timespec t;
+    clock_gettime(CLOCK_MONOTONIC, &t);
+    return (double)t.tv_sec * 1e9 + (double)t.tv_nsec;
+}
+
+static double best(uint64_t (*call)(size_t), size_t calls)
+{
+    double least = 1e18;
+    for (int round = 0; round < ROUNDS; round++) {
+        double from = now(), took;
+        uint64_t sum = 0;
+        for (size_t i = 0; i < calls; i++) sum += call(i);
+        sink += sum;
+        took = (now() - from) / (double)calls;
+        if (took < least) least = took;
+    }
+    return least;
+}
+
+struct row { const char *name; uint64_t (*call)(size_t); };
+
+static void print_base(void)
+{
+    static const struct row rows[] = {
+        { "make_square", make_square }, { "rights_add", rights_add }, { "rights_remove", rights_remove }, { "square_rights", square_rights },
+        { "piece", piece }, { "clear_square", clear_square }, { "side_to_move", side_to_move }, { "castle_rights", castle_rights },
+        { "en_passant", en_passant }, { "fen_read", fen_read }, { "fen_write", fen_write }, { "move_read", move_read },
+        { "move_write", move_write }, { "san_read", san_read }, { "san_name", san_name }, { "game_start", game_start },
+    };
+    printf("%-24s %12s\n", "function", "ns a call");
+    for (size_t i = 0; i < sizeof rows / sizeof *rows; i++) printf("%-24s %12.1f\n", rows[i].name, best(rows[i].call, 16 * MOST));
+}
+
+static double best_on(struct log *l, uint64_t (*call)(size_t))
+{
+    log_in_use = l;
+    return best(call, 100);
+}
+
+static void print_log(void)
+{
+    static const struct row rows[] = {
+        { "game_make_move", game_make_move }, { "game_offer_draw", game_offer_draw }, { "game_resign", game_resign },
+        { "game_accept_draw", game_accept_draw }, { "game_declare_draw", game_declare_draw }, { "game_result", game_result },
+        { "game_can_declare_draw", game_can_declare_draw },
+    };
+    printf("%-24s %12s %12s\n", "function", "300 moves", "1,024 moves");
+    for (size_t i = 0; i < sizeof rows / sizeof *rows; i++)
+        printf("%-24s %12.0f %12.0f\n", rows[i].name, best_on(&logs[0], rows[i].call), best_on(&logs[1], rows[i].call));
+}
+
+/* What the table says of the calls: accepted, but for the move that is one too many. */
+static void check_calls(void)
+{
+    log_in_use = &logs[0];
+    must(game_make_move(0) + game_can_declare_draw(0) + game_declare_draw(0) + game_accept_draw(0) + game_resign(0) + game_offer_draw(0), "a call");
+    log_in_use = &logs[1];
+    must(game_make_move(0) - MENKHODUR_LOG_FULL + game_can_declare_draw(0) + game_declare_draw(0), "a call on the long log");
+}
+
+int main(int argc, char **argv)
+{
+    size_t entries = 0;
+    read_lines(argc > 1 ? argv[1] : "examples/positions.fen");
+    make_scenes();
+    for (size_t i = 0; i < scene_count; i++) entries += scenes[i].entries;
+    make_log(&logs[0], 300);
+    make_log(&logs[1], 1024);
+    check_calls();
+    printf("%zu positions; %zu with lists, %.1f entries each; best of %d rounds\n", line_count, scene_count,
+           (double)entries / (double)scene_count, ROUNDS);
+    print_base();
+    print_log();
+    return 0;
+}

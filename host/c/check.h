@@ -1,0 +1,70 @@
+/* What the checks share: counting and telling, and parts that are lent with guards around them. */
+#ifndef CHECK_H
+#define CHECK_H
+
+#include "../menkhodur.h"
+
+#include <stdbool.h>
+
+/* The checks that follow are of this function with this input. */
+void about(const char *function, const char *input, ...) __attribute__((format(printf, 2, 3)));
+
+void expect(const char *what, uint64_t want, uint64_t got);
+void expect_answer(uint64_t number, uint64_t value, menkhodur_answer got);
+void expect_board(const menkhodur_board *want, const menkhodur_board *got);
+
+/* The numbers that a function can answer, a bit for each. */
+struct answers {
+    const char *function;
+    uint32_t numbers;
+};
+
+/* One line for each function, the sum last; whether every check passed and each function gave each of its numbers. */
+bool report(const struct answers *answers, unsigned functions);
+
+/* A part lent to a call. `want` is what the whole block must hold, guards included: a call that changes no byte leaves it so, and
+ * `expect_written` first puts what the call must have written there. */
+struct part {
+    uint8_t *block, *want, *bytes;
+    size_t length;
+};
+
+/* With `exact` set, parts have no guards and end where their memory ends, so that valgrind sees a read past them too. */
+extern bool exact;
+
+struct part lend(size_t length);
+struct part lend_bytes(const void *bytes, size_t length);
+struct part lend_text(const char *text);
+void give_back(struct part *p);
+
+/* The caller's own change to a part, before a call. */
+void put(struct part *p, size_t at, const void *bytes, size_t length);
+void put_byte(struct part *p, size_t at, uint8_t byte);
+
+void expect_unchanged(const char *what, const struct part *p);
+void expect_written(const char *what, struct part *p, size_t at, const void *bytes, size_t length);
+
+/* Boards. */
+extern const menkhodur_board no_board, initial;
+menkhodur_board board_with(uint8_t side, unsigned men, const uint8_t *squares, const uint8_t *codes);
+uint8_t *number_of(menkhodur_board *b, unsigned which);
+uint8_t limit_of(unsigned which);
+
+/* Numbers of more than 16 bits, some with the highest bit; and such numbers whose low 16 bits are `low`, which a narrower type would
+ * leave. */
+enum { WIDE = 8 };
+extern const uint64_t wide[WIDE];
+uint64_t wide_over(unsigned i, uint64_t low);
+
+/* The checks, by subject. */
+void check_base(void);
+void check_steps(void);
+void check_fen(const char *positions);
+void check_coordinates(void);
+void check_san(void);
+void check_log(void);
+void check_orders(void);
+void check_games(void);
+void check_nulls(void);
+
+#endif

@@ -1,0 +1,174 @@
+/* Games of random actions, good and bad, beside document 01's "Draws and endings" written out once more. */
+#include "game.h"
+
+enum { LONGEST = 60, GAMES = 300, GAMES_EXACT = 20 };
+
+/* What the log must hold: its positions and its actions. */
+struct record {
+    struct position at[LONGEST + 1];
+    struct request done[LONGEST];
+    unsigned actions, moves;
+};
+
+static uint64_t seed = UINT64_C(88172645463325252);
+
+static unsigned any(unsigned below)
+{
+    seed ^= seed << 13;
+    seed ^= seed >> 7;
+    seed ^= seed << 17;
+    return (unsigned)(seed >> 33) % below;
+}
+
+/* ---- Document 01 ---- */
+
+static uint64_t result_of(const struct record *r)
+{
+    const struct position *now = &r->at[r->moves];
+    const struct request *last = r->actions ? &r->done[r->actions - 1] : NULL;
+    if (now->entries == 0 && !now->in_check) return MENKHODUR_STALEMATE;
+    if (now->entries == 0) return now->board.side_to_move ? MENKHODUR_WHITE_CHECKMATES : MENKHODUR_BLACK_CHECKMATES;
+    if (last && last->call == ACCEPT_DRAW) return MENKHODUR_DRAW_ACCEPTED;
+    if (last && last->call == DECLARE_DRAW) return MENKHODUR_DRAW_DECLARED;
+    if (last && last->call == RESIGN) return last->colour ? MENKHODUR_BLACK_RESIGNS : MENKHODUR_WHITE_RESIGNS;
+    return MENKHODUR_GOES_ON;
+}
+
+static bool offer_stands(const struct record *r)
+{
+    const struct request *end = r->done + r->actions;
+    if (r->actions > 0 && end[-1].call == OFFER_DRAW) return true;
+    return r->actions > 1 && end[-2].call == OFFER_DRAW && end[-2].colour != r->at[r->moves].board.side_to_move;
+}
+
+static bool equal(const struct position *p, const struct position *q)
+{
+    bool same = p->entries == q->entries;
+    for (unsigned i = 0; i < 64; i++) same = same && p->board.pieces[i] == q->board.pieces[i];
+    for (size_t i = 0; same && i < p->entries; i++) same = p->list[i] == q->list[i];
+    return same && p->board.side_to_move == q->board.side_to_move && p->board.en_passant == q->board.en_passant
+        && p->board.white_castle_rights == q->board.white_castle_rights && p->board.black_castle_rights == q->board.black_castle_rights;
+}
+
+static bool empties(const struct position *p, uint64_t move, const struct position *q)
+{
+    uint8_t man = p->board.pieces[move % 64];
+    return man == 1 || man == 7 || p->board.pieces[move / 64 % 64] || p->board.white_castle_rights != q->board.white_castle_rights
+        || p->board.black_castle_rights != q->board.black_castle_rights;
+}
+
+static bool claim_stands(const struct record *r)
+{
+    unsigned first = 0, k = 0, equals = 0;
+    for (unsigned i = 0; i < r->actions; i++) {
+        if (r->done[i].call != MAKE_MOVE) continue;
+        if (empties(&r->at[k], r->done[i].move, &r->at[k + 1])) first = k + 1;
+        k++;
+    }
+    for (k = first; k < r->moves; k++) equals += equal(&r->at[k], &r->at[r->moves]);
+    return result_of(r) == MENKHODUR_GOES_ON && (r->moves - first >= 100 || equals >= 2);
+}
+
+static bool in_range(const struct position *p)
+{
+    menkhodur_board b = p->board;
+    bool in = p->in_check < 2;
+    for (unsigned which = 0; which < 68; which++) in = in && *number_of(&b, which) <= limit_of(which);
+    return in;
+}
+
+static bool lists(const struct position *p, uint64_t move)
+{
+    for (size_t i = 0; i < p->entries; i++)
+        if (p->list[i] == move) return true;
+    return false;
+}
+
+static bool bad_list(const struct position *p)
+{
+    bool bad = p->entries > MENKHODUR_LONGEST_LIST;
+    for (size_t i = 0; i < p->entries; i++) bad = bad || p->list[i] > MENKHODUR_LAST_MOVE;
+    return bad;
+}
+
+static uint64_t move_number(const struct record *r, struct request q)
+{
+    if (!lists(&r->at[r->moves], q.move)) return MENKHODUR_NOT_LISTED;
+    if (!in_range(q.next)) return MENKHODUR_OUT_OF_RANGE;
+    if (bad_list(q.next)) return MENKHODUR_BAD_LIST;
+    return q.next->board.side_to_move == r->at[r->moves].board.side_to_move ? MENKHODUR_WRONG_SIDE : MENKHODUR_ACCEPTED;
+}
+
+static uint64_t number_for(const struct record *r, struct request q)
+{
+    if (result_of(r) != MENKHODUR_GOES_ON) return MENKHODUR_GAME_OVER;
+    switch (q.call) {
+    case MAKE_MOVE: return move_number(r, q);
+    case ACCEPT_DRAW: return offer_stands(r) ? MENKHODUR_ACCEPTED : MENKHODUR_NO_OFFER;
+    case DECLARE_DRAW: return claim_stands(r) ? MENKHODUR_ACCEPTED : MENKHODUR_NO_CLAIM;
+    default: return q.colour > 1 ? MENKHODUR_OUT_OF_RANGE : MENKHODUR_ACCEPTED;
+    }
+}
+
+/* ---- Random games ---- */
+
+/* Few boards and few lists, so that positions recur; a pawn or a man in the way, a change of rights and an empty list now and then. */
+static struct position some_position(uint8_t side)
+{
+    struct position p = { no_board, (uint8_t)any(2), { 0 }, any(30) ? 3 : 0 };
+    p.board.side_to_move = side;
+    p.board.pieces[0] = any(20) ? 2 : any(2) ? 1 : 7;
+    p.board.pieces[1] = any(20) ? 0 : 9;
+    p.board.pieces[2] = any(3) ? 4 : 5;
+    p.board.white_castle_rights = any(25) ? 3 : 1;
+    p.board.black_castle_rights = any(25) ? 3 : 2;
+    p.list[0] = 64 * 1, p.list[1] = 64 * 40, p.list[2] = any(4) ? 64 * 41 : 64 * 42;
+    return p;
+}
+
+static void spoil(struct position *p)
+{
+    unsigned how = any(60);
+    if (how == 0) p->board.pieces[any(64)] = 13;
+    if (how == 1) p->in_check = 2;
+    if (how == 2) p->list[p->entries ? any((unsigned)p->entries) : 0] = MENKHODUR_LAST_MOVE + 1;
+    if (how == 3) p->entries = MENKHODUR_LONGEST_LIST + 1;
+    if (how == 4) p->board.side_to_move ^= 1;
+}
+
+static struct request some_request(const struct record *r, struct position *next)
+{
+    const struct position *now = &r->at[r->moves];
+    unsigned kind = any(40);
+    enum call call = kind < 30 ? MAKE_MOVE : kind < 37 ? OFFER_DRAW : kind < 38 ? ACCEPT_DRAW : kind < 39 ? DECLARE_DRAW : RESIGN;
+    *next = some_position((uint8_t)(1 - now->board.side_to_move));
+    spoil(next);
+    return (struct request){ call, any(20) ? now->list[any(3)] : any(70000), (uint8_t)(any(15) ? any(2) : any(256)), next };
+}
+
+static void check_game(void)
+{
+    static struct record r;
+    struct game g = lend_game(MENKHODUR_ACTIONS_LENGTH, MENKHODUR_POSITIONS_LENGTH);
+    r.actions = r.moves = 0;
+    r.at[0] = some_position((uint8_t)any(2));
+    start(&g, &r.at[0], MENKHODUR_ACCEPTED);
+    for (unsigned tries = 0; tries < LONGEST; tries++) {
+        struct position next;
+        struct request q = some_request(&r, &next);
+        uint64_t number = number_for(&r, q);
+        play(&g, q, number);
+        if (number == MENKHODUR_ACCEPTED) {
+            r.done[r.actions++] = q;
+            if (q.call == MAKE_MOVE) r.at[++r.moves] = next;
+        }
+        ask(&g, RESULT, MENKHODUR_ACCEPTED, result_of(&r));
+        ask(&g, CAN_DECLARE, MENKHODUR_ACCEPTED, claim_stands(&r));
+    }
+    give_back_game(&g);
+}
+
+void check_games(void)
+{
+    for (unsigned i = 0; i < (exact ? GAMES_EXACT : GAMES); i++) check_game();
+}

@@ -1,0 +1,67 @@
+/* Checks every function of the archive through the header: accepted answers, every refused answer that it can give, and every byte
+ * that it was lent.
+ *
+ *     check POSITIONS [exact]      a file of FEN texts; with `exact`, parts without guards, for valgrind
+ */
+#include "check.h"
+
+#include <stdio.h>
+#include <string.h>
+
+#define N(number) (UINT32_C(1) << (number))
+
+enum { FUNCTIONS = 23 };
+
+/* Document 01, "Order of checks": all that each function can answer. */
+static const uint32_t range = N(0) | N(5);
+static const uint32_t query = N(0) | N(9) | N(16);
+static const uint32_t coloured = N(0) | N(5) | N(9) | N(10) | N(13) | N(16);
+
+static bool report_all(void)
+{
+    const struct answers all[FUNCTIONS] = {
+        { "menkhodur_make_square", range },
+        { "menkhodur_rights_add", range },
+        { "menkhodur_rights_remove", range },
+        { "menkhodur_square_rights", range },
+        { "menkhodur_piece", range },
+        { "menkhodur_clear_square", range },
+        { "menkhodur_side_to_move", range },
+        { "menkhodur_castle_rights", range },
+        { "menkhodur_en_passant", range },
+        { "menkhodur_fen_read", N(0) | N(1) },
+        { "menkhodur_fen_write", N(0) | N(5) | N(7) },
+        { "menkhodur_move_read", N(0) | N(2) | N(3) },
+        { "menkhodur_move_write", N(0) | N(6) | N(7) },
+        { "menkhodur_san_read", N(0) | N(4) | N(5) | N(6) },
+        { "menkhodur_san_name", N(0) | N(5) | N(6) | N(7) | N(8) | N(11) },
+        { "menkhodur_game_start", N(0) | N(5) | N(6) | N(16) },
+        { "menkhodur_game_make_move", N(0) | N(5) | N(6) | N(9) | N(10) | N(11) | N(12) | N(13) | N(16) },
+        { "menkhodur_game_offer_draw", coloured },
+        { "menkhodur_game_resign", coloured },
+        { "menkhodur_game_accept_draw", N(0) | N(9) | N(10) | N(13) | N(14) | N(16) },
+        { "menkhodur_game_declare_draw", N(0) | N(9) | N(10) | N(13) | N(15) | N(16) },
+        { "menkhodur_game_result", query },
+        { "menkhodur_game_can_declare_draw", query },
+    };
+    return report(all, FUNCTIONS);
+}
+
+int main(int argc, char **argv)
+{
+    exact = argc > 2 && strcmp(argv[2], "exact") == 0;
+    if (argc < 2) {
+        fputs("usage: check POSITIONS [exact]\n", stderr);
+        return 2;
+    }
+    check_base();
+    check_steps();
+    check_fen(argv[1]);
+    check_coordinates();
+    check_san();
+    check_log();
+    check_orders();
+    check_games();
+    check_nulls();
+    return report_all() ? 0 : 1;
+}

@@ -1,0 +1,89 @@
+/* NULL with length 0, for each parameter that is a pointer and a length: an empty text, list, part or room. */
+#include "game.h"
+
+static const uint16_t one_move[1] = { 1153 };
+
+static menkhodur_board knight(void)
+{
+    return board_with(0, 1, (uint8_t[]){ 1 }, (uint8_t[]){ 2 });
+}
+
+static void check_texts(void)
+{
+    menkhodur_fen fen;
+    about("menkhodur_fen_read", "NULL text");
+    fen = menkhodur_fen_read(NULL, 0);
+    expect("number", MENKHODUR_INVALID_FEN, fen.number);
+    expect("offset", 0, fen.offset);
+    expect_board(&no_board, &fen.board);
+    about("menkhodur_move_read", "NULL text");
+    expect_answer(MENKHODUR_INVALID_UCI_MOVE, 0, menkhodur_move_read(NULL, 0));
+    about("menkhodur_san_read", "NULL text");
+    expect_answer(MENKHODUR_INVALID_SAN_MOVE, 0, menkhodur_san_read(knight(), one_move, 1, NULL, 0));
+}
+
+static void check_lists(void)
+{
+    struct part out = lend(MENKHODUR_LONGEST_NAME), text = lend_text("Nc3");
+    about("menkhodur_san_read", "NULL list");
+    expect_answer(MENKHODUR_INVALID_SAN_MOVE, 0, menkhodur_san_read(knight(), NULL, 0, text.bytes, text.length));
+    expect_answer(MENKHODUR_INVALID_SAN_MOVE, 0, menkhodur_san_read(knight(), NULL, 0, NULL, 0));
+    expect_unchanged("text", &text);
+    about("menkhodur_san_name", "NULL list");
+    expect_answer(MENKHODUR_NOT_LISTED, 0, menkhodur_san_name(knight(), NULL, 0, 1153, out.bytes, out.length));
+    expect_answer(MENKHODUR_NOT_LISTED, 0, menkhodur_san_name(knight(), NULL, 0, 1153, NULL, 0));
+    expect_unchanged("room", &out);
+    give_back(&out);
+    give_back(&text);
+}
+
+static void check_rooms(void)
+{
+    about("menkhodur_fen_write", "NULL room");
+    expect_answer(MENKHODUR_OUTPUT_TOO_SHORT, 25, menkhodur_fen_write(no_board, NULL, 0));
+    about("menkhodur_move_write", "NULL room");
+    expect_answer(MENKHODUR_OUTPUT_TOO_SHORT, 4, menkhodur_move_write(1804, NULL, 0));
+    about("menkhodur_san_name", "NULL room");
+    expect_answer(MENKHODUR_OUTPUT_TOO_SHORT, 3, menkhodur_san_name(knight(), one_move, 1, 1153, NULL, 0));
+}
+
+/* An empty list is a list: the game that starts with it, or comes to it, has ended. */
+static void check_empty_lists(void)
+{
+    struct game g = lend_game(MENKHODUR_ACTIONS_LENGTH, MENKHODUR_POSITIONS_LENGTH);
+    struct position p = round_position(0, false), none = p, last = round_position(1, false);
+    none.entries = last.entries = 0;
+    last.in_check = 1;
+    empty_list_is_null = true;
+    start(&g, &none, MENKHODUR_ACCEPTED);
+    ask(&g, RESULT, MENKHODUR_ACCEPTED, MENKHODUR_STALEMATE);
+    start(&g, &p, MENKHODUR_ACCEPTED);
+    play(&g, (struct request){ MAKE_MOVE, round_move(0), 0, &last }, MENKHODUR_ACCEPTED);
+    ask(&g, RESULT, MENKHODUR_ACCEPTED, MENKHODUR_WHITE_CHECKMATES);
+    empty_list_is_null = false;
+    give_back_game(&g);
+}
+
+/* Either part as NULL, and both. */
+static void check_part(bool actions, bool positions)
+{
+    struct game g = lend_game(actions ? 0 : MENKHODUR_ACTIONS_LENGTH, positions ? 0 : MENKHODUR_POSITIONS_LENGTH);
+    struct position p = round_position(0, false);
+    if (actions) g.actions.bytes = NULL;
+    if (positions) g.positions.bytes = NULL;
+    else put_start(&g, &p);
+    start(&g, &p, MENKHODUR_PART_TOO_SHORT);
+    for (enum call c = 0; c < CALLS; c++) refuse(&g, c, MENKHODUR_PART_TOO_SHORT);
+    give_back_game(&g);
+}
+
+void check_nulls(void)
+{
+    check_texts();
+    check_lists();
+    check_rooms();
+    check_empty_lists();
+    check_part(true, false);
+    check_part(false, true);
+    check_part(true, true);
+}

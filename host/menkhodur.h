@@ -1,0 +1,243 @@
+/* The host's side of target/staticlib/libmenkhodur.a, for C (from C99) and C++ (from C++11).
+ *
+ * Numbers, records, moves, logs and texts are those of docs/papers/01-scope.md ("document 01"); the names and the order of the
+ * parameters are those of docs/papers/HOST-ABI.md, and tools/abi compares both with the crate.
+ *
+ * What every function does: it answers for every value of its numbers, it ends, it keeps nothing between calls and allocates
+ * nothing, and it reads and writes only what it was lent. A refused call (a number other than 0) changes no lent byte.
+ *
+ * What a caller owes:
+ *   - A pointer is valid for its length: readable, and writable where it is not const. `room` and the lengths of parts and texts
+ *     count bytes, `entries` counts moves.
+ *   - A `const uint16_t *` list is aligned to 2 bytes. Parts and texts are bytes and need no alignment.
+ *   - Parts lent to one call do not overlap.
+ *   - NULL with length 0 is an empty text, list, part or room. This was tried for each of them (host/c/nulls.c): each works, and is
+ *     answered like any other pointer with length 0. NULL with any other length is an invalid pointer; no function tests for it.
+ */
+#ifndef MENKHODUR_H
+#define MENKHODUR_H
+
+#include <stddef.h>
+#include <stdint.h>
+
+#ifdef __cplusplus
+extern "C" {
+#endif
+
+/* Answer numbers: document 01's table. */
+enum {
+    MENKHODUR_ACCEPTED = 0,
+    MENKHODUR_INVALID_FEN = 1,
+    MENKHODUR_INVALID_SQUARE = 2,   /* in a coordinate text */
+    MENKHODUR_INVALID_UCI_MOVE = 3,
+    MENKHODUR_INVALID_SAN_MOVE = 4,
+    MENKHODUR_OUT_OF_RANGE = 5,     /* a record number, square, rank, file, colour, rights number or in-check byte */
+    MENKHODUR_BAD_LIST = 6,         /* list over 255, or an entry (or the coordinate writer's move) over 28,671 */
+    MENKHODUR_OUTPUT_TOO_SHORT = 7, /* the value is the length needed */
+    MENKHODUR_NO_NAME = 8,          /* no text names the move */
+    MENKHODUR_NOT_GOOD = 9,         /* log not good, or a count over its limit */
+    MENKHODUR_GAME_OVER = 10,
+    MENKHODUR_NOT_LISTED = 11,
+    MENKHODUR_WRONG_SIDE = 12,      /* next position has the wrong side to move */
+    MENKHODUR_LOG_FULL = 13,        /* 2,048 actions reached, or for a move 1,024 moves */
+    MENKHODUR_NO_OFFER = 14,
+    MENKHODUR_NO_CLAIM = 15,
+    MENKHODUR_PART_TOO_SHORT = 16
+};
+
+/* Results of a game: the order of `GameResult`, 0 for none. */
+enum {
+    MENKHODUR_GOES_ON = 0,
+    MENKHODUR_WHITE_CHECKMATES = 1,
+    MENKHODUR_WHITE_RESIGNS = 2,
+    MENKHODUR_BLACK_CHECKMATES = 3,
+    MENKHODUR_BLACK_RESIGNS = 4,
+    MENKHODUR_STALEMATE = 5,
+    MENKHODUR_DRAW_ACCEPTED = 6,
+    MENKHODUR_DRAW_DECLARED = 7
+};
+
+/* Limits. */
+enum {
+    MENKHODUR_MAX_ACTIONS = 2048,
+    MENKHODUR_MAX_MOVES = 1024,
+    MENKHODUR_LONGEST_LIST = 255,
+    MENKHODUR_LAST_MOVE = 28671
+};
+
+/* Bytes of the log: an action, a position, and the two parts that are lent, which may be longer. */
+enum {
+    MENKHODUR_ACTION_SIZE = 4,
+    MENKHODUR_POSITION_SIZE = 580,
+    MENKHODUR_ACTIONS_LENGTH = 8192,    /* 2,048 actions */
+    MENKHODUR_POSITIONS_LENGTH = 594500 /* 1,025 positions */
+};
+
+/* Bytes of texts. No text ends in a 0 byte: its length is the answer's value. A coordinate text has 4 bytes, or 5 with a promotion. */
+enum {
+    MENKHODUR_SHORTEST_FEN = 25,
+    MENKHODUR_LONGEST_FEN = 85,
+    MENKHODUR_SHORTEST_NAME = 2,
+    MENKHODUR_LONGEST_NAME = 11,
+    MENKHODUR_SHORTEST_COORDINATE = 4,
+    MENKHODUR_LONGEST_COORDINATE = 5
+};
+
+/* The board record: 68 numbers in document 01's order. A square is a rank of 0 to 7 times 8 plus a file of 0 to 7, a1 = 0. */
+typedef struct {
+    uint8_t pieces[64];          /* 0 empty, 1..6 white pawn knight bishop rook queen king, 7..12 black */
+    uint8_t side_to_move;        /* 0 white, 1 black */
+    uint8_t white_castle_rights; /* 0..3: 1 king side, 2 queen side, 3 both */
+    uint8_t black_castle_rights; /* 0..3 */
+    uint8_t en_passant;          /* 0 none, 1..8 files a..h */
+} menkhodur_board;
+
+/* `value` is the answer of number 0, the length needed of number 7, and 0 of every other number. */
+typedef struct { uint64_t number; uint64_t value; } menkhodur_answer;
+typedef struct { uint64_t number; menkhodur_board board; } menkhodur_stepped;
+typedef struct { uint64_t number; uint64_t offset; menkhodur_board board; } menkhodur_fen;
+typedef struct { uint64_t number; uint64_t actions; uint64_t moves; } menkhodur_counts;
+
+#if defined(__cplusplus)
+#define MENKHODUR_ASSERT(fact, text) static_assert(fact, text)
+#elif defined(__STDC_VERSION__) && __STDC_VERSION__ >= 201112L
+#define MENKHODUR_ASSERT(fact, text) _Static_assert(fact, text)
+#endif
+#ifdef MENKHODUR_ASSERT
+MENKHODUR_ASSERT(sizeof(menkhodur_board) == 68, "a board record has 68 bytes");
+MENKHODUR_ASSERT(sizeof(menkhodur_answer) == 16, "a number and a value");
+MENKHODUR_ASSERT(offsetof(menkhodur_stepped, board) == 8 && sizeof(menkhodur_stepped) == 80, "a number and a board, filled up to 8 bytes");
+MENKHODUR_ASSERT(offsetof(menkhodur_fen, board) == 16 && sizeof(menkhodur_fen) == 88, "two numbers and a board, filled up to 8 bytes");
+MENKHODUR_ASSERT(sizeof(menkhodur_counts) == 24, "a number and two counts");
+MENKHODUR_ASSERT(sizeof(size_t) == 8, "lengths have 64 bits");
+#undef MENKHODUR_ASSERT
+#endif
+
+/* ---- Squares and castling rights ---------------------------------------------------------------------------------------------- */
+
+/* 0: the value is the square, 8 * rank + file. 5: rank or file over 7. */
+menkhodur_answer menkhodur_make_square(uint8_t rank, uint8_t file);
+
+/* 0: the value is the rights with those added, per bit. 5: one of the two is over 3. */
+menkhodur_answer menkhodur_rights_add(uint8_t rights, uint8_t added);
+
+/* 0: the value is the rights without those removed, per bit. 5: one of the two is over 3. */
+menkhodur_answer menkhodur_rights_remove(uint8_t rights, uint8_t removed);
+
+/* 0: the value is the rights of the colour that hang on that square: 2, 3, 1 at files a, e, h of its own back rank,
+ * 0 elsewhere. 5: colour over 1 or square over 63. */
+menkhodur_answer menkhodur_square_rights(uint8_t colour, uint8_t square);
+
+/* ---- The board record --------------------------------------------------------------------------------------------------------- */
+/* Each step answers 0 with the record in which one number is set, or 5 with the record exactly as given: if one of the record's own
+ * 68 numbers is out of range, or a parameter is. */
+
+/* Sets a square to the code of a man. 5 also: square over 63; code 0 or over 12 (menkhodur_clear_square empties a square). */
+menkhodur_stepped menkhodur_piece(menkhodur_board b, uint8_t square, uint8_t code);
+
+/* Empties a square. 5 also: square over 63. */
+menkhodur_stepped menkhodur_clear_square(menkhodur_board b, uint8_t square);
+
+/* Sets the side to move. 5 also: colour over 1. */
+menkhodur_stepped menkhodur_side_to_move(menkhodur_board b, uint8_t colour);
+
+/* Sets all rights of one colour. 5 also: colour over 1, rights over 3. */
+menkhodur_stepped menkhodur_castle_rights(menkhodur_board b, uint8_t colour, uint8_t rights);
+
+/* Sets the en passant file 1 to 8, or clears it with 0. 5 also: file over 8. */
+menkhodur_stepped menkhodur_en_passant(menkhodur_board b, uint8_t file);
+
+/* ---- FEN ---------------------------------------------------------------------------------------------------------------------- */
+
+/* 0: the board is what the text says. 1: the text is refused, and the board is 68 zeros. The offset is 0 in every answer for now.
+ * The text is left alone. */
+menkhodur_fen menkhodur_fen_read(const uint8_t *text, size_t length);
+
+/* 0: the record's one FEN, 25 to 85 bytes, is at the front of `out`, and the value is its length; the bytes of `out` behind it are
+ * left alone. Refused, in this order: 5: a record number out of range; 7: `room` is shorter than the text, whose length is the value.
+ * A refused call leaves all of `out` alone. */
+menkhodur_answer menkhodur_fen_write(menkhodur_board b, uint8_t *out, size_t room);
+
+/* ---- Move texts --------------------------------------------------------------------------------------------------------------- */
+/* A move is source + 64 * destination + 4,096 * promotion (0 none, 1 to 6 pawn, knight, bishop, rook, queen, king). */
+
+/* Reads a coordinate text. 0: the value is the move. Refused, in this order: 3: the first pair of bytes is not there; 2: it is no
+ * square; 3: the second pair is not there; 2: it is no square; 3: there are exactly five bytes, and the fifth is none of q r n b.
+ * A text of six bytes or more drops its tail, the fifth byte with it. The text is left alone. */
+menkhodur_answer menkhodur_move_read(const uint8_t *text, size_t length);
+
+/* Writes a coordinate text, 4 or 5 bytes. 0: it is at the front of `out`, and the value is its length; the bytes of `out` behind it
+ * are left alone. Refused, in this order, with all of `out` left alone: 6: the move is over 28,671, at any size; 7: `room` is shorter
+ * than the text, whose length is the value. */
+menkhodur_answer menkhodur_move_write(uint64_t move, uint8_t *out, size_t room);
+
+/* Reads a SAN text. 0: the value is the move that it names in the list. Refused, in this order: 5: a record number out of range;
+ * 6: more than 255 entries, or an entry over 28,671; 4: the text is no SAN text, or not exactly one entry fits it. List and text are
+ * left alone. */
+menkhodur_answer menkhodur_san_read(menkhodur_board b, const uint16_t *list, size_t entries, const uint8_t *text, size_t length);
+
+/* Writes the SAN text, 2 to 11 bytes, that menkhodur_san_read with the same record and list reads as exactly this move. 0: it is at
+ * the front of `out`, and the value is its length; the bytes of `out` behind it are left alone. Refused, in this order, with all of
+ * `out` left alone: 5: a record number out of range; 6: more than 255 entries, or an entry over 28,671; 11: the move is not in the
+ * list, at any size; 8: no text names it; 7: `room` is shorter than the text, whose length is the value. The list is left alone. */
+menkhodur_answer menkhodur_san_name(menkhodur_board b, const uint16_t *list, size_t entries, uint64_t move, uint8_t *out, size_t room);
+
+/* ---- The game log ------------------------------------------------------------------------------------------------------------- */
+/* A log lies in two lent parts, actions and positions, of at least 8,192 and 594,500 bytes, and its two counts travel by value: hand
+ * each call the counts that the one before returned. Bytes past the used actions and positions are not looked at. In every call
+ *     16  one of the parts is shorter than that;
+ *      9  the log is not good (no sequence of accepted calls from a start makes it), or a count is over its limit, at any size;
+ *     10  (not in a query) the game is over
+ * stand before the call's own numbers, in this order. An accepted call writes the 4 bytes of its action behind the used ones, a move
+ * also the 580 bytes of its position, and returns the counts after it. A refused call writes nothing and returns the counts as given.
+ * A position is a record, an in-check byte 0 or 1 and the list of its moves, which is copied into the log. */
+
+/* Begins a log with a position, which is written over the first 580 bytes of `positions`. The counts are 0 and 0, accepted or
+ * refused. Of `actions` only the length is looked at: it is never read or written. Refused, in this order: 16; 5: a record number or
+ * the in-check byte out of range; 6: more than 255 entries, or an entry over 28,671. */
+menkhodur_counts menkhodur_game_start(uint8_t *actions, size_t actions_length, uint8_t *positions, size_t positions_length,
+                                      menkhodur_board b, uint8_t in_check, const uint16_t *list, size_t entries);
+
+/* Plays a move of the current position's list; `next`, `in_check` and `list` are the position after it. Refused, in this order: 16;
+ * 9; 10; 11: the move is not in the current list, at any size; 5: a number of `next` or the in-check byte out of range; 6: more than
+ * 255 entries, or an entry over 28,671; 12: `next` has the side to move of the current position; 13: 2,048 actions or 1,024 moves
+ * are reached. */
+menkhodur_counts menkhodur_game_make_move(uint8_t *actions, size_t actions_length, uint8_t *positions, size_t positions_length,
+                                          uint64_t action_count, uint64_t move_count, uint64_t move,
+                                          menkhodur_board next, uint8_t in_check, const uint16_t *list, size_t entries);
+
+/* Offers a draw in the name of a colour. Refused, in this order: 16; 9; 10; 5: colour over 1; 13: 2,048 actions are reached. The
+ * positions are left alone. */
+menkhodur_counts menkhodur_game_offer_draw(uint8_t *actions, size_t actions_length, const uint8_t *positions, size_t positions_length,
+                                           uint64_t action_count, uint64_t move_count, uint8_t colour);
+
+/* Resigns in the name of a colour. Refused, in this order: 16; 9; 10; 5: colour over 1; 13: 2,048 actions are reached. The positions
+ * are left alone. */
+menkhodur_counts menkhodur_game_resign(uint8_t *actions, size_t actions_length, const uint8_t *positions, size_t positions_length,
+                                       uint64_t action_count, uint64_t move_count, uint8_t colour);
+
+/* Accepts the offer that stands: the last action, by either colour, or the last but one by the side not to move. Refused, in this
+ * order: 16; 9; 10; 14: none stands; 13: 2,048 actions are reached. The positions are left alone. */
+menkhodur_counts menkhodur_game_accept_draw(uint8_t *actions, size_t actions_length, const uint8_t *positions, size_t positions_length,
+                                            uint64_t action_count, uint64_t move_count);
+
+/* Declares the draw that may be claimed (menkhodur_game_can_declare_draw). Refused, in this order: 16; 9; 10; 15: no claim stands;
+ * 13: 2,048 actions are reached. The positions are left alone. */
+menkhodur_counts menkhodur_game_declare_draw(uint8_t *actions, size_t actions_length, const uint8_t *positions, size_t positions_length,
+                                             uint64_t action_count, uint64_t move_count);
+
+/* 0: the value is the result, 1 to 7, or 0 while the game goes on. Refused, in this order: 16; 9. Both parts are left alone. */
+menkhodur_answer menkhodur_game_result(const uint8_t *actions, size_t actions_length, const uint8_t *positions, size_t positions_length,
+                                       uint64_t action_count, uint64_t move_count);
+
+/* 0: the value is 1 if a draw may be declared and 0 if not, as in a game that is over. Refused, in this order: 16; 9. Both parts are
+ * left alone. */
+menkhodur_answer menkhodur_game_can_declare_draw(const uint8_t *actions, size_t actions_length,
+                                                 const uint8_t *positions, size_t positions_length,
+                                                 uint64_t action_count, uint64_t move_count);
+
+#ifdef __cplusplus
+}
+#endif
+
+#endif
