@@ -1,0 +1,171 @@
+//! Times the crate chess 3.2.0 and libmenkhodur.a on the same inputs in one run. Each answer is compared on the way, so
+//! that nothing is timed that is wrong.
+//!
+//! SAN texts are read by the crate's code over lists at hand (`sanlist`), as ours are: making the list is not timed.
+
+use both::abi::{self, Answer, Log, Record};
+use both::games::{board_of, different_positions, moves_of, random_move, STARTS};
+use both::numbers::{move_of, number_of, position_of, record_of, result_number};
+use both::random::Random;
+use chess::{Board, BoardBuilder, ChessMove, Game, Piece};
+use std::hint::black_box;
+use std::str::FromStr;
+use std::time::Instant;
+
+const POSITIONS: usize = 2_048;
+/// The best of so many rounds over all inputs counts.
+const ROUNDS: usize = 15;
+const GAMES: usize = 12;
+const GAME_LENGTH: usize = 300;
+
+/// A position of a game in every shape that is timed.
+struct Place {
+    builder: BoardBuilder,
+    fen: String,
+    record: Record,
+    list: Vec<u16>,
+    names: Vec<String>,
+    board: sanlist::board::Board,
+}
+
+fn place_of(board: &Board) -> Place {
+    let (position, builder) = (position_of(board), BoardBuilder::from(board));
+    let name = |number: &u16| {
+        let mut room = [0; 11];
+        let answer = abi::san_name(position.record, &position.list, *number as u64, &mut room);
+        assert_eq!(answer.number, 0, "a legal move has a name");
+        String::from_utf8(room[..answer.value as usize].to_vec()).expect("a name is ASCII")
+    };
+    let names = position.list.iter().map(name).collect();
+    let san_board = sanlist::board::Board::new(position.record.0, &position.list);
+    Place { builder, fen: board.to_string(), record: position.record, list: position.list, names, board: san_board }
+}
+
+/// Nanoseconds for one input, the best of the rounds. What `work` gives is kept from being optimised away.
+fn time<I, T>(inputs: &[I], mut work: impl FnMut(&I) -> T) -> f64 {
+    let mut best = f64::MAX;
+    for _ in 0..ROUNDS {
+        let start = Instant::now();
+        for input in inputs {
+            black_box(work(black_box(input)));
+        }
+        best = best.min(start.elapsed().as_nanos() as f64);
+    }
+    best / inputs.len() as f64
+}
+
+fn row(what: &str, inputs: usize, theirs: f64, ours: f64) {
+    println!("{:<44} {:>8} {:>12.1} {:>12.1} {:>9.2}", what, inputs, theirs, ours, theirs / ours);
+}
+
+fn fen(places: &[Place]) {
+    for place in places {
+        assert_eq!(abi::fen_read(place.fen.as_bytes()).board, record_of(&BoardBuilder::from_str(&place.fen).unwrap()));
+    }
+    let theirs = time(places, |p| BoardBuilder::from_str(&p.fen));
+    let ours = time(places, |p| abi::fen_read(p.fen.as_bytes()));
+    row("FEN read", places.len(), theirs, ours);
+    let mut room = [0; 85];
+    let theirs = time(places, |p| p.builder.to_string());
+    let ours = time(places, |p| abi::fen_write(p.record, &mut room));
+    row("FEN write", places.len(), theirs, ours);
+}
+
+fn coordinates(places: &[Place]) {
+    let numbers: Vec<u16> = places.iter().flat_map(|p| p.list.iter().copied()).collect();
+    let moves: Vec<ChessMove> = numbers.iter().map(|n| move_of(*n)).collect();
+    let texts: Vec<String> = moves.iter().map(|m| m.to_string()).collect();
+    for (text, number) in texts.iter().zip(&numbers) {
+        assert_eq!(abi::move_read(text.as_bytes()), Answer { number: 0, value: *number as u64 });
+    }
+    let theirs = time(&texts, |t| ChessMove::from_str(t));
+    let ours = time(&texts, |t| abi::move_read(t.as_bytes()));
+    row("coordinate read", texts.len(), theirs, ours);
+    let mut room = [0; 5];
+    let theirs = time(&moves, |m| m.to_string());
+    let ours = time(&numbers, |n| abi::move_write(*n as u64, &mut room));
+    row("coordinate write", moves.len(), theirs, ours);
+}
+
+/// Every move of every position, by its place in the list.
+fn san(places: &[Place]) {
+    let all: Vec<(&Place, usize)> = places.iter().flat_map(|p| (0..p.list.len()).map(move |i| (p, i))).collect();
+    for (p, i) in &all {
+        assert_eq!(sanlist::read(&p.board, &p.names[*i]).ok(), Some(p.list[*i]), "{}", p.names[*i]);
+    }
+    let theirs = time(&all, |(p, i)| sanlist::read(&p.board, &p.names[*i]));
+    let ours = time(&all, |(p, i)| abi::san_read(p.record, &p.list, p.names[*i].as_bytes()));
+    row("SAN read over legal lists", all.len(), theirs, ours);
+    let mut room = [0; 11];
+    let naming = time(&all, |(p, i)| abi::san_name(p.record, &p.list, p.list[*i] as u64, &mut room));
+    row("naming (ours), against a SAN read (crate)", all.len(), theirs, naming);
+    row("naming (ours), against a SAN read (ours)", all.len(), ours, naming);
+}
+
+/// A game of 300 moves, mostly reversible ones, so that runs are long.
+fn long_game(random: &mut Random) -> Vec<ChessMove> {
+    loop {
+        let (mut board, mut moves) = (board_of(STARTS[0]), vec![]);
+        while moves.len() < GAME_LENGTH {
+            let quiet = |m: &ChessMove| {
+                board.piece_on(m.get_source()) != Some(Piece::Pawn) && board.piece_on(m.get_dest()).is_none()
+            };
+            let calm: Vec<ChessMove> = moves_of(&board).into_iter().filter(quiet).collect();
+            let calm = if calm.is_empty() || random.once_in(5) { None } else { Some(*random.pick(&calm)) };
+            match calm.or_else(|| random_move(&board, random)) {
+                Some(m) => moves.push(m),
+                None => break,
+            }
+            board = board.make_move_new(moves[moves.len() - 1]);
+        }
+        if moves.len() == GAME_LENGTH {
+            return moves;
+        }
+    }
+}
+
+/// Plays a game on both sides and asks both questions after each move. Gives the nanoseconds of the questions.
+fn ask_all(moves: &[ChessMove], log: &mut Log) -> (f64, f64) {
+    let (mut game, mut board) = (Game::new(), board_of(STARTS[0]));
+    assert_eq!(log.start(&position_of(&board)).number, 0);
+    let (mut theirs, mut ours) = (0.0, 0.0);
+    for m in moves {
+        board = board.make_move_new(*m);
+        assert!(game.make_move(*m));
+        assert_eq!(log.make_move(number_of(*m) as u64, &position_of(&board)).number, 0);
+        let start = Instant::now();
+        let owed = black_box((game.result(), game.can_declare_draw()));
+        theirs += start.elapsed().as_nanos() as f64;
+        let start = Instant::now();
+        let got = black_box((log.result(), log.can_declare_draw()));
+        ours += start.elapsed().as_nanos() as f64;
+        assert_eq!((got.0.value, got.1.value), (result_number(owed.0), owed.1 as u64));
+    }
+    (theirs, ours)
+}
+
+fn games(random: &mut Random) {
+    let mut log = Log::new();
+    let (mut theirs, mut ours) = (0.0, 0.0);
+    for _ in 0..GAMES {
+        let game = long_game(random);
+        // The first time makes the crate's lists known to the stand-in generator; only the second counts.
+        ask_all(&game, &mut log);
+        let (t, o) = ask_all(&game, &mut log);
+        theirs += t;
+        ours += o;
+    }
+    let asked = 2 * GAMES * GAME_LENGTH;
+    row("result and claim after each of 300 moves", asked, theirs / asked as f64, ours / asked as f64);
+}
+
+fn main() {
+    let mut random = Random::new(1, "bench");
+    let places: Vec<Place> = different_positions(POSITIONS, &mut random).iter().map(place_of).collect();
+    println!("{} different positions of games; nanoseconds an input, best of {} rounds", places.len(), ROUNDS);
+    println!("{:<44} {:>8} {:>12} {:>12} {:>9}", "what", "inputs", "crate", "ours", "ratio");
+    fen(&places);
+    coordinates(&places);
+    san(&places);
+    games(&mut random);
+}

@@ -1,0 +1,223 @@
+//! The functions of libmenkhodur.a, each behind a safe one that lends slices.
+
+/// The board record: 68 numbers in document 01's order.
+#[repr(C)]
+#[derive(Clone, Copy, PartialEq, Eq, Debug)]
+pub struct Record(pub [u8; 68]);
+
+#[repr(C)]
+#[derive(Clone, Copy, PartialEq, Eq, Debug)]
+pub struct Answer {
+    pub number: u64,
+    pub value: u64,
+}
+
+#[repr(C)]
+#[derive(Clone, Copy, PartialEq, Eq, Debug)]
+pub struct Stepped {
+    pub number: u64,
+    pub board: Record,
+}
+
+#[repr(C)]
+#[derive(Clone, Copy, PartialEq, Eq, Debug)]
+pub struct Fen {
+    pub number: u64,
+    pub offset: u64,
+    pub board: Record,
+}
+
+#[repr(C)]
+#[derive(Clone, Copy, PartialEq, Eq, Debug)]
+pub struct Counts {
+    pub number: u64,
+    pub actions: u64,
+    pub moves: u64,
+}
+
+/// Bytes of the actions part and of the positions part.
+pub const ACTIONS_LENGTH: usize = 8_192;
+pub const POSITIONS_LENGTH: usize = 594_500;
+/// Bytes of one position.
+pub const POSITION_LENGTH: usize = 580;
+
+#[link(name = "menkhodur", kind = "static")]
+extern "C" {
+    fn menkhodur_make_square(rank: u8, file: u8) -> Answer;
+    fn menkhodur_rights_add(rights: u8, added: u8) -> Answer;
+    fn menkhodur_rights_remove(rights: u8, removed: u8) -> Answer;
+    fn menkhodur_square_rights(colour: u8, square: u8) -> Answer;
+
+    fn menkhodur_piece(b: Record, square: u8, code: u8) -> Stepped;
+    fn menkhodur_clear_square(b: Record, square: u8) -> Stepped;
+    fn menkhodur_side_to_move(b: Record, colour: u8) -> Stepped;
+    fn menkhodur_castle_rights(b: Record, colour: u8, rights: u8) -> Stepped;
+    fn menkhodur_en_passant(b: Record, file: u8) -> Stepped;
+
+    fn menkhodur_fen_read(text: *const u8, length: usize) -> Fen;
+    fn menkhodur_fen_write(b: Record, out: *mut u8, room: usize) -> Answer;
+
+    fn menkhodur_move_read(text: *const u8, length: usize) -> Answer;
+    fn menkhodur_move_write(number: u64, out: *mut u8, room: usize) -> Answer;
+    fn menkhodur_san_read(b: Record, list: *const u16, entries: usize, text: *const u8, length: usize) -> Answer;
+    fn menkhodur_san_name(b: Record, list: *const u16, entries: usize, number: u64, out: *mut u8, room: usize) -> Answer;
+
+    fn menkhodur_game_start(
+        a: *const u8, al: usize, p: *mut u8, pl: usize, b: Record, in_check: u8, list: *const u16, entries: usize,
+    ) -> Counts;
+    fn menkhodur_game_make_move(
+        a: *mut u8, al: usize, p: *mut u8, pl: usize, n: u64, m: u64, number: u64, next: Record, in_check: u8,
+        list: *const u16, entries: usize,
+    ) -> Counts;
+    fn menkhodur_game_offer_draw(a: *mut u8, al: usize, p: *const u8, pl: usize, n: u64, m: u64, colour: u8) -> Counts;
+    fn menkhodur_game_resign(a: *mut u8, al: usize, p: *const u8, pl: usize, n: u64, m: u64, colour: u8) -> Counts;
+    fn menkhodur_game_accept_draw(a: *mut u8, al: usize, p: *const u8, pl: usize, n: u64, m: u64) -> Counts;
+    fn menkhodur_game_declare_draw(a: *mut u8, al: usize, p: *const u8, pl: usize, n: u64, m: u64) -> Counts;
+    fn menkhodur_game_result(a: *const u8, al: usize, p: *const u8, pl: usize, n: u64, m: u64) -> Answer;
+    fn menkhodur_game_can_declare_draw(a: *const u8, al: usize, p: *const u8, pl: usize, n: u64, m: u64) -> Answer;
+}
+
+pub fn make_square(rank: u8, file: u8) -> Answer {
+    unsafe { menkhodur_make_square(rank, file) }
+}
+
+pub fn rights_add(rights: u8, added: u8) -> Answer {
+    unsafe { menkhodur_rights_add(rights, added) }
+}
+
+pub fn rights_remove(rights: u8, removed: u8) -> Answer {
+    unsafe { menkhodur_rights_remove(rights, removed) }
+}
+
+pub fn square_rights(colour: u8, square: u8) -> Answer {
+    unsafe { menkhodur_square_rights(colour, square) }
+}
+
+pub fn piece(b: Record, square: u8, code: u8) -> Stepped {
+    unsafe { menkhodur_piece(b, square, code) }
+}
+
+pub fn clear_square(b: Record, square: u8) -> Stepped {
+    unsafe { menkhodur_clear_square(b, square) }
+}
+
+pub fn side_to_move(b: Record, colour: u8) -> Stepped {
+    unsafe { menkhodur_side_to_move(b, colour) }
+}
+
+pub fn castle_rights(b: Record, colour: u8, rights: u8) -> Stepped {
+    unsafe { menkhodur_castle_rights(b, colour, rights) }
+}
+
+pub fn en_passant(b: Record, file: u8) -> Stepped {
+    unsafe { menkhodur_en_passant(b, file) }
+}
+
+pub fn fen_read(text: &[u8]) -> Fen {
+    unsafe { menkhodur_fen_read(text.as_ptr(), text.len()) }
+}
+
+pub fn fen_write(b: Record, out: &mut [u8]) -> Answer {
+    unsafe { menkhodur_fen_write(b, out.as_mut_ptr(), out.len()) }
+}
+
+pub fn move_read(text: &[u8]) -> Answer {
+    unsafe { menkhodur_move_read(text.as_ptr(), text.len()) }
+}
+
+pub fn move_write(number: u64, out: &mut [u8]) -> Answer {
+    unsafe { menkhodur_move_write(number, out.as_mut_ptr(), out.len()) }
+}
+
+pub fn san_read(b: Record, list: &[u16], text: &[u8]) -> Answer {
+    unsafe { menkhodur_san_read(b, list.as_ptr(), list.len(), text.as_ptr(), text.len()) }
+}
+
+pub fn san_name(b: Record, list: &[u16], number: u64, out: &mut [u8]) -> Answer {
+    unsafe { menkhodur_san_name(b, list.as_ptr(), list.len(), number, out.as_mut_ptr(), out.len()) }
+}
+
+/// What stands on the board, as the host gives it to the log.
+#[derive(Clone, PartialEq, Eq, Debug)]
+pub struct Position {
+    pub record: Record,
+    pub in_check: u8,
+    pub list: Vec<u16>,
+}
+
+/// The two lent parts of a log and its two counts.
+pub struct Log {
+    pub actions: Vec<u8>,
+    pub positions: Vec<u8>,
+    pub action_count: u64,
+    pub move_count: u64,
+}
+
+impl Log {
+    pub fn new() -> Log {
+        let (actions, positions) = (vec![0; ACTIONS_LENGTH], vec![0; POSITIONS_LENGTH]);
+        Log { actions, positions, action_count: 0, move_count: 0 }
+    }
+
+    fn keep(&mut self, counts: Counts) -> Counts {
+        self.action_count = counts.actions;
+        self.move_count = counts.moves;
+        counts
+    }
+
+    pub fn start(&mut self, p: &Position) -> Counts {
+        let (a, ps) = (&self.actions, &mut self.positions);
+        let counts = unsafe {
+            menkhodur_game_start(
+                a.as_ptr(), a.len(), ps.as_mut_ptr(), ps.len(), p.record, p.in_check, p.list.as_ptr(), p.list.len(),
+            )
+        };
+        self.keep(counts)
+    }
+
+    pub fn make_move(&mut self, number: u64, next: &Position) -> Counts {
+        let (n, m) = (self.action_count, self.move_count);
+        let (a, ps) = (&mut self.actions, &mut self.positions);
+        let counts = unsafe {
+            menkhodur_game_make_move(
+                a.as_mut_ptr(), a.len(), ps.as_mut_ptr(), ps.len(), n, m, number, next.record, next.in_check,
+                next.list.as_ptr(), next.list.len(),
+            )
+        };
+        self.keep(counts)
+    }
+
+    pub fn offer_draw(&mut self, colour: u8) -> Counts {
+        let (a, ps, n, m) = (&mut self.actions, &self.positions, self.action_count, self.move_count);
+        let counts = unsafe { menkhodur_game_offer_draw(a.as_mut_ptr(), a.len(), ps.as_ptr(), ps.len(), n, m, colour) };
+        self.keep(counts)
+    }
+
+    pub fn resign(&mut self, colour: u8) -> Counts {
+        let (a, ps, n, m) = (&mut self.actions, &self.positions, self.action_count, self.move_count);
+        let counts = unsafe { menkhodur_game_resign(a.as_mut_ptr(), a.len(), ps.as_ptr(), ps.len(), n, m, colour) };
+        self.keep(counts)
+    }
+
+    pub fn accept_draw(&mut self) -> Counts {
+        let (a, ps, n, m) = (&mut self.actions, &self.positions, self.action_count, self.move_count);
+        let counts = unsafe { menkhodur_game_accept_draw(a.as_mut_ptr(), a.len(), ps.as_ptr(), ps.len(), n, m) };
+        self.keep(counts)
+    }
+
+    pub fn declare_draw(&mut self) -> Counts {
+        let (a, ps, n, m) = (&mut self.actions, &self.positions, self.action_count, self.move_count);
+        let counts = unsafe { menkhodur_game_declare_draw(a.as_mut_ptr(), a.len(), ps.as_ptr(), ps.len(), n, m) };
+        self.keep(counts)
+    }
+
+    pub fn result(&self) -> Answer {
+        let (a, ps, n, m) = (&self.actions, &self.positions, self.action_count, self.move_count);
+        unsafe { menkhodur_game_result(a.as_ptr(), a.len(), ps.as_ptr(), ps.len(), n, m) }
+    }
+
+    pub fn can_declare_draw(&self) -> Answer {
+        let (a, ps, n, m) = (&self.actions, &self.positions, self.action_count, self.move_count);
+        unsafe { menkhodur_game_can_declare_draw(a.as_ptr(), a.len(), ps.as_ptr(), ps.len(), n, m) }
+    }
+}

@@ -1,0 +1,121 @@
+//! The archive's functions with a fault planted in one of them, to see that the comparison finds it. Only built with the
+//! feature `planted`, in place of `abi`; the variable PLANTED names the fault. Each is rare, so that finding it means that
+//! the inputs reach far, not that every answer is wrong.
+
+#[path = "abi.rs"]
+mod real;
+
+pub use real::*;
+use std::ops::{Deref, DerefMut};
+use std::sync::OnceLock;
+
+fn planted(name: &str) -> bool {
+    static NAME: OnceLock<String> = OnceLock::new();
+    NAME.get_or_init(|| std::env::var("PLANTED").unwrap_or_default()) == name
+}
+
+/// The fourth token's rank 8 is taken for none.
+pub fn fen_read(text: &[u8]) -> Fen {
+    let mut fen = real::fen_read(text);
+    if planted("fen-read") && text.ends_with(b"h8") {
+        fen.board.0[67] = 0;
+    }
+    fen
+}
+
+/// One byte behind the text is cleared.
+pub fn fen_write(b: Record, out: &mut [u8]) -> Answer {
+    let answer = real::fen_write(b, out);
+    if planted("fen-write") && answer.number == 0 && b.0[67] == 8 {
+        if let Some(byte) = out.get_mut(answer.value as usize) {
+            *byte = 0;
+        }
+    }
+    answer
+}
+
+/// Six bytes that end in a promotion letter promote.
+pub fn move_read(text: &[u8]) -> Answer {
+    let mut answer = real::move_read(text);
+    if planted("moves") && answer.number == 0 && text.len() == 6 && text[5] == b'q' {
+        answer.value += 4096 * 5;
+    }
+    answer
+}
+
+/// A second fit is let through if the text says `x`.
+pub fn san_read(b: Record, list: &[u16], text: &[u8]) -> Answer {
+    let answer = real::san_read(b, list, text);
+    if (planted("san-legal") || planted("san-any")) && answer.number == 4 && text.contains(&b'x') {
+        let alone = |entry: &&u16| real::san_read(b, &[**entry], text).number == 0;
+        if let Some(entry) = list.iter().find(alone) {
+            return Answer { number: 0, value: *entry as u64 };
+        }
+    }
+    answer
+}
+
+/// The length needed is one too many for names of five bytes.
+pub fn san_name(b: Record, list: &[u16], number: u64, out: &mut [u8]) -> Answer {
+    let mut answer = real::san_name(b, list, number, out);
+    if planted("names") && answer.number == 7 && answer.value == 5 {
+        answer.value += 1;
+    }
+    answer
+}
+
+/// A black king on h8 is set down as a queen.
+pub fn piece(b: Record, square: u8, code: u8) -> Stepped {
+    let code = if planted("steps") && (square, code) == (63, 12) { 11 } else { code };
+    real::piece(b, square, code)
+}
+
+/// The log, with faults in a count, a byte and a ruling.
+pub struct Log(real::Log);
+
+impl Log {
+    pub fn new() -> Log {
+        Log(real::Log::new())
+    }
+
+    /// The byte behind the last position is changed, or a refused move is counted as an action.
+    pub fn make_move(&mut self, number: u64, next: &Position) -> Counts {
+        let mut counts = self.0.make_move(number, next);
+        if planted("log-bytes") && counts.number == 0 && counts.moves == 11 {
+            self.0.positions[12 * POSITION_LENGTH] ^= 1;
+        }
+        if planted("log-counts") && counts.number == 11 && counts.moves > 3 {
+            counts.actions += 1;
+        }
+        counts
+    }
+
+    /// The last position is counted as its own predecessor, or 99 moves are enough.
+    pub fn can_declare_draw(&self) -> Answer {
+        let mut answer = self.0.can_declare_draw();
+        let position = |n: u64| &self.0.positions[POSITION_LENGTH * n as usize..][..POSITION_LENGTH];
+        let m = self.0.move_count;
+        let twice = m >= 4 && position(m) == position(m - 4);
+        if planted("log-twice") && self.0.result().value == 0 && twice {
+            answer.value = 1;
+        }
+        if planted("log-99") && self.0.result().value == 0 && m == 99 && m == self.0.action_count {
+            answer.value = 1;
+        }
+        answer
+    }
+}
+
+impl Deref for Log {
+    type Target = real::Log;
+
+    fn deref(&self) -> &real::Log {
+        &self.0
+    }
+}
+
+impl DerefMut for Log {
+    fn deref_mut(&mut self) -> &mut real::Log {
+        &mut self.0
+    }
+}

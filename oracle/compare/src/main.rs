@@ -1,0 +1,94 @@
+//! Asks the crate chess 3.2.0 and libmenkhodur.a the same and compares every result, count and lent byte.
+
+mod args;
+mod fen;
+mod lent;
+mod log;
+mod moves;
+mod names;
+mod pair;
+mod part;
+mod records;
+mod rules;
+mod san;
+mod script;
+mod steps;
+mod tests;
+mod texts;
+
+use args::{Options, Request};
+use part::{run, Outcome, Part};
+use rules::RULES;
+use std::process::exit;
+
+/// Runs the part that has this name.
+type Runner = fn(&Options) -> Outcome;
+
+const PARTS: [(&str, Runner); 9] = [
+    (fen::FenRead::NAME, |o| run(fen::FenRead::default(), o.seed, o.budget)),
+    (fen::FenWrite::NAME, |o| run(fen::FenWrite::default(), o.seed, o.budget)),
+    (moves::Moves::NAME, |o| run(moves::Moves, o.seed, o.budget)),
+    (san::SanLegal::NAME, |o| run(san::SanLegal::new(), o.seed, o.budget)),
+    (san::SanAny::NAME, |o| run(san::SanAny::new(), o.seed, o.budget)),
+    (names::Names::NAME, |o| run(names::Names::new(), o.seed, o.budget)),
+    (log::LogPart::NAME, |o| run(log::LogPart::new(), o.seed, o.budget)),
+    (steps::Steps::NAME, |o| run(steps::Steps, o.seed, o.budget)),
+    (tests::Tests::NAME, |o| run(tests::Tests::new(), o.seed, o.budget)),
+];
+
+fn table(outcomes: &[Outcome]) {
+    println!("{:<20} {:>12} {:>12} {:>12} {:>8}", "compared", "in all", "accepted", "refused", "differ");
+    for outcome in outcomes {
+        for row in &outcome.tally.rows {
+            println!("{:<20} {:>12} {:>12} {:>12}", row.label, row.accepted + row.refused, row.accepted, row.refused);
+        }
+        let sum = |pick: fn(&part::Row) -> u64| outcome.tally.rows.iter().map(pick).sum::<u64>();
+        let (yes, no, differ) = (sum(|r| r.accepted), sum(|r| r.refused), outcome.differ);
+        println!("{:<20} {:>12} {:>12} {:>12} {:>8}", format!("= {}", outcome.name), yes + no + differ, yes, no, differ);
+    }
+    println!("(a result or a claim counts as accepted if there is one)");
+}
+
+/// Says how often each rule fired. False if one had its part run and never did.
+fn rules_fired(outcomes: &[Outcome]) -> bool {
+    let mut all = true;
+    for (i, rule) in RULES.iter().enumerate() {
+        let Some(outcome) = outcomes.iter().find(|o| o.name == rule.part) else { continue };
+        let fired = outcome.tally.fired[i];
+        println!("rule {} fired {} times: {}", rule.name, fired, rule.why);
+        if fired == 0 {
+            eprintln!("compare: the rule {} never fired", rule.name);
+            all = false;
+        }
+    }
+    all
+}
+
+fn report(outcomes: &[Outcome]) -> bool {
+    for text in outcomes.iter().flat_map(|o| &o.shown) {
+        println!("differs: {}", text);
+    }
+    table(outcomes);
+    let fired = rules_fired(outcomes);
+    let differ: u64 = outcomes.iter().map(|o| o.differ).sum();
+    let compared: u64 = outcomes.iter().map(|o| o.tally.agreed()).sum::<u64>() + differ;
+    println!("compare: {} comparisons, {} differ", compared, differ);
+    fired && differ == 0
+}
+
+fn main() {
+    let words: Vec<String> = std::env::args().skip(1).collect();
+    let options = match args::parse(&words, &PARTS.map(|p| p.0)) {
+        Ok(Request::Help) => return println!("{}", args::HELP),
+        Ok(Request::Run(options)) => options,
+        Err(why) => {
+            eprintln!("compare: {}\n{}", why, args::HELP);
+            exit(2);
+        }
+    };
+    let chosen = |name: &str| options.parts.is_empty() || options.parts.iter().any(|p| p == name);
+    let outcomes: Vec<Outcome> = PARTS.iter().filter(|p| chosen(p.0)).map(|p| (p.1)(&options)).collect();
+    if !report(&outcomes) {
+        exit(1);
+    }
+}

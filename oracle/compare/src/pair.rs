@@ -1,0 +1,218 @@
+//! The crate's `Game` and our log side by side: each action is given to both, and every answer, count and byte compared.
+
+use crate::part::Tally;
+use both::abi::{Answer, Counts, Log, Position, POSITION_LENGTH};
+use both::numbers::{color_of, colour_of, move_of, number_of, position_of, result_number};
+use both::random::Random;
+use chess::{Action, Board, Game};
+
+#[derive(Clone, Copy, PartialEq, Debug)]
+pub enum Act {
+    Move(u16),
+    Offer(u8),
+    Accept,
+    Declare,
+    Resign(u8),
+}
+
+impl Act {
+    fn label(self) -> &'static str {
+        match self {
+            Act::Move(_) => "log: make_move",
+            Act::Offer(_) => "log: offer_draw",
+            Act::Accept => "log: accept_draw",
+            Act::Declare => "log: declare_draw",
+            Act::Resign(_) => "log: resign",
+        }
+    }
+
+    /// The answer that stands for the crate's `false` in a game that is not over.
+    fn refusal(self) -> u64 {
+        match self {
+            Act::Move(_) => 11,
+            Act::Accept => 14,
+            Act::Declare => 15,
+            Act::Offer(_) | Act::Resign(_) => 10,
+        }
+    }
+
+    pub fn show(self) -> String {
+        let by = |colour: u8| if colour == 0 { "white" } else { "black" };
+        match self {
+            Act::Move(number) => move_of(number).to_string(),
+            Act::Offer(colour) => format!("offer-{}", by(colour)),
+            Act::Accept => "accept".to_string(),
+            Act::Declare => "declare".to_string(),
+            Act::Resign(colour) => format!("resign-{}", by(colour)),
+        }
+    }
+}
+
+fn action_bytes(action: &Action) -> [u8; 4] {
+    match action {
+        Action::MakeMove(m) => {
+            let [low, high] = number_of(*m).to_le_bytes();
+            [1, 0, low, high]
+        }
+        Action::OfferDraw(color) => [2, colour_of(*color), 0, 0],
+        Action::AcceptDraw => [3, 0, 0, 0],
+        Action::DeclareDraw => [4, 0, 0, 0],
+        Action::Resign(color) => [5, colour_of(*color), 0, 0],
+    }
+}
+
+fn position_bytes(position: &Position) -> [u8; POSITION_LENGTH] {
+    let mut bytes = [0; POSITION_LENGTH];
+    bytes[..68].copy_from_slice(&position.record.0);
+    bytes[68] = position.in_check;
+    bytes[69] = position.list.len() as u8;
+    for (place, number) in bytes[70..].chunks_exact_mut(2).zip(&position.list) {
+        place.copy_from_slice(&number.to_le_bytes());
+    }
+    bytes
+}
+
+pub struct Pair {
+    game: Game,
+    /// What stands on the board now; the crate's `Game` would replay all moves to say it.
+    board: Board,
+    over: bool,
+    pub log: Log,
+    /// What the two parts must hold: the crate's actions and positions, then the noise that was there before.
+    actions: Vec<u8>,
+    positions: Vec<u8>,
+    noise: Vec<u8>,
+}
+
+fn differs<T: std::fmt::Debug>(what: &str, owed: T, ours: T) -> String {
+    format!("{}: crate {:?}, ours {:?}", what, owed, ours)
+}
+
+impl Pair {
+    pub fn new() -> Pair {
+        let log = Log::new();
+        let mut random = Random::new(1, "noise");
+        let noise: Vec<u8> = log.positions.iter().map(|_| random.next() as u8).collect();
+        let (actions, positions) = (log.actions.clone(), log.positions.clone());
+        Pair { game: Game::new(), board: Board::default(), over: false, log, actions, positions, noise }
+    }
+
+    /// A new game in parts full of noise, for nothing past their used bytes may be looked at or changed.
+    pub fn start(&mut self, board: Board, tally: &mut Tally) -> Result<(), String> {
+        self.game = Game::new_with_board(board);
+        self.board = board;
+        for part in [&mut self.actions, &mut self.positions] {
+            let length = part.len();
+            part.copy_from_slice(&self.noise[..length]);
+        }
+        self.log.actions.copy_from_slice(&self.actions);
+        self.log.positions.copy_from_slice(&self.positions);
+        let position = position_of(&board);
+        let counts = self.log.start(&position);
+        if counts != (Counts { number: 0, actions: 0, moves: 0 }) {
+            return Err(format!("start: ours {:?}", counts));
+        }
+        self.positions[..POSITION_LENGTH].copy_from_slice(&position_bytes(&position));
+        tally.count("log: start", true);
+        self.ask(tally)
+    }
+
+    /// Gives the action to both. Says whether it was accepted.
+    pub fn act(&mut self, act: Act, tally: &mut Tally) -> Result<bool, String> {
+        let (n, m) = (self.log.action_count, self.log.move_count);
+        let (yes, counts) = self.call(act);
+        let moved = (yes && matches!(act, Act::Move(_))) as u64;
+        let number = if yes { 0 } else if self.over { 10 } else { act.refusal() };
+        let owed = Counts { number, actions: n + yes as u64, moves: m + moved };
+        if counts != owed {
+            return Err(differs(&format!("action {} {}", n, act.show()), owed, counts));
+        }
+        if yes {
+            self.append(n as usize, owed.moves as usize, moved == 1);
+        }
+        tally.count(act.label(), yes);
+        self.ask(tally)?;
+        Ok(yes)
+    }
+
+    fn call(&mut self, act: Act) -> (bool, Counts) {
+        match act {
+            Act::Move(number) => {
+                let m = move_of(number);
+                // A move that is not listed is refused before its position is looked at, so any will do.
+                let next = if self.board.legal(m) { self.board.make_move_new(m) } else { self.board };
+                let counts = self.log.make_move(number as u64, &position_of(&next));
+                let yes = self.game.make_move(m);
+                if yes {
+                    self.board = next;
+                }
+                (yes, counts)
+            }
+            Act::Offer(colour) => (self.game.offer_draw(color_of(colour)), self.log.offer_draw(colour)),
+            Act::Accept => (self.game.accept_draw(), self.log.accept_draw()),
+            Act::Declare => (self.game.declare_draw(), self.log.declare_draw()),
+            Act::Resign(colour) => (self.game.resign(color_of(colour)), self.log.resign(colour)),
+        }
+    }
+
+    /// The bytes that an accepted call owes: the crate's last action and, after a move, its position.
+    fn append(&mut self, n: usize, moves: usize, moved: bool) {
+        let last = self.game.actions().last().expect("an accepted action");
+        self.actions[4 * n..4 * n + 4].copy_from_slice(&action_bytes(last));
+        if moved {
+            let at = POSITION_LENGTH * moves;
+            self.positions[at..at + POSITION_LENGTH].copy_from_slice(&position_bytes(&position_of(&self.board)));
+        }
+    }
+
+    /// Both questions, then every byte of both parts.
+    fn ask(&mut self, tally: &mut Tally) -> Result<(), String> {
+        let n = self.log.action_count;
+        let result = result_number(self.game.result());
+        let (owed, ours) = (Answer { number: 0, value: result }, self.log.result());
+        if ours != owed {
+            return Err(differs(&format!("result after {} actions", n), owed, ours));
+        }
+        tally.count("log: result", result != 0);
+        let claim = self.game.can_declare_draw();
+        let (owed, ours) = (Answer { number: 0, value: claim as u64 }, self.log.can_declare_draw());
+        if ours != owed {
+            return Err(differs(&format!("claim after {} actions", n), owed, ours));
+        }
+        tally.count("log: claim", claim);
+        self.over = result != 0;
+        if self.actions != self.log.actions {
+            let at = self.actions.iter().zip(&self.log.actions).position(|(a, b)| a != b);
+            return Err(format!("after {} actions the actions part differs at byte {:?}", n, at));
+        }
+        if self.positions != self.log.positions {
+            let at = self.positions.iter().zip(&self.log.positions).position(|(a, b)| a != b);
+            return Err(format!("after {} actions the positions part differs at byte {:?}", n, at));
+        }
+        Ok(())
+    }
+
+    /// The crate's own replay must come to the position and the bytes that were built up step by step.
+    pub fn end(&self) -> Result<(), String> {
+        if self.game.current_position() != self.board {
+            return Err("the crate's replay comes to another position".to_string());
+        }
+        let bytes: Vec<u8> = self.game.actions().iter().flat_map(action_bytes).collect();
+        match self.log.actions.starts_with(&bytes) && 4 * self.log.action_count as usize == bytes.len() {
+            true => Ok(()),
+            false => Err("the used actions are not the crate's".to_string()),
+        }
+    }
+
+    pub fn board(&self) -> Board {
+        self.board
+    }
+
+    pub fn result(&self) -> u64 {
+        result_number(self.game.result())
+    }
+
+    pub fn claim(&self) -> bool {
+        self.game.can_declare_draw()
+    }
+}

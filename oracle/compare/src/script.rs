@@ -1,0 +1,244 @@
+//! Scripts of actions for the log: walks of exact lengths, and random games in several manners.
+
+use crate::pair::Act;
+use both::games::{board_of, moves_of, random_move, STARTS};
+use both::numbers::number_of;
+use both::random::Random;
+use chess::{Board, ChessMove, Color, Piece};
+use std::collections::HashMap;
+
+/// A start, what is then done, and what must hold at the end where a script is made for it.
+#[derive(Clone)]
+pub struct Script {
+    pub start: String,
+    pub acts: Vec<Act>,
+    /// The claim after the last action, if the script was made to bring it about.
+    pub claim: Option<bool>,
+}
+
+/// Starts beside those of all games: few men, near an end or at one.
+const ENDINGS: [&str; 8] = [
+    "4k1n1/8/8/8/8/8/8/1N2K3 w - - 0 1",
+    "4k1n1/8/8/8/8/8/8/1N2K3 b - - 0 1",
+    "k7/8/1K6/8/8/8/7Q/8 w - - 0 1",
+    "7k/8/5K2/8/8/8/6R1/8 b - - 0 1",
+    "7k/5Q2/6K1/8/8/8/8/8 b - - 0 1",
+    "R5k1/5ppp/8/8/8/8/8/6K1 b - - 0 1",
+    "8/8/8/8/k2p3R/8/4P3/4K3 w - - 0 1",
+    "r3k2r/8/8/8/8/8/8/R3K2R b KQkq - 0 1",
+];
+
+fn rights_of(board: &Board) -> [usize; 2] {
+    [Color::White, Color::Black].map(|c| board.castle_rights(c).to_index())
+}
+
+/// Neither a pawn's move nor a capture.
+fn quiet(board: &Board, m: ChessMove) -> bool {
+    board.piece_on(m.get_source()) != Some(Piece::Pawn) && board.piece_on(m.get_dest()).is_none()
+}
+
+/// Quiet too, and no right is lost.
+fn reversible(board: &Board, m: ChessMove) -> bool {
+    quiet(board, m) && rights_of(&board.make_move_new(m)) == rights_of(board)
+}
+
+/// So many reversible moves, no position of which comes twice.
+fn walk(start: &str, length: usize, random: &mut Random) -> (Vec<Act>, Board) {
+    'again: loop {
+        let mut board = board_of(start);
+        let (mut seen, mut acts) = (vec![board], vec![]);
+        while acts.len() < length {
+            let fresh = |m: &ChessMove| {
+                let next = board.make_move_new(*m);
+                reversible(&board, *m) && !seen.contains(&next) && !moves_of(&next).is_empty()
+            };
+            let moves: Vec<ChessMove> = moves_of(&board).into_iter().filter(fresh).collect();
+            if moves.is_empty() {
+                continue 'again;
+            }
+            let m = *random.pick(&moves);
+            acts.push(Act::Move(number_of(m)));
+            board = board.make_move_new(m);
+            seen.push(board);
+        }
+        return (acts, board);
+    }
+}
+
+/// Exactly 99, 100 and 101 reversible moves, by either side first: a claim stands from the hundredth on.
+fn counts(random: &mut Random) -> Vec<Script> {
+    let mut scripts = vec![];
+    for start in &ENDINGS[..2] {
+        for length in [98, 99, 100, 101, 102] {
+            let (acts, _) = walk(start, length, random);
+            scripts.push(Script { start: start.to_string(), acts, claim: Some(length >= 100) });
+        }
+    }
+    scripts
+}
+
+/// 99 reversible moves and a hundredth that loses a right, moves a pawn or takes: no claim.
+fn broken_counts(random: &mut Random) -> Vec<Script> {
+    let starts = ["4k1n1/8/8/8/8/8/7P/RN2K3 b Q - 0 1", "4k1n1/8/8/3p4/4P3/8/8/1N2K3 b - - 0 1"];
+    let mut scripts = vec![];
+    for start in starts {
+        let (mut acts, board) = walk(start, 99, random);
+        for m in moves_of(&board).into_iter().filter(|m| !reversible(&board, *m)) {
+            acts.push(Act::Move(number_of(m)));
+            scripts.push(Script { start: start.to_string(), acts: acts.clone(), claim: Some(false) });
+            acts.pop();
+        }
+    }
+    scripts
+}
+
+fn acts_of(text: &str) -> Vec<Act> {
+    let number = |t: &str| t.parse::<ChessMove>().map(number_of).expect("a move");
+    let act = |t: &str| match t {
+        "ow" => Act::Offer(0),
+        "ob" => Act::Offer(1),
+        "a" => Act::Accept,
+        "d" => Act::Declare,
+        "rw" => Act::Resign(0),
+        "rb" => Act::Resign(1),
+        _ => Act::Move(number(t)),
+    };
+    text.split_whitespace().map(act).collect()
+}
+
+/// One and two earlier equal positions, offers in every place, and what comes after an end.
+fn told() -> Vec<Script> {
+    let round = "b1c3 g8f6 c3b1 f6g8 ";
+    let initial = [
+        ("", Some(false)), (round, Some(false)), (&round.repeat(2), Some(true)), (&round.repeat(3), Some(true)),
+        (&(round.repeat(2) + "e2e4"), Some(false)), (&(round.to_string() + "e2e4 e7e5 " + round), Some(false)),
+        (&(round.repeat(2) + "d ow a rb b1c3 d"), Some(false)), ("d b1c3 d", None),
+        ("ow a", None), ("ob a", None), ("ow e2e4 a", None), ("ob e2e4 a", None), ("ow e2e4 e7e5 a", None),
+        ("ow ob e2e4 a", None), ("ob ow e2e4 a", None), ("a", None), ("e2e4 a", None), ("ow e2e5 a", None),
+        ("e2e4 ob e7e5 a", None), ("e2e4 ow e7e5 a", None), ("rw", None), ("rb", None), ("ow rw a", None),
+        ("f2f3 e7e5 g2g4 d8h4 a d ow rw e2e4", None), ("e2e4 e7e5 d1h5 a7a6 f1c4 a6a5 h5f7 ob a d rb", None),
+    ];
+    let ep = "e2e4 a4b4 e1e2 b4a4 e2e1 a4b4 e1e2 b4a4 e2e1 a4b4 e1e2 b4a4 e2e1";
+    let castles = "e1g1 e8c8 f1e1 d8e8 e1f1 e8d8 f1e1 d8e8 e1f1 e8d8 d";
+    let rights = "a1b1 a8b8 b1a1 b8a8 a1b1 a8b8 b1a1 b8a8 a1b1 a8b8 b1a1 b8a8";
+    let ended = [(ENDINGS[4], "h8g8 a d ow rb"), (ENDINGS[5], "d rb")];
+    let others = [(ENDINGS[6], ep), (STARTS[5], castles), (STARTS[5], rights), ended[0], ended[1]];
+    let from = |start: &str, text: &str, claim| Script { start: start.to_string(), acts: acts_of(text), claim };
+    let first = initial.iter().map(|(text, claim)| from(STARTS[0], text, *claim));
+    first.chain(others.iter().map(|(start, text)| from(start, text, None))).collect()
+}
+
+/// As many moves and actions as a log holds: 1,024 and 2,048, with every offer left standing.
+fn full() -> Script {
+    let round = acts_of("b1c3 g8f6 c3b1 f6g8");
+    let acts = (0..1_024).flat_map(|n| [round[n % 4], Act::Offer((n % 2) as u8)]).collect();
+    Script { start: STARTS[0].to_string(), acts, claim: Some(true) }
+}
+
+pub fn fixed() -> Vec<Script> {
+    let mut random = Random::new(1, "walks");
+    let mut scripts = told();
+    scripts.extend(counts(&mut random));
+    scripts.extend(broken_counts(&mut random));
+    scripts.push(full());
+    scripts
+}
+
+/// How a random game chooses its moves.
+#[derive(Clone, Copy)]
+enum Manner {
+    Wild,
+    /// Mostly reversible moves: long runs.
+    Quiet,
+    /// Mostly the way back: repetitions.
+    Back,
+}
+
+/// A random game in the making. It only guesses when a game is over; both sides judge that for themselves.
+struct Player<'a> {
+    board: Board,
+    acts: Vec<Act>,
+    /// The last move of each side.
+    last: [Option<ChessMove>; 2],
+    seen: HashMap<Board, u32>,
+    run: u32,
+    manner: Manner,
+    random: &'a mut Random,
+}
+
+impl Player<'_> {
+    fn choose(&mut self) -> Option<ChessMove> {
+        let moves = moves_of(&self.board);
+        let back = self.last[self.board.side_to_move().to_index()]
+            .map(|m| ChessMove::new(m.get_dest(), m.get_source(), None))
+            .filter(|m| moves.contains(m));
+        let calm: Vec<ChessMove> = moves.iter().copied().filter(|m| quiet(&self.board, *m)).collect();
+        match self.manner {
+            Manner::Back if back.is_some() && !self.random.once_in(5) => back,
+            Manner::Back | Manner::Quiet if !calm.is_empty() && !self.random.once_in(40) => Some(*self.random.pick(&calm)),
+            _ => random_move(&self.board, self.random),
+        }
+    }
+
+    fn play(&mut self, m: ChessMove) {
+        self.last[self.board.side_to_move().to_index()] = Some(m);
+        self.run = if reversible(&self.board, m) { self.run + 1 } else { 0 };
+        self.board = self.board.make_move_new(m);
+        *self.seen.entry(self.board).or_insert(0) += 1;
+        self.acts.push(Act::Move(number_of(m)));
+    }
+
+    /// Something beside a move now and then. Says whether the game is likely to be over by it.
+    fn beside(&mut self) -> bool {
+        let colour = self.random.below(2) as u8;
+        let offered = matches!(self.acts.last(), Some(Act::Offer(_)));
+        let claims = self.run >= 100 || self.seen.get(&self.board).map_or(false, |n| *n >= 3);
+        match self.random.below(60) {
+            0..=3 => self.acts.push(Act::Offer(colour)),
+            4 | 5 if !offered || self.random.once_in(6) => self.acts.push(Act::Accept),
+            6 if self.random.once_in(8) => self.acts.push(Act::Resign(colour)),
+            7 | 8 if !claims || self.random.once_in(12) => self.acts.push(Act::Declare),
+            9 => self.acts.push(Act::Move(self.random.below(28_672) as u16)),
+            _ => return false,
+        }
+        match self.acts.last() {
+            Some(Act::Accept) => offered,
+            Some(Act::Declare) => claims,
+            Some(Act::Resign(_)) => true,
+            _ => false,
+        }
+    }
+}
+
+pub fn random(random: &mut Random) -> Script {
+    let start = if random.once_in(3) { random.pick(&ENDINGS) } else { random.pick(&STARTS) }.to_string();
+    let manner = *random.pick(&[Manner::Wild, Manner::Quiet, Manner::Back]);
+    let most = *random.pick(&[6, 12, 24, 24, 40, 40, 80, 80, 140, 300]);
+    let board = board_of(&start);
+    let (seen, last) = (HashMap::from([(board, 1)]), [None, None]);
+    let mut player = Player { board, acts: vec![], last, seen, run: 0, manner, random };
+    while player.acts.len() < most {
+        if player.beside() {
+            break;
+        }
+        match player.choose() {
+            Some(m) => player.play(m),
+            None => break,
+        }
+    }
+    // After the end each call must be refused in its own way; a game that goes on takes some of these.
+    for _ in 0..player.random.below(5) {
+        let colour = player.random.below(2) as u8;
+        let legal = random_move(&player.board, player.random).map_or(Act::Accept, |m| Act::Move(number_of(m)));
+        let act = *player.random.pick(&[legal, Act::Offer(colour), Act::Accept, Act::Declare, Act::Resign(colour)]);
+        player.acts.push(act);
+    }
+    Script { start, acts: player.acts, claim: None }
+}
+
+#[test]
+fn starts_are_sane() {
+    for start in ENDINGS.iter().chain(&STARTS) {
+        board_of(start);
+    }
+}
