@@ -1,6 +1,6 @@
 //! The command line.
 
-use crate::part::Budget;
+use compare::part::Budget;
 use std::time::Duration;
 
 pub const HELP: &str = "\

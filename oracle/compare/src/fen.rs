@@ -23,7 +23,7 @@ const PAPER: [&str; 5] =
 pub struct FenRead(Positions);
 
 /// What is owed for a text: the crate's record, or a refusal with 68 zeros. The offset is 0 until refusals have one.
-fn owed_read(text: &str) -> Result<Fen, String> {
+pub fn owed_read(text: &str) -> Result<Fen, String> {
     match BoardBuilder::from_str(text) {
         Ok(builder) => Ok(Fen { number: 0, offset: 0, board: record_of(&builder) }),
         Err(Error::InvalidFen { fen }) if fen == text => Ok(Fen { number: 1, offset: 0, board: records::EMPTY }),

@@ -1,24 +1,11 @@
 //! Asks the crate chess 3.2.0 and libmenkhodur.a the same and compares every result, count and lent byte.
 
 mod args;
-mod fen;
-mod lent;
-mod log;
-mod moves;
-mod names;
-mod pair;
-mod part;
-mod records;
-mod rules;
-mod san;
-mod script;
-mod steps;
-mod tests;
-mod texts;
 
 use args::{Options, Request};
-use part::{run, Outcome, Part};
-use rules::RULES;
+use compare::part::{self, run, Outcome, Part};
+use compare::rules::RULES;
+use compare::{fen, log, moves, names, san, steps, tests};
 use std::process::exit;
 
 /// Runs the part that has this name.

@@ -22,7 +22,7 @@ const LETTERS: &[u8] = b"abcdefgh12345678qrnbkpQRNB09iZ -=x";
 /// The ends of the files and ranks, what lies just past them, a promotion letter and one that is none.
 const SHORT: &[u8] = b"ahi`1890qK";
 
-fn owed_read(text: &str) -> Result<Answer, String> {
+pub fn owed_read(text: &str) -> Result<Answer, String> {
     match ChessMove::from_str(text) {
         Ok(m) => Ok(Answer { number: 0, value: number_of(m) as u64 }),
         Err(Error::InvalidSquare) => Ok(Answer { number: 2, value: 0 }),

@@ -112,7 +112,7 @@ impl Shape {
 }
 
 /// The name owed, or the number of the refusal.
-fn owed(place: &Place, number: u64) -> Result<Result<String, u64>, String> {
+pub fn owed(place: &Place, number: u64) -> Result<Result<String, u64>, String> {
     let Some(listed) = place.list.iter().find(|n| **n as u64 == number) else { return Ok(Err(NOT_LISTED)) };
     let shape = Shape::of(&place.record, *listed);
     for text in shape.candidates() {

@@ -1,52 +1,11 @@
 //! The crate's `Game` and our log side by side: each action is given to both, and every answer, count and byte compared.
 
 use crate::part::Tally;
+use crate::script::Act;
 use both::abi::{Answer, Counts, Log, Position, POSITION_LENGTH};
-use both::numbers::{color_of, colour_of, move_of, number_of, position_of, result_number};
+use both::numbers::{colour_of, number_of, position_of, result_number};
 use both::random::Random;
 use chess::{Action, Board, Game};
-
-#[derive(Clone, Copy, PartialEq, Debug)]
-pub enum Act {
-    Move(u16),
-    Offer(u8),
-    Accept,
-    Declare,
-    Resign(u8),
-}
-
-impl Act {
-    fn label(self) -> &'static str {
-        match self {
-            Act::Move(_) => "log: make_move",
-            Act::Offer(_) => "log: offer_draw",
-            Act::Accept => "log: accept_draw",
-            Act::Declare => "log: declare_draw",
-            Act::Resign(_) => "log: resign",
-        }
-    }
-
-    /// The answer that stands for the crate's `false` in a game that is not over.
-    fn refusal(self) -> u64 {
-        match self {
-            Act::Move(_) => 11,
-            Act::Accept => 14,
-            Act::Declare => 15,
-            Act::Offer(_) | Act::Resign(_) => 10,
-        }
-    }
-
-    pub fn show(self) -> String {
-        let by = |colour: u8| if colour == 0 { "white" } else { "black" };
-        match self {
-            Act::Move(number) => move_of(number).to_string(),
-            Act::Offer(colour) => format!("offer-{}", by(colour)),
-            Act::Accept => "accept".to_string(),
-            Act::Declare => "declare".to_string(),
-            Act::Resign(colour) => format!("resign-{}", by(colour)),
-        }
-    }
-}
 
 fn action_bytes(action: &Action) -> [u8; 4] {
     match action {
@@ -76,7 +35,6 @@ pub struct Pair {
     game: Game,
     /// What stands on the board now; the crate's `Game` would replay all moves to say it.
     board: Board,
-    over: bool,
     pub log: Log,
     /// What the two parts must hold: the crate's actions and positions, then the noise that was there before.
     actions: Vec<u8>,
@@ -94,7 +52,7 @@ impl Pair {
         let mut random = Random::new(1, "noise");
         let noise: Vec<u8> = log.positions.iter().map(|_| random.next() as u8).collect();
         let (actions, positions) = (log.actions.clone(), log.positions.clone());
-        Pair { game: Game::new(), board: Board::default(), over: false, log, actions, positions, noise }
+        Pair { game: Game::new(), board: Board::default(), log, actions, positions, noise }
     }
 
     /// A new game in parts full of noise, for nothing past their used bytes may be looked at or changed.
@@ -120,9 +78,9 @@ impl Pair {
     /// Gives the action to both. Says whether it was accepted.
     pub fn act(&mut self, act: Act, tally: &mut Tally) -> Result<bool, String> {
         let (n, m) = (self.log.action_count, self.log.move_count);
-        let (yes, counts) = self.call(act);
+        let (number, counts) = self.call(act);
+        let yes = number == 0;
         let moved = (yes && matches!(act, Act::Move(_))) as u64;
-        let number = if yes { 0 } else if self.over { 10 } else { act.refusal() };
         let owed = Counts { number, actions: n + yes as u64, moves: m + moved };
         if counts != owed {
             return Err(differs(&format!("action {} {}", n, act.show()), owed, counts));
@@ -135,24 +93,21 @@ impl Pair {
         Ok(yes)
     }
 
-    fn call(&mut self, act: Act) -> (bool, Counts) {
-        match act {
-            Act::Move(number) => {
-                let m = move_of(number);
-                // A move that is not listed is refused before its position is looked at, so any will do.
-                let next = if self.board.legal(m) { self.board.make_move_new(m) } else { self.board };
-                let counts = self.log.make_move(number as u64, &position_of(&next));
-                let yes = self.game.make_move(m);
-                if yes {
-                    self.board = next;
-                }
-                (yes, counts)
-            }
-            Act::Offer(colour) => (self.game.offer_draw(color_of(colour)), self.log.offer_draw(colour)),
-            Act::Accept => (self.game.accept_draw(), self.log.accept_draw()),
-            Act::Declare => (self.game.declare_draw(), self.log.declare_draw()),
-            Act::Resign(colour) => (self.game.resign(color_of(colour)), self.log.resign(colour)),
+    fn call(&mut self, act: Act) -> (u64, Counts) {
+        // A move that is not listed is refused before its position is looked at, so any will do.
+        let next = act.after(&self.board);
+        let counts = match act {
+            Act::Move(number) => self.log.make_move(number as u64, &position_of(&next)),
+            Act::Offer(colour) => self.log.offer_draw(colour),
+            Act::Accept => self.log.accept_draw(),
+            Act::Declare => self.log.declare_draw(),
+            Act::Resign(colour) => self.log.resign(colour),
+        };
+        let number = act.play(&mut self.game);
+        if number == 0 {
+            self.board = next;
         }
+        (number, counts)
     }
 
     /// The bytes that an accepted call owes: the crate's last action and, after a move, its position.
@@ -180,7 +135,6 @@ impl Pair {
             return Err(differs(&format!("claim after {} actions", n), owed, ours));
         }
         tally.count("log: claim", claim);
-        self.over = result != 0;
         if self.actions != self.log.actions {
             let at = self.actions.iter().zip(&self.log.actions).position(|(a, b)| a != b);
             return Err(format!("after {} actions the actions part differs at byte {:?}", n, at));

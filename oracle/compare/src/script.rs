@@ -1,11 +1,78 @@
 //! Scripts of actions for the log: walks of exact lengths, and random games in several manners.
 
-use crate::pair::Act;
 use both::games::{board_of, moves_of, random_move, STARTS};
-use both::numbers::number_of;
+use both::numbers::{color_of, move_of, number_of};
 use both::random::Random;
-use chess::{Board, ChessMove, Color, Piece};
+use chess::{Board, ChessMove, Color, Game, Piece};
 use std::collections::HashMap;
+
+/// What is done on a log.
+#[derive(Clone, Copy, PartialEq, Debug)]
+pub enum Act {
+    Move(u16),
+    Offer(u8),
+    Accept,
+    Declare,
+    Resign(u8),
+}
+
+impl Act {
+    pub fn label(self) -> &'static str {
+        match self {
+            Act::Move(_) => "log: make_move",
+            Act::Offer(_) => "log: offer_draw",
+            Act::Accept => "log: accept_draw",
+            Act::Declare => "log: declare_draw",
+            Act::Resign(_) => "log: resign",
+        }
+    }
+
+    /// The answer that stands for the crate's `false` in a game that is not over.
+    fn refusal(self) -> u64 {
+        match self {
+            Act::Move(_) => 11,
+            Act::Accept => 14,
+            Act::Declare => 15,
+            Act::Offer(_) | Act::Resign(_) => 10,
+        }
+    }
+
+    /// What stands on the board after it: the same as before, if it is no legal move.
+    pub fn after(self, board: &Board) -> Board {
+        match self {
+            Act::Move(number) if board.legal(move_of(number)) => board.make_move_new(move_of(number)),
+            _ => *board,
+        }
+    }
+
+    /// Gives the action to the crate. Document 01's number for what it said: 0, 10 in a game that was over, or the refusal.
+    pub fn play(self, game: &mut Game) -> u64 {
+        let over = game.result().is_some();
+        let yes = match self {
+            Act::Move(number) => game.make_move(move_of(number)),
+            Act::Offer(colour) => game.offer_draw(color_of(colour)),
+            Act::Accept => game.accept_draw(),
+            Act::Declare => game.declare_draw(),
+            Act::Resign(colour) => game.resign(color_of(colour)),
+        };
+        match (yes, over) {
+            (true, _) => 0,
+            (false, true) => 10,
+            (false, false) => self.refusal(),
+        }
+    }
+
+    pub fn show(self) -> String {
+        let by = |colour: u8| if colour == 0 { "white" } else { "black" };
+        match self {
+            Act::Move(number) => move_of(number).to_string(),
+            Act::Offer(colour) => format!("offer-{}", by(colour)),
+            Act::Accept => "accept".to_string(),
+            Act::Declare => "declare".to_string(),
+            Act::Resign(colour) => format!("resign-{}", by(colour)),
+        }
+    }
+}
 
 /// A start, what is then done, and what must hold at the end where a script is made for it.
 #[derive(Clone)]
@@ -107,7 +174,7 @@ fn acts_of(text: &str) -> Vec<Act> {
 }
 
 /// One and two earlier equal positions, offers in every place, and what comes after an end.
-fn told() -> Vec<Script> {
+pub fn told() -> Vec<Script> {
     let round = "b1c3 g8f6 c3b1 f6g8 ";
     let initial = [
         ("", Some(false)), (round, Some(false)), (&round.repeat(2), Some(true)), (&round.repeat(3), Some(true)),

@@ -2,7 +2,8 @@
 //! the text of game.rs itself.
 
 use crate::lent::check_writer;
-use crate::pair::{Act, Pair};
+use crate::pair::Pair;
+use crate::script::Act;
 use crate::part::{Part, Tally};
 use crate::rules;
 use both::abi;

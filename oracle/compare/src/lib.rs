@@ -1,0 +1,16 @@
+//! What is compared, part by part. The crate's answers alone are also what `vectors` writes down.
+
+pub mod fen;
+mod lent;
+pub mod log;
+pub mod moves;
+pub mod names;
+mod pair;
+pub mod part;
+mod records;
+pub mod rules;
+pub mod san;
+pub mod script;
+pub mod steps;
+pub mod tests;
+pub mod texts;

@@ -1,0 +1,238 @@
+//! Writes a sample of the crate's answers: a script for the proved program `replay`, and what that must print. Every answer is
+//! the crate's, by the rules of `compare`; nothing here asks the archive.
+//!
+//!     vectors SCRIPT PRINTED      the two files to write; always the same bytes
+
+use both::games::{board_of, Positions};
+use both::numbers::{builder_of, move_of, position_of, result_number, MOST_MOVE};
+use both::random::Random;
+use chess::{Board, Game};
+use compare::part::Part;
+use compare::san::{random_place, Input as SanInput, Place, SanAny, SanLegal};
+use compare::script::{self, Act, Script};
+use compare::{fen, moves, names, rules};
+use std::collections::HashSet;
+use std::fmt::Write as _;
+use std::rc::Rc;
+
+const TEXTS: usize = 5_000;
+const GAMES: usize = 100;
+/// Long texts and games are the comparison's; here they would only make the files large.
+const LONGEST_TEXT: usize = 100;
+const LONGEST_GAME: usize = 50;
+/// So many moves of one list are named.
+const MOVES_A_PLACE: usize = 15;
+
+/// Lines of the script, and the lines that they must print.
+#[derive(Default)]
+struct Vectors {
+    script: String,
+    printed: String,
+}
+
+impl Vectors {
+    fn heading(&mut self, text: &str) {
+        self.told(&format!("# {}", text), &format!("# {}", text));
+    }
+
+    fn told(&mut self, line: &str, owed: &str) {
+        self.silent(line);
+        writeln!(self.printed, "{}", owed).expect("a String takes all");
+    }
+
+    /// A line that prints nothing.
+    fn silent(&mut self, line: &str) {
+        writeln!(self.script, "{}", line).expect("a String takes all");
+    }
+}
+
+/// Whether a text can stand in a line of the script.
+fn fits(text: &str) -> bool {
+    text.len() <= LONGEST_TEXT && !text.contains(['\n', '\r', '\0'])
+}
+
+/// So many different texts of a part's random inputs.
+fn different(count: usize, mut next: impl FnMut() -> Option<String>) -> Vec<String> {
+    let mut known = HashSet::new();
+    while known.len() < count {
+        known.extend(next().filter(|text| fits(text)));
+    }
+    let mut all: Vec<String> = known.into_iter().collect();
+    all.sort();
+    all
+}
+
+/// The crate's text of a record, by the rule of the en passant rank.
+fn key_of(record: &both::abi::Record) -> String {
+    rules::en_passant_rank(&builder_of(record).to_string()).0
+}
+
+fn fen_texts(out: &mut Vectors) -> Result<(), String> {
+    out.heading(&format!("{} FEN texts: the number, and the key of the board", TEXTS));
+    let (mut part, mut random) = (fen::FenRead::default(), Random::new(1, "vectors: FEN"));
+    for text in different(TEXTS, || part.random(&mut random)) {
+        let owed = fen::owed_read(&text)?;
+        let key = if owed.number == 0 { format!(" {}", key_of(&owed.board)) } else { String::new() };
+        out.told(&format!("F {}", text), &format!("{}{}", owed.number, key));
+    }
+    Ok(())
+}
+
+fn coordinate_texts(out: &mut Vectors) -> Result<(), String> {
+    out.heading(&format!("{} coordinate texts: number and value, and the move written again", TEXTS));
+    let mut random = Random::new(1, "vectors: coordinates");
+    let mut read = || match moves::Moves.random(&mut random) {
+        Some(moves::Input::Read(text)) => Some(text),
+        _ => None,
+    };
+    for text in different(TEXTS, &mut read) {
+        let owed = moves::owed_read(&text)?;
+        let again = if owed.number == 0 { format!(" {}", move_of(owed.value as u16)) } else { String::new() };
+        out.told(&format!("C {}", text), &format!("{} {}{}", owed.number, owed.value, again));
+    }
+    Ok(())
+}
+
+fn list_text(list: &[u16]) -> String {
+    match list {
+        [] => "-".to_string(),
+        _ => list.iter().map(|n| n.to_string()).collect::<Vec<_>>().join(","),
+    }
+}
+
+/// The line that gives the place, unless it is the one given last.
+fn give(out: &mut Vectors, last: &mut Option<Rc<Place>>, place: &Rc<Place>) {
+    if last.as_ref().map_or(true, |l| !Rc::ptr_eq(l, place)) {
+        out.silent(&format!("p 0 {} {}", list_text(&place.list), key_of(&place.record)));
+        *last = Some(place.clone());
+    }
+}
+
+fn san_texts(out: &mut Vectors, what: &str, mut next: impl FnMut() -> Option<SanInput>) -> Result<(), String> {
+    out.heading(&format!("{} SAN texts on {}: number and value", TEXTS, what));
+    let (mut last, mut left) = (None, TEXTS);
+    while left > 0 {
+        let Some((place, text)) = next().filter(|(_, text)| fits(text)) else { continue };
+        give(out, &mut last, &place);
+        let owed = place.crate_reads(&text)?.map_or("4 0".to_string(), |number| format!("0 {}", number));
+        out.told(&format!("S {}", text), &owed);
+        left -= 1;
+    }
+    Ok(())
+}
+
+/// Some of the place's moves, and one number that need not be among them.
+fn some_moves(place: &Place, random: &mut Random) -> Vec<u64> {
+    let listed = if place.list.is_empty() { 0 } else { MOVES_A_PLACE };
+    let mut numbers: Vec<u64> = (0..listed).map(|_| *random.pick(&place.list) as u64).collect();
+    numbers.push(random.below(MOST_MOVE as usize + 1) as u64);
+    numbers
+}
+
+fn name_some(out: &mut Vectors, place: &Rc<Place>, random: &mut Random) -> Result<usize, String> {
+    give(out, &mut None, place);
+    let numbers = some_moves(place, random);
+    for number in &numbers {
+        let owed = match names::owed(place, *number)? {
+            Ok(name) => format!("0 {} {}", name.len(), name),
+            Err(number) => format!("{} 0", number),
+        };
+        out.told(&format!("N {}", number), &owed);
+    }
+    Ok(numbers.len())
+}
+
+fn names_of_moves(out: &mut Vectors) -> Result<(), String> {
+    out.heading(&format!("{} names or more: number and length, and the text", TEXTS));
+    let (mut positions, mut random) = (Positions::default(), Random::new(1, "vectors: names"));
+    let mut named = 0;
+    while named < TEXTS {
+        let legal = Place::legal(positions.next(&mut random));
+        named += name_some(out, &legal, &mut random)?;
+        let any = random_place(&mut positions, &mut random);
+        named += name_some(out, &any, &mut random)?;
+    }
+    Ok(())
+}
+
+fn position_words(board: &Board) -> String {
+    let position = position_of(board);
+    format!("{} {} {}", position.in_check, list_text(&position.list), key_of(&position.record))
+}
+
+fn act_line(act: Act, after: &Board) -> String {
+    match act {
+        Act::Move(number) => format!("m {} {}", number, position_words(after)),
+        Act::Offer(colour) => format!("o {}", colour),
+        Act::Accept => "a".to_string(),
+        Act::Declare => "d".to_string(),
+        Act::Resign(colour) => format!("r {}", colour),
+    }
+}
+
+fn ask(out: &mut Vectors, game: &Game) {
+    let (result, claim) = (result_number(game.result()), game.can_declare_draw() as u64);
+    out.told("?", &format!("0 {} 0 {}", result, claim));
+}
+
+/// One game, asked after each action.
+fn play(out: &mut Vectors, script: &Script) {
+    let mut board = board_of(&script.start);
+    let mut game = Game::new_with_board(board);
+    let (mut actions, mut moves) = (0, 0);
+    out.told(&format!("s {}", position_words(&board)), "0 0 0");
+    ask(out, &game);
+    for act in &script.acts {
+        let after = act.after(&board);
+        let number = act.play(&mut game);
+        if number == 0 {
+            actions += 1;
+            moves += matches!(act, Act::Move(_)) as u64;
+            board = after;
+        }
+        out.told(&act_line(*act, &after), &format!("{} {} {}", number, actions, moves));
+        ask(out, &game);
+    }
+}
+
+fn games(out: &mut Vectors) {
+    let mut random = Random::new(1, "vectors: games");
+    let chance = std::iter::repeat_with(|| script::random(&mut random));
+    let short = chance.filter(|s| s.acts.len() <= LONGEST_GAME).take(GAMES);
+    let all: Vec<Script> = script::told().into_iter().chain(short).collect();
+    out.heading(&format!("{} games, asked after each action", all.len()));
+    for script in &all {
+        play(out, script);
+    }
+}
+
+fn make() -> Result<Vectors, String> {
+    let mut out = Vectors::default();
+    let (mut legal, mut any) = (SanLegal::new(), SanAny::new());
+    let mut random = Random::new(1, "vectors: SAN");
+    // remake-vectors finds the chapter by this line.
+    out.heading("Vectors: a sample of what the crate chess 3.2.0 answers");
+    fen_texts(&mut out)?;
+    coordinate_texts(&mut out)?;
+    san_texts(&mut out, "legal lists", || legal.random(&mut random))?;
+    san_texts(&mut out, "any lists", || any.random(&mut random))?;
+    names_of_moves(&mut out)?;
+    games(&mut out);
+    Ok(out)
+}
+
+fn main() {
+    let paths: Vec<String> = std::env::args().skip(1).collect();
+    let [script, printed] = &paths[..] else {
+        eprintln!("usage: vectors SCRIPT PRINTED");
+        std::process::exit(2);
+    };
+    let done = make().and_then(|v| {
+        std::fs::write(script, v.script).map_err(|e| format!("{}: {}", script, e))?;
+        std::fs::write(printed, v.printed).map_err(|e| format!("{}: {}", printed, e))
+    });
+    if let Err(why) = done {
+        eprintln!("vectors: {}", why);
+        std::process::exit(1);
+    }
+}
