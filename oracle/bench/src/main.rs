@@ -1,7 +1,10 @@
 //! Times the crate chess 3.2.0 and libmenkhodur.a on the same inputs in one run. Each answer is compared on the way, so
 //! that nothing is timed that is wrong.
 //!
-//! SAN texts are read by the crate's code over lists at hand (`sanlist`), as ours are: making the list is not timed.
+//! SAN texts are read by the crate's code in two ways: over lists at hand (`sanlist`), as ours are, and over its own `Board`,
+//! where it makes the list, by the stand-in generator, before it looks at it.
+
+mod keys;
 
 use both::abi::{self, Answer, Log, Record};
 use both::games::{board_of, different_positions, moves_of, random_move, STARTS};
@@ -25,7 +28,8 @@ struct Place {
     record: Record,
     list: Vec<u16>,
     names: Vec<String>,
-    board: sanlist::board::Board,
+    board: Board,
+    at_hand: sanlist::board::Board,
 }
 
 fn place_of(board: &Board) -> Place {
@@ -37,8 +41,9 @@ fn place_of(board: &Board) -> Place {
         String::from_utf8(room[..answer.value as usize].to_vec()).expect("a name is ASCII")
     };
     let names = position.list.iter().map(name).collect();
-    let san_board = sanlist::board::Board::new(position.record.0, &position.list);
-    Place { builder, fen: board.to_string(), record: position.record, list: position.list, names, board: san_board }
+    let at_hand = sanlist::board::Board::new(position.record.0, &position.list);
+    let (record, list) = (position.record, position.list);
+    Place { builder, fen: board.to_string(), record, list, names, board: *board, at_hand }
 }
 
 /// Nanoseconds for one input, the best of the rounds. What `work` gives is kept from being optimised away.
@@ -55,7 +60,7 @@ fn time<I, T>(inputs: &[I], mut work: impl FnMut(&I) -> T) -> f64 {
 }
 
 fn row(what: &str, inputs: usize, theirs: f64, ours: f64) {
-    println!("{:<44} {:>8} {:>12.1} {:>12.1} {:>9.2}", what, inputs, theirs, ours, theirs / ours);
+    println!("{:<48} {:>8} {:>12.1} {:>12.1} {:>9.2}", what, inputs, theirs, ours, theirs / ours);
 }
 
 fn fen(places: &[Place]) {
@@ -91,11 +96,14 @@ fn coordinates(places: &[Place]) {
 fn san(places: &[Place]) {
     let all: Vec<(&Place, usize)> = places.iter().flat_map(|p| (0..p.list.len()).map(move |i| (p, i))).collect();
     for (p, i) in &all {
-        assert_eq!(sanlist::read(&p.board, &p.names[*i]).ok(), Some(p.list[*i]), "{}", p.names[*i]);
+        assert_eq!(sanlist::read(&p.at_hand, &p.names[*i]).ok(), Some(p.list[*i]), "{}", p.names[*i]);
+        assert_eq!(ChessMove::from_san(&p.board, &p.names[*i]).map(number_of).ok(), Some(p.list[*i]), "{}", p.names[*i]);
     }
-    let theirs = time(&all, |(p, i)| sanlist::read(&p.board, &p.names[*i]));
+    let theirs = time(&all, |(p, i)| sanlist::read(&p.at_hand, &p.names[*i]));
+    let making = time(&all, |(p, i)| ChessMove::from_san(&p.board, &p.names[*i]));
     let ours = time(&all, |(p, i)| abi::san_read(p.record, &p.list, p.names[*i].as_bytes()));
-    row("SAN read over legal lists", all.len(), theirs, ours);
+    row("SAN read over legal lists, all at hand", all.len(), theirs, ours);
+    row("SAN read over legal lists, the crate makes its", all.len(), making, ours);
     let mut room = [0; 11];
     let naming = time(&all, |(p, i)| abi::san_name(p.record, &p.list, p.list[*i] as u64, &mut room));
     row("naming (ours), against a SAN read (crate)", all.len(), theirs, naming);
@@ -149,7 +157,7 @@ fn games(random: &mut Random) {
     let (mut theirs, mut ours) = (0.0, 0.0);
     for _ in 0..GAMES {
         let game = long_game(random);
-        // The first time makes the crate's lists known to the stand-in generator; only the second counts.
+        // Only the second time counts: then the memory of both is warm.
         ask_all(&game, &mut log);
         let (t, o) = ask_all(&game, &mut log);
         theirs += t;
@@ -163,9 +171,17 @@ fn main() {
     let mut random = Random::new(1, "bench");
     let places: Vec<Place> = different_positions(POSITIONS, &mut random).iter().map(place_of).collect();
     println!("{} different positions of games; nanoseconds an input, best of {} rounds", places.len(), ROUNDS);
-    println!("{:<44} {:>8} {:>12} {:>12} {:>9}", "what", "inputs", "crate", "ours", "ratio");
+    println!("{:<48} {:>8} {:>12} {:>12} {:>9}", "what", "inputs", "crate", "ours", "ratio");
     fen(&places);
     coordinates(&places);
     san(&places);
     games(&mut random);
+    let texts: Vec<&str> = places.iter().map(|p| p.fen.as_str()).collect();
+    match keys::times(&texts) {
+        Ok((lines, theirs, ours)) => row("keys, a line of a file", lines, theirs, ours),
+        Err(why) => {
+            eprintln!("bench: keys: {}", why);
+            std::process::exit(1);
+        }
+    }
 }

@@ -5,7 +5,7 @@ mod lent;
 pub mod log;
 pub mod moves;
 pub mod names;
-mod pair;
+pub mod pair;
 pub mod part;
 mod records;
 pub mod rules;

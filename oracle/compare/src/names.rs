@@ -19,6 +19,13 @@ pub struct Input {
     off: i64,
 }
 
+impl Input {
+    /// A move of a place, to be named into a room of exactly its length.
+    pub fn new(place: Rc<Place>, number: u64) -> Input {
+        Input { place, number, off: 0 }
+    }
+}
+
 const PIECES: [&str; 6] = ["", "N", "B", "R", "Q", "K"];
 const PROMOTIONS: [&str; 5] = ["", "N", "B", "R", "Q"];
 const NOT_LISTED: u64 = 11;
