@@ -1,5 +1,7 @@
 #!/usr/bin/env python3
-"""What document 01 says a script of try_game prints: `model.py < stdin > stdout`. Written from the document, not from the Rattle code.
+"""What document 01 says the log's chapter of replay's script prints. Written from the document, not from the Rattle code:
+
+    sed -n '/^# 1\. The tests of game.rs/,/^# Vectors/{/^# Vectors/!p}' crates/replay/stdin | tests/log_model.py
 
 A log is kept as a history: a start position and the calls that were accepted. Bytes that a history does not account for are read back into a
 history, which is then played again: the log is good if every call is accepted and the history leaves exactly these bytes and counts."""

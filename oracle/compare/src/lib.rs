@@ -7,7 +7,7 @@ pub mod moves;
 pub mod names;
 pub mod pair;
 pub mod part;
-mod records;
+pub mod records;
 pub mod rules;
 pub mod san;
 pub mod script;

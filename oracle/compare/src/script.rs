@@ -178,6 +178,7 @@ pub fn told() -> Vec<Script> {
     let round = "b1c3 g8f6 c3b1 f6g8 ";
     let initial = [
         ("", Some(false)), (round, Some(false)), (&round.repeat(2), Some(true)), (&round.repeat(3), Some(true)),
+        (&(round.repeat(4) + "b1c3"), Some(true)),
         (&(round.repeat(2) + "e2e4"), Some(false)), (&(round.to_string() + "e2e4 e7e5 " + round), Some(false)),
         (&(round.repeat(2) + "d ow a rb b1c3 d"), Some(false)), ("d b1c3 d", None),
         ("ow a", None), ("ob a", None), ("ow e2e4 a", None), ("ob e2e4 a", None), ("ow e2e4 e7e5 a", None),
@@ -189,7 +190,8 @@ pub fn told() -> Vec<Script> {
     let castles = "e1g1 e8c8 f1e1 d8e8 e1f1 e8d8 f1e1 d8e8 e1f1 e8d8 d";
     let rights = "a1b1 a8b8 b1a1 b8a8 a1b1 a8b8 b1a1 b8a8 a1b1 a8b8 b1a1 b8a8";
     let ended = [(ENDINGS[4], "h8g8 a d ow rb"), (ENDINGS[5], "d rb")];
-    let others = [(ENDINGS[6], ep), (STARTS[5], castles), (STARTS[5], rights), ended[0], ended[1]];
+    let bare_kings = ("8/8/4k3/8/8/4K3/8/8 w - - 0 1", "e3d3 e6d6 d3e3");
+    let others = [(ENDINGS[6], ep), (STARTS[5], castles), (STARTS[5], rights), ended[0], ended[1], bare_kings];
     let from = |start: &str, text: &str, claim| Script { start: start.to_string(), acts: acts_of(text), claim };
     let first = initial.iter().map(|(text, claim)| from(STARTS[0], text, *claim));
     first.chain(others.iter().map(|(start, text)| from(start, text, None))).collect()

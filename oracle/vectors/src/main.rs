@@ -10,7 +10,7 @@ use chess::{Board, Game};
 use compare::part::Part;
 use compare::san::{random_place, Input as SanInput, Place, SanAny, SanLegal};
 use compare::script::{self, Act, Script};
-use compare::{fen, moves, names, rules};
+use compare::{fen, moves, names, records, rules};
 use std::collections::HashSet;
 use std::fmt::Write as _;
 use std::rc::Rc;
@@ -62,19 +62,46 @@ fn different(count: usize, mut next: impl FnMut() -> Option<String>) -> Vec<Stri
     all
 }
 
+/// The smallest inputs of docs/DIFFERENCES.md that a text can show. Those of the log are among the games that are told.
+const FENS: [&str; 10] = [
+    " w - e4", " w - -", " w - - 7 9", "PPPPPPPPN w - -", "P w - -", " W - -", " w kxK -", "8/8/8/8/8/8/8/8 b - z9",
+    " w - a1xx", "8/8/8/8/8/8/8/8  w - -",
+];
+const COORDINATES: [&str; 2] = ["e2e4p", "e2e4k"];
+/// Men, a list, and texts on them.
+const SANS: [(&[(usize, u8)], &[u16], &[&str]); 7] = [
+    (&[(52, 1)], &[24_372], &["e8=Q", "e8Q"]),
+    (&[(36, 1)], &[2_788], &["exd6", "d6", "exd6 e.p."]),
+    (&[(4, 4)], &[388], &["O-O", "O-O+"]),
+    (&[(4, 6)], &[388], &["Kg1"]),
+    (&[(1, 2)], &[1_153], &["Nc3+?!", "Nb1c3", "Nc3x"]),
+    (&[(1, 2), (18, 7)], &[1_153], &["Nc3x", "Nc3"]),
+    (&[(1, 2)], &[21_633], &["Nc3Q", "Nc3"]),
+];
+
 /// The crate's text of a record, by the rule of the en passant rank.
 fn key_of(record: &both::abi::Record) -> String {
     rules::en_passant_rank(&builder_of(record).to_string()).0
 }
 
+fn fen_text(out: &mut Vectors, text: &str) -> Result<(), String> {
+    let owed = fen::owed_read(text)?;
+    let key = if owed.number == 0 { format!(" {}", key_of(&owed.board)) } else { String::new() };
+    out.told(&format!("F {}", text), &format!("{}{}", owed.number, key));
+    Ok(())
+}
+
 fn fen_texts(out: &mut Vectors) -> Result<(), String> {
     out.heading(&format!("{} FEN texts: the number, and the key of the board", TEXTS));
     let (mut part, mut random) = (fen::FenRead::default(), Random::new(1, "vectors: FEN"));
-    for text in different(TEXTS, || part.random(&mut random)) {
-        let owed = fen::owed_read(&text)?;
-        let key = if owed.number == 0 { format!(" {}", key_of(&owed.board)) } else { String::new() };
-        out.told(&format!("F {}", text), &format!("{}{}", owed.number, key));
-    }
+    let texts = different(TEXTS, || part.random(&mut random));
+    texts.iter().try_for_each(|text| fen_text(out, text))
+}
+
+fn coordinate_text(out: &mut Vectors, text: &str) -> Result<(), String> {
+    let owed = moves::owed_read(text)?;
+    let again = if owed.number == 0 { format!(" {}", move_of(owed.value as u16)) } else { String::new() };
+    out.told(&format!("C {}", text), &format!("{} {}{}", owed.number, owed.value, again));
     Ok(())
 }
 
@@ -85,12 +112,8 @@ fn coordinate_texts(out: &mut Vectors) -> Result<(), String> {
         Some(moves::Input::Read(text)) => Some(text),
         _ => None,
     };
-    for text in different(TEXTS, &mut read) {
-        let owed = moves::owed_read(&text)?;
-        let again = if owed.number == 0 { format!(" {}", move_of(owed.value as u16)) } else { String::new() };
-        out.told(&format!("C {}", text), &format!("{} {}{}", owed.number, owed.value, again));
-    }
-    Ok(())
+    let texts = different(TEXTS, &mut read);
+    texts.iter().try_for_each(|text| coordinate_text(out, text))
 }
 
 fn list_text(list: &[u16]) -> String {
@@ -108,15 +131,32 @@ fn give(out: &mut Vectors, last: &mut Option<Rc<Place>>, place: &Rc<Place>) {
     }
 }
 
+fn san_text(out: &mut Vectors, place: &Place, text: &str) -> Result<(), String> {
+    let owed = place.crate_reads(text)?.map_or("4 0".to_string(), |number| format!("0 {}", number));
+    out.told(&format!("S {}", text), &owed);
+    Ok(())
+}
+
 fn san_texts(out: &mut Vectors, what: &str, mut next: impl FnMut() -> Option<SanInput>) -> Result<(), String> {
     out.heading(&format!("{} SAN texts on {}: number and value", TEXTS, what));
     let (mut last, mut left) = (None, TEXTS);
     while left > 0 {
         let Some((place, text)) = next().filter(|(_, text)| fits(text)) else { continue };
         give(out, &mut last, &place);
-        let owed = place.crate_reads(&text)?.map_or("4 0".to_string(), |number| format!("0 {}", number));
-        out.told(&format!("S {}", text), &owed);
+        san_text(out, &place, &text)?;
         left -= 1;
+    }
+    Ok(())
+}
+
+fn differences(out: &mut Vectors) -> Result<(), String> {
+    out.heading("the smallest inputs of docs/DIFFERENCES.md; the en passant rank by its rule");
+    FENS.iter().try_for_each(|text| fen_text(out, text))?;
+    COORDINATES.iter().try_for_each(|text| coordinate_text(out, text))?;
+    for (men, list, texts) in SANS {
+        let place = Place::any(records::with(men), list.to_vec());
+        give(out, &mut None, &place);
+        texts.iter().try_for_each(|text| san_text(out, &place, text))?;
     }
     Ok(())
 }
@@ -212,6 +252,7 @@ fn make() -> Result<Vectors, String> {
     let mut random = Random::new(1, "vectors: SAN");
     // remake-vectors finds the chapter by this line.
     out.heading("Vectors: a sample of what the crate chess 3.2.0 answers");
+    differences(&mut out)?;
     fen_texts(&mut out)?;
     coordinate_texts(&mut out)?;
     san_texts(&mut out, "legal lists", || legal.random(&mut random))?;
