@@ -59,8 +59,9 @@ fn time<I, T>(inputs: &[I], mut work: impl FnMut(&I) -> T) -> f64 {
     best / inputs.len() as f64
 }
 
-fn row(what: &str, inputs: usize, theirs: f64, ours: f64) {
-    println!("{:<48} {:>8} {:>12.1} {:>12.1} {:>9.2}", what, inputs, theirs, ours, theirs / ours);
+/// One row; `asked` is how many times the crate's speed is asked for.
+fn row(what: &str, inputs: usize, theirs: f64, ours: f64, asked: &str) {
+    println!("{:<48} {:>8} {:>12.1} {:>12.1} {:>9.2} {:>6}", what, inputs, theirs, ours, theirs / ours, asked);
 }
 
 fn fen(places: &[Place]) {
@@ -69,11 +70,11 @@ fn fen(places: &[Place]) {
     }
     let theirs = time(places, |p| BoardBuilder::from_str(&p.fen));
     let ours = time(places, |p| abi::fen_read(p.fen.as_bytes()));
-    row("FEN read", places.len(), theirs, ours);
+    row("FEN read", places.len(), theirs, ours, "3");
     let mut room = [0; 85];
     let theirs = time(places, |p| p.builder.to_string());
     let ours = time(places, |p| abi::fen_write(p.record, &mut room));
-    row("FEN write", places.len(), theirs, ours);
+    row("FEN write", places.len(), theirs, ours, "15");
 }
 
 fn coordinates(places: &[Place]) {
@@ -85,11 +86,11 @@ fn coordinates(places: &[Place]) {
     }
     let theirs = time(&texts, |t| ChessMove::from_str(t));
     let ours = time(&texts, |t| abi::move_read(t.as_bytes()));
-    row("coordinate read", texts.len(), theirs, ours);
+    row("coordinate read", texts.len(), theirs, ours, "2");
     let mut room = [0; 5];
     let theirs = time(&moves, |m| m.to_string());
     let ours = time(&numbers, |n| abi::move_write(*n as u64, &mut room));
-    row("coordinate write", moves.len(), theirs, ours);
+    row("coordinate write", moves.len(), theirs, ours, "2");
 }
 
 /// Every move of every position, by its place in the list.
@@ -102,12 +103,12 @@ fn san(places: &[Place]) {
     let theirs = time(&all, |(p, i)| sanlist::read(&p.at_hand, &p.names[*i]));
     let making = time(&all, |(p, i)| ChessMove::from_san(&p.board, &p.names[*i]));
     let ours = time(&all, |(p, i)| abi::san_read(p.record, &p.list, p.names[*i].as_bytes()));
-    row("SAN read over legal lists, all at hand", all.len(), theirs, ours);
-    row("SAN read over legal lists, the crate makes its", all.len(), making, ours);
+    row("SAN read over legal lists, all at hand", all.len(), theirs, ours, "3");
+    row("SAN read over legal lists, the crate makes its", all.len(), making, ours, "");
     let mut room = [0; 11];
     let naming = time(&all, |(p, i)| abi::san_name(p.record, &p.list, p.list[*i] as u64, &mut room));
-    row("naming (ours), against a SAN read (crate)", all.len(), theirs, naming);
-    row("naming (ours), against a SAN read (ours)", all.len(), ours, naming);
+    row("naming (ours), against a SAN read (crate)", all.len(), theirs, naming, "");
+    row("naming (ours), against a SAN read (ours)", all.len(), ours, naming, "");
 }
 
 /// A game of 300 moves, mostly reversible ones, so that runs are long.
@@ -164,21 +165,21 @@ fn games(random: &mut Random) {
         ours += o;
     }
     let asked = 2 * GAMES * GAME_LENGTH;
-    row("result and claim after each of 300 moves", asked, theirs / asked as f64, ours / asked as f64);
+    row("result and claim after each of 300 moves", asked, theirs / asked as f64, ours / asked as f64, "10");
 }
 
 fn main() {
     let mut random = Random::new(1, "bench");
     let places: Vec<Place> = different_positions(POSITIONS, &mut random).iter().map(place_of).collect();
     println!("{} different positions of games; nanoseconds an input, best of {} rounds", places.len(), ROUNDS);
-    println!("{:<48} {:>8} {:>12} {:>12} {:>9}", "what", "inputs", "crate", "ours", "ratio");
+    println!("{:<48} {:>8} {:>12} {:>12} {:>9} {:>6}", "what", "inputs", "crate", "ours", "ratio", "asked");
     fen(&places);
     coordinates(&places);
     san(&places);
     games(&mut random);
     let texts: Vec<&str> = places.iter().map(|p| p.fen.as_str()).collect();
     match keys::times(&texts) {
-        Ok((lines, theirs, ours)) => row("keys, a line of a file", lines, theirs, ours),
+        Ok((lines, theirs, ours)) => row("keys, a line of a file", lines, theirs, ours, "3"),
         Err(why) => {
             eprintln!("bench: keys: {}", why);
             std::process::exit(1);
