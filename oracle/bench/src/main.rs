@@ -13,11 +13,12 @@ use both::random::Random;
 use chess::{Board, BoardBuilder, ChessMove, Game, Piece};
 use std::hint::black_box;
 use std::str::FromStr;
-use std::time::Instant;
+use std::time::{Duration, Instant};
 
 const POSITIONS: usize = 2_048;
-/// The best of so many rounds over all inputs counts.
+/// The best of at least so many rounds over all inputs counts, and of as many as fit into this time.
 const ROUNDS: usize = 15;
+const LEAST: Duration = Duration::from_secs(1);
 const GAMES: usize = 12;
 const GAME_LENGTH: usize = 300;
 
@@ -46,17 +47,24 @@ fn place_of(board: &Board) -> Place {
     Place { builder, fen: board.to_string(), record, list, names, board: *board, at_hand }
 }
 
-/// Nanoseconds for one input, the best of the rounds. What `work` gives is kept from being optimised away.
-fn time<I, T>(inputs: &[I], mut work: impl FnMut(&I) -> T) -> f64 {
-    let mut best = f64::MAX;
-    for _ in 0..ROUNDS {
-        let start = Instant::now();
-        for input in inputs {
-            black_box(work(black_box(input)));
-        }
-        best = best.min(start.elapsed().as_nanos() as f64);
+/// Nanoseconds of one round over all inputs. What `work` gives is kept from being optimised away.
+fn round<I, T>(inputs: &[I], work: &mut impl FnMut(&I) -> T) -> f64 {
+    let start = Instant::now();
+    for input in inputs {
+        black_box(work(black_box(input)));
     }
-    best / inputs.len() as f64
+    start.elapsed().as_nanos() as f64
+}
+
+/// Nanoseconds for one input by the crate and by us, the best of the rounds. They take turns, so that a machine whose clock
+/// wanders is the same for both.
+fn times<I, T, O>(inputs: &[I], mut theirs: impl FnMut(&I) -> T, mut ours: impl FnMut(&I) -> O) -> (f64, f64) {
+    let (start, mut rounds, mut best) = (Instant::now(), 0, (f64::MAX, f64::MAX));
+    while rounds < ROUNDS || start.elapsed() < LEAST {
+        best = (best.0.min(round(inputs, &mut theirs)), best.1.min(round(inputs, &mut ours)));
+        rounds += 1;
+    }
+    (best.0 / inputs.len() as f64, best.1 / inputs.len() as f64)
 }
 
 /// One row; `asked` is how many times the crate's speed is asked for.
@@ -68,12 +76,10 @@ fn fen(places: &[Place]) {
     for place in places {
         assert_eq!(abi::fen_read(place.fen.as_bytes()).board, record_of(&BoardBuilder::from_str(&place.fen).unwrap()));
     }
-    let theirs = time(places, |p| BoardBuilder::from_str(&p.fen));
-    let ours = time(places, |p| abi::fen_read(p.fen.as_bytes()));
+    let (theirs, ours) = times(places, |p| BoardBuilder::from_str(&p.fen), |p| abi::fen_read(p.fen.as_bytes()));
     row("FEN read", places.len(), theirs, ours, "3");
     let mut room = [0; 85];
-    let theirs = time(places, |p| p.builder.to_string());
-    let ours = time(places, |p| abi::fen_write(p.record, &mut room));
+    let (theirs, ours) = times(places, |p| p.builder.to_string(), |p| abi::fen_write(p.record, &mut room));
     row("FEN write", places.len(), theirs, ours, "15");
 }
 
@@ -84,13 +90,12 @@ fn coordinates(places: &[Place]) {
     for (text, number) in texts.iter().zip(&numbers) {
         assert_eq!(abi::move_read(text.as_bytes()), Answer { number: 0, value: *number as u64 });
     }
-    let theirs = time(&texts, |t| ChessMove::from_str(t));
-    let ours = time(&texts, |t| abi::move_read(t.as_bytes()));
+    let (theirs, ours) = times(&texts, |t| ChessMove::from_str(t), |t| abi::move_read(t.as_bytes()));
     row("coordinate read", texts.len(), theirs, ours, "2");
     let mut room = [0; 5];
-    let theirs = time(&moves, |m| m.to_string());
-    let ours = time(&numbers, |n| abi::move_write(*n as u64, &mut room));
-    row("coordinate write", moves.len(), theirs, ours, "2");
+    let pairs: Vec<(ChessMove, u16)> = moves.into_iter().zip(numbers).collect();
+    let (theirs, ours) = times(&pairs, |(m, _)| m.to_string(), |(_, n)| abi::move_write(*n as u64, &mut room));
+    row("coordinate write", pairs.len(), theirs, ours, "2");
 }
 
 /// Every move of every position, by its place in the list.
@@ -100,15 +105,14 @@ fn san(places: &[Place]) {
         assert_eq!(sanlist::read(&p.at_hand, &p.names[*i]).ok(), Some(p.list[*i]), "{}", p.names[*i]);
         assert_eq!(ChessMove::from_san(&p.board, &p.names[*i]).map(number_of).ok(), Some(p.list[*i]), "{}", p.names[*i]);
     }
-    let theirs = time(&all, |(p, i)| sanlist::read(&p.at_hand, &p.names[*i]));
-    let making = time(&all, |(p, i)| ChessMove::from_san(&p.board, &p.names[*i]));
-    let ours = time(&all, |(p, i)| abi::san_read(p.record, &p.list, p.names[*i].as_bytes()));
+    let read = |(p, i): &(&Place, usize)| abi::san_read(p.record, &p.list, p.names[*i].as_bytes());
+    let (theirs, ours) = times(&all, |(p, i)| sanlist::read(&p.at_hand, &p.names[*i]), read);
+    let (making, again) = times(&all, |(p, i)| ChessMove::from_san(&p.board, &p.names[*i]), read);
     row("SAN read over legal lists, all at hand", all.len(), theirs, ours, "3");
-    row("SAN read over legal lists, the crate makes its", all.len(), making, ours, "");
+    row("SAN read over legal lists, the crate makes its", all.len(), making, again, "");
     let mut room = [0; 11];
-    let naming = time(&all, |(p, i)| abi::san_name(p.record, &p.list, p.list[*i] as u64, &mut room));
-    row("naming (ours), against a SAN read (crate)", all.len(), theirs, naming, "");
-    row("naming (ours), against a SAN read (ours)", all.len(), ours, naming, "");
+    let (reading, naming) = times(&all, read, |(p, i)| abi::san_name(p.record, &p.list, p.list[*i] as u64, &mut room));
+    row("naming (ours), against a SAN read (ours)", all.len(), reading, naming, "");
 }
 
 /// A game of 300 moves, mostly reversible ones, so that runs are long.
@@ -171,7 +175,7 @@ fn games(random: &mut Random) {
 fn main() {
     let mut random = Random::new(1, "bench");
     let places: Vec<Place> = different_positions(POSITIONS, &mut random).iter().map(place_of).collect();
-    println!("{} different positions of games; nanoseconds an input, best of {} rounds", places.len(), ROUNDS);
+    println!("{} different positions of games; nanoseconds an input, best of {} rounds or more", places.len(), ROUNDS);
     println!("{:<48} {:>8} {:>12} {:>12} {:>9} {:>6}", "what", "inputs", "crate", "ours", "ratio", "asked");
     fen(&places);
     coordinates(&places);
