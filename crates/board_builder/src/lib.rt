@@ -98,7 +98,7 @@ pub fn numbers_in_range(numbers: &[u8]) -> bool
     if 8 < numbers[EN_PASSANT_AT] {
         return false;
     }
-    square::largest(&numbers[..SQUARES]) <= 12
+    square::all_at_most(&numbers[..SQUARES], 12)
 }
 
 impl BoardBuilder {

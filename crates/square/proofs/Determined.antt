@@ -27,5 +27,6 @@ square-determined = record {
   letter-of-piece = λ piece. determined;
   kind-of = λ code. determined;
   byte-at = λ s i. determined;
-  largest-is = λ s. determined;
+  either-is = λ a b. determined;
+  all-at-most = λ s most. determined;
 }

@@ -1,4 +1,5 @@
 pub mod Below
+pub mod Bounds
 pub mod Determined
 pub mod Entries
 pub mod Maxima

@@ -1,10 +1,11 @@
 // Answers, squares, colours and pieces as document 01 numbers them, after square.rs, rank.rs, file.rs, color.rs and piece.rs. And texts, written and
 // compared, for the crates above.
 ghost use mathlib.Core.Path.{_≡_};
-ghost use Prim.Native.Nat.{max};
+ghost use mathlib.Core.Bool.{_||_};
+ghost use Prim.Native.Nat.{_-_};
 ghost use lib.ListN.{length};
 ghost use Rattle.square.specs.Answer.{accepted, refused, writeAnswer, writeBytes};
-ghost use Rattle.square.specs.Numbers.{numberAt, largest, same};
+ghost use Rattle.square.specs.Numbers.{allAtMost, numberAt, same};
 ghost use Rattle.square.specs.Square.{makeSquare, rankOf, fileOf, backRank, squareNamed, readSquare, squareText, squareCheck};
 ghost use Rattle.square.specs.Piece.{pieceOf, letterOf, kindOf};
 
@@ -236,21 +237,28 @@ pub fn byte_at(s: &[u8], i: usize) -> u8
     if i < s.len() { s[i] } else { 0 }
 }
 
-fn larger(a: u8, b: u8) -> u8
-    ensures { λ r. ⌜ r ≡ max a b ⌝ }
+// Both are known when it is called: no branch, where `||` has one.
+pub fn either(a: bool, b: bool) -> bool
+    ensures { λ r. ⌜ r ≡ a || b ⌝ }
 {
-    if a < b { b } else { a }
+    if a { true } else { b }
 }
 
-// The largest byte, 0 of none: with no branch, so that it is taken many at a time.
-pub fn largest(s: &[u8]) -> u8
-    ensures { λ r. ⌜ r ≡ largest (now (s .entry)) ⌝ }
+fn over(x: u8, most: u8) -> u8
+    ensures { λ r. ⌜ r ≡ x - most ⌝ }
 {
-    let mut most: u8 = 0;
+    if most < x { x - most } else { 0 }
+}
+
+// Whether no byte is over a bound: what is over is gathered with no branch, so that the bytes are taken many at a time.
+pub fn all_at_most(s: &[u8], most: u8) -> bool
+    ensures { λ r. ⌜ r ≡ allAtMost most (now (s .entry)) ⌝ }
+{
+    let mut above: u8 = 0;
     let mut i: usize = 0;
     while i < s.len() {
-        most = larger(most, s[i]);
+        above = above | over(s[i], most);
         i += 1;
     }
-    most
+    above == 0
 }

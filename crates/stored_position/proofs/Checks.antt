@@ -60,6 +60,14 @@ module _ (p : Position) where
   unfolding positionCheck
   no-fault e h f = rw (e, le-leb (p .check) 1 h, f)
 
+-- with the rest in range, a position is in range exactly if its list is
+pub by-list : (p : Position) → numbersInRange (p .board) ≡ true → p .check ≤ 1 → eqb (positionCheck p) 0 ≡ listInRange (p .moves)
+by-list p e h = go (listInRange (p .moves)) refl
+  where
+    go : (t : Bool) → listInRange (p .moves) ≡ t → eqb (positionCheck p) 0 ≡ t
+    go true f = eq-eqb _ _ (no-fault p e h f)
+    go false f = ap (λ (n : ℕ). eqb n 0) (bad-list p e h f)
+
 -- what a position that passes its check is
 pub record Fits (p : Position) : Type 0 where
   pub wide : length (p .board) ≡ recordSize

@@ -1,53 +1,31 @@
--- Bytes known as those of a position: the largest move of the list, move by move, and what is left to look at once the checks pass.
+-- Bytes known as those of a position: what is left to look at once the checks pass.
 -- Assumes nothing.
 use mathlib.Core.Path.{_≡_, refl, ap, ap₂, sym, _∙_}
-use mathlib.Core.Bool.{Bool, true, false, _&&_}
+use mathlib.Core.Bool.{Bool, true, false, _&&_, and-true, and-false}
 use mathlib.Core.List.{List, [], _∷_, _++_}
-use Prim.Native.Nat.{ℕ, zero, suc, _+_, _*_, _-_, _<_, _≤_, max}
+use Prim.Native.Nat.{ℕ, zero, suc, _+_, _*_, _-_, _≤_}
 use native.Mathlib.Omega.{arith}
 use lib.Dec.{eqb, leb, eqb·suc-zero, leb·suc-zero}
 use lib.ListN.{length, take, drop, getD, replicate, length-drop, take-append-drop}
-use lib.Seq.{drop-cons, drop-drop, take-all}
+use lib.Seq.{drop-cons, drop-drop}
 use borrow.Author.Tests.{eq-eqb, eqb-true, le-leb}
-use Rattle.square.specs.Numbers.{allAtMost, largest, same}
-use Rattle.square.proofs.Maxima.{largest-at-most, max-none}
+use Rattle.square.specs.Numbers.{allAtMost, same}
 use Rattle.square.proofs.Same.{same-lengths}
-use Rattle.board_builder.specs.BoardBuilder.{recordSize}
-use Rattle.chess_move.specs.Number.{lastMove, ofBytes}
+use Rattle.board_builder.specs.BoardBuilder.{recordSize, numbersInRange}
+use Rattle.chess_move.specs.Number.{lastMove}
 use Rattle.move_list.specs.MoveList.{longestList, listInRange}
 use Rattle.position.specs.Layout.{checkAt, lengthAt, movesAt, positionSize, movesFrom, positionOf}
 use Rattle.position.proofs.Moves.{AllBytes, length-moves, take-two}
 use Rattle.stored_position.specs.Bytes.{moveBytes, positionBytes, positionCheck, isPosition}
 use Rattle.stored_position.proofs.Bytes.{length-position}
-use Rattle.stored_position.proofs.Checks.{position-fits}
+use Rattle.stored_position.proofs.Checks.{position-fits, by-list}
 
--- the start of the loop over the list, a turn, and its end
-pub largest-start : (s : List ℕ) (k : ℕ) → max 0 (largest (movesFrom s movesAt (k - 0))) ≡ largest (movesFrom s movesAt k)
-largest-start s k =
-    let e : k - 0 ≡ k = omega arith in
-    rw e (max-none (largest (movesFrom s movesAt k)))
-
-pub largest-next : (s : List ℕ) (k m i : ℕ) → i < k
-    → max m (largest (movesFrom s (movesAt + 2 * i) (k - i)))
-    ≡ max (max m (ofBytes (getD s (movesAt + 2 * i) 0) (getD s (movesAt + 2 * i + 1) 0))) (largest (movesFrom s (movesAt + 2 * (i + 1)) (k - (i + 1))))
-unfolding movesFrom largest
-largest-next s k m i h =
-    let e : k - i ≡ suc (k - (i + 1)) = omega arith in
-    let f : movesAt + 2 * (i + 1) ≡ movesAt + 2 * i + 2 = omega arith in
-    rw (e, f) (omega arith)
-
-pub largest-done : (s : List ℕ) (at k m i : ℕ) → k ≤ i → max m (largest (movesFrom s at (k - i))) ≡ m
-unfolding movesFrom largest
-largest-done s at k m i h =
-    let e : k - i ≡ 0 = omega arith in
-    rw e (omega arith)
-
--- a list that is read from bytes is short enough: its range is that of its largest move
-pub read-list : (s : List ℕ) → AllBytes s → listInRange (positionOf s .moves) ≡ leb (largest (positionOf s .moves)) lastMove
+-- a list that is read from bytes is short enough: its range is that of its moves
+pub read-list : (s : List ℕ) → AllBytes s → listInRange (positionOf s .moves) ≡ allAtMost lastMove (movesFrom s movesAt (getD s lengthAt 0))
 unfolding listInRange positionOf
 read-list s b =
     let n = getD s lengthAt 0 in
-    rw (length-moves s movesAt n, le-leb n longestList (omega (arith, b lengthAt))) (sym (largest-at-most lastMove (movesFrom s movesAt n)))
+    rw (length-moves s movesAt n, le-leb n longestList (omega (arith, b lengthAt)))
 
 same-front : (a x y : List ℕ) → same (a ++ x) (a ++ y) ≡ same x y
 unfolding same
@@ -102,19 +80,24 @@ module _ (s : List ℕ) (b : AllBytes s) (whole : length s ≡ positionSize) whe
   unfolding same
   same-past = rw (eq-eqb (getD s checkAt 0) (getD s checkAt 0) refl, eq-eqb k k refl, same-front list past _) (same-zeros past)
 
-  -- the part that a slice from there on is
-  pub past-part : take (length s - (movesAt + 2 * getD s lengthAt 0)) past ≡ past
-  past-part = take-all (length s - (movesAt + 2 * k)) past (rw (length-drop (movesAt + 2 * k) s) (omega arith))
-
-  pub known : positionCheck (positionOf s) ≡ 0 → isPosition s ≡ eqb (largest past) 0
+  pub known : isPosition s ≡ eqb (positionCheck (positionOf s)) 0 && allAtMost 0 past
   unfolding isPosition
-  known e =
-      rw e
-      (ap₂ same in-pieces written-back
-      ∙ same-front (take recordSize s) _ _
-      ∙ same-past
-      ∙ sym (largest-at-most 0 past)
-      ∙ is-zero (largest past))
+  known =
+      ap (λ (t : Bool). eqb (positionCheck (positionOf s)) 0 && t)
+      (ap₂ same in-pieces written-back ∙ same-front (take recordSize s) _ _ ∙ same-past)
+
+  pub not-unused : allAtMost 0 past ≡ false → isPosition s ≡ false
+  not-unused e = known ∙ ap (λ (t : Bool). eqb (positionCheck (positionOf s)) 0 && t) e ∙ and-false (eqb (positionCheck (positionOf s)) 0)
+
+  pub unused : allAtMost 0 past ≡ true → numbersInRange (take recordSize s) ≡ true → getD s checkAt 0 ≤ 1
+      → isPosition s ≡ allAtMost lastMove (movesFrom s movesAt (getD s lengthAt 0))
+  unfolding positionOf
+  unused e board check =
+      known
+      ∙ ap (λ (t : Bool). eqb (positionCheck (positionOf s)) 0 && t) e
+      ∙ and-true (eqb (positionCheck (positionOf s)) 0)
+      ∙ by-list (positionOf s) board check
+      ∙ read-list s b
 
 -- the refusals: a position out of range, and another size
 pub not-in-range : (s : List ℕ) (n : ℕ) → positionCheck (positionOf s) ≡ suc n → isPosition s ≡ false

@@ -1,7 +1,8 @@
 pub mod Bytes
 pub mod Checks
 pub mod Writes
+pub mod Listing
+pub mod Blocks
 pub mod Known
 pub mod Determined
 pub mod ReadBack
-pub mod Listing

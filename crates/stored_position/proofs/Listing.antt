@@ -19,7 +19,7 @@ movesLeft s k i = movesFrom s (movesAt + 2 * i) (k - i)
 abbrev pub moveHere : List ℕ → ℕ → ℕ
 moveHere s i = ofBytes (getD s (movesAt + 2 * i) 0) (getD s (movesAt + 2 * i + 1) 0)
 
-one-less : (s : List ℕ) (k i : ℕ) → i < k → movesLeft s k i ≡ moveHere s i ∷ movesLeft s k (i + 1)
+pub one-less : (s : List ℕ) (k i : ℕ) → i < k → movesLeft s k i ≡ moveHere s i ∷ movesLeft s k (i + 1)
 unfolding movesFrom
 one-less s k i h =
     let e : k - i ≡ suc (k - (i + 1)) = omega arith in

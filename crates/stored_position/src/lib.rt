@@ -13,16 +13,24 @@ use square::BAD_LIST;
 use square::OUT_OF_RANGE;
 use square::OUTPUT_TOO_SHORT;
 ghost use mathlib.Core.Path.{_≡_};
-ghost use Prim.Native.Nat.{_+_, _*_, _-_, _≤_, max};
-ghost use lib.ListN.{length, replicate};
+ghost use mathlib.Core.Bool.{true};
+ghost use Prim.Native.Nat.{_+_, _*_, _-_, _≤_};
+ghost use lib.ListN.{length, drop, replicate};
 ghost use Rattle.square.specs.Answer.{writeAnswer, writeBytes};
-ghost use Rattle.square.specs.Numbers.{largest};
+ghost use Rattle.square.specs.Numbers.{allAtMost};
 ghost use Rattle.square.specs.Parts.{written};
 ghost use Rattle.board_builder.specs.BoardBuilder.{recordSize, numbers};
 ghost use Rattle.move_list.specs.MoveList.{longestList};
-ghost use Rattle.chess_move.specs.Number.{ofBytes};
-ghost use Rattle.position.specs.Layout.{positionSize, positionOf};
+ghost use Rattle.chess_move.specs.Number.{lastMove, ofBytes};
+ghost use Rattle.position.specs.Layout.{movesAt, positionSize, movesFrom};
 ghost use Rattle.stored_position.specs.Bytes.{moveBytes, positionBytes, positionCheck, positionGiven, isPosition, listsMove};
+
+// Entries that are looked at together, whether used or not, where the list is shorter, as nearly every list is: a length that is known to the compiler
+// makes straight code of the loop, and no branch hangs on the list's length.
+pub const BLOCK: usize = 64;
+
+// From here on no byte is used by a list that is shorter than a block.
+const BEHIND_BLOCK: usize = MOVES_AT + 2 * (BLOCK - 1);
 
 // What is wrong with a position: 5 for the board or the in-check byte, 6 for the list, or 0.
 pub fn check(b: BoardBuilder, in_check: u8, list: &[u16]) -> u64
@@ -123,26 +131,51 @@ pub fn to_bytes(b: BoardBuilder, in_check: u8, list: &[u16], out: &mut [u8]) -> 
     square::accepted(POSITION_SIZE as u64)
 }
 
-fn larger(a: u16, b: u16) -> u16
-    ensures { λ r. ⌜ r ≡ max a b ⌝ }
+fn over(x: u16, most: u16) -> u16
+    ensures { λ r. ⌜ r ≡ x - most ⌝ }
 {
-    if a < b { b } else { a }
+    if most < x { x - most } else { 0 }
 }
 
-// The largest move of the list, 0 of none: with no branch, so that the moves are taken many at a time.
-fn largest_move(s: &[u8]) -> u16
-    requires { ⌜ length (now s) ≡ positionSize ⌝ }
-    ensures { λ r. ⌜ r ≡ largest (positionOf (now (s .entry)) .moves) ⌝ }
+// Whether so many entries, the first ones, are moves: with no branch, so that they are taken many at a time.
+fn moves_in_range(s: &[u8], entries: usize) -> bool
+    requires { ⌜ (length (now s) ≡ positionSize) × (entries ≤ longestList) ⌝ }
+    ensures { λ r. ⌜ r ≡ allAtMost lastMove (movesFrom (now (s .entry)) movesAt entries) ⌝ }
 {
-    let entries = s[LENGTH_AT] as usize;
-    let mut most: u16 = 0;
+    let mut above: u16 = 0;
     let mut i: usize = 0;
     while i < entries {
         let at = MOVES_AT + 2 * i;
-        most = larger(most, s[at] as u16 + 256 * (s[at + 1] as u16));
+        above = above | over(s[at] as u16 + 256 * (s[at + 1] as u16), LAST_MOVE as u16);
         i += 1;
     }
-    most
+    above == 0
+}
+
+// Whether the list is of moves. Past it there are zeros, so that a whole block may be looked at.
+fn list_in_range(s: &[u8], entries: usize) -> bool
+    requires { ⌜ (length (now s) ≡ positionSize) × (entries ≤ longestList) × (allAtMost 0 (drop (movesAt + 2 * entries) (now s)) ≡ true) ⌝ }
+    ensures { λ r. ⌜ r ≡ allAtMost lastMove (movesFrom (now (s .entry)) movesAt entries) ⌝ }
+{
+    if BLOCK <= entries {
+        return moves_in_range(s, entries);
+    }
+    moves_in_range(s, BLOCK)
+}
+
+// Whether all bytes past the list are 0. Past a list that ends in the first block they are looked at in two parts that overlap, each of one length.
+fn is_unused(s: &[u8], entries: usize) -> bool
+    requires { ⌜ (length (now s) ≡ positionSize) × (entries ≤ longestList) ⌝ }
+    ensures { λ r. ⌜ r ≡ allAtMost 0 (drop (movesAt + 2 * entries) (now (s .entry))) ⌝ }
+{
+    let end = MOVES_AT + 2 * entries;
+    if BLOCK <= entries {
+        return square::all_at_most(&s[end..], 0);
+    }
+    if !square::all_at_most(&s[end..end + 2 * BLOCK], 0) {
+        return false;
+    }
+    square::all_at_most(&s[BEHIND_BLOCK..], 0)
 }
 
 // Whether bytes are exactly those of a position in range.
@@ -158,11 +191,11 @@ pub fn is_position(s: &[u8]) -> bool
     if 1 < s[CHECK_AT] {
         return false;
     }
-    if LAST_MOVE < largest_move(s) as u64 {
+    let entries = s[LENGTH_AT] as usize;
+    if !is_unused(s, entries) {
         return false;
     }
-    let end = MOVES_AT + 2 * (s[LENGTH_AT] as usize);
-    square::largest(&s[end..]) == 0
+    list_in_range(s, entries)
 }
 
 fn number_of(low: u8, high: u8) -> u64

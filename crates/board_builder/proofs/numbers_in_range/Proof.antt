@@ -12,7 +12,7 @@ use Rattle.board_builder.proofs.numbers_in_range.Statement.{statement}
 use Rattle.board_builder.proofs.numbers_in_range.Tie as tie
 use Rattle.board_builder.proofs.numbers_in_range.Reads as reads
 use Rattle.board_builder.proofs.numbers_in_range.Lts as lts
-use Rattle.square.proofs.largest.Reads as largest-reads
+use Rattle.square.proofs.all_at_most.Reads as all-at-most-reads
 
 -- src/lib.rt:87:9
 returns : tie.Need-returns
@@ -76,12 +76,12 @@ returns-5 c =
     simp (eq-eqb _ _ w, eq-eqb _ _ ws, le-leb _ _ (c .before .before .before .before .before .before .if2 .left), le-leb _ _ (c .before .before .before .before .if3 .left), le-leb _ _ (c .before .before .if4 .left), lt-leb _ _ (c .if5 .taken))
 
 -- src/lib.rt:101:21
-slice-aggregate-largest : tie.Need-slice-aggregate-largest
-slice-aggregate-largest c = simp length-take (omega arith)
+slice-aggregate-all-at-most : tie.Need-slice-aggregate-all-at-most
+slice-aggregate-all-at-most c = simp length-take (omega arith)
 
 -- src/lib.rt:101:5
-largest-requires : tie.Need-largest-requires
-largest-requires c κs = search needs
+all-at-most-requires : tie.Need-all-at-most-requires
+all-at-most-requires c κs = search needs
 
 -- src/lib.rt:83:1
 returns-6 : tie.Need-returns-6
@@ -91,7 +91,7 @@ returns-6 c =
     let n = a .numbers .now in
     let w : length n ≡ 68 = c .before .before .before .before .before .before .before .before .before .before .if1 .left in
     let ws : length (take 64 n) ≡ 64 = simp length-take (omega arith) in
-    ap (λ (m : ℕ). leb m 12) (c .largest .ensures) ∙ largest-at-most 12 (take 64 n) ∙ sym (simp (eq-eqb _ _ w, eq-eqb _ _ ws, le-leb _ _ (c .before .before .before .before .before .before .before .before .if2 .left), le-leb _ _ (c .before .before .before .before .before .before .if3 .left), le-leb _ _ (c .before .before .before .before .if4 .left), le-leb _ _ (c .before .before .if5 .left)))
+    c .all-at-most .ensures ∙ sym (simp (eq-eqb _ _ w, eq-eqb _ _ ws, le-leb _ _ (c .before .before .before .before .before .before .before .before .if2 .left), le-leb _ _ (c .before .before .before .before .before .before .if3 .left), le-leb _ _ (c .before .before .before .before .if4 .left), le-leb _ _ (c .before .before .if5 .left)))
 
 pub numbers-in-range-spec : {M : Type 1} → statement M
 numbers-in-range-spec =
@@ -106,6 +106,6 @@ numbers-in-range-spec =
     returns-4
     shared-slice-read-if5
     returns-5
-    slice-aggregate-largest
-    largest-requires
+    slice-aggregate-all-at-most
+    all-at-most-requires
     returns-6)

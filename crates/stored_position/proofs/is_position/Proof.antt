@@ -1,20 +1,14 @@
 use borrow.Author.Needs.{needs}
-use mathlib.Core.Path.{_≡_, ap, sym, _∙_}
+use mathlib.Core.Path.{_≡_, sym, _∙_}
 use mathlib.Core.Bool.{true, false}
 use native.Mathlib.Omega.{arith}
-use Prim.Native.Nat.{ℕ}
-use lib.Dec.{eqb, leb}
 use lib.ListN.{length, take, length-take}
-use borrow.Author.Tests.{not-true, not-false, le-leb, lt-leb}
-use Rattle.square.specs.Numbers.{largest}
+use borrow.Author.Tests.{not-true, not-false}
 use Rattle.board_builder.specs.BoardBuilder.{recordSize, numbersInRange}
-use Rattle.chess_move.specs.Number.{lastMove}
-use Rattle.move_list.specs.MoveList.{listInRange}
 use Rattle.position.specs.Layout.{lengthAt, positionSize, positionOf}
 use Rattle.position.proofs.Moves.{AllBytes}
-use Rattle.stored_position.specs.Bytes.{positionCheck}
-use Rattle.stored_position.proofs.Checks.{bad-board, bad-check, bad-list, no-fault}
-use Rattle.stored_position.proofs.Known.{other-size, not-in-range, read-list, known, past-part}
+use Rattle.stored_position.proofs.Checks.{bad-board, bad-check}
+use Rattle.stored_position.proofs.Known.{other-size, not-in-range, not-unused, unused}
 use Rattle.stored_position.proofs.is_position.Statement.{statement}
 use Rattle.stored_position.proofs.is_position.Tie as tie
 
@@ -29,7 +23,7 @@ numbers-in-range-requires c κs = search needs
 
 returns-2 : tie.Need-returns-2
 unfolding positionOf
-returns-2 c =
+returns-2 c = 
     let s = c .before .before .before .before .before .args .s .now in
     let e : numbersInRange (take recordSize s) ≡ false = sym (c .before .numbers-in-range .ensures) ∙ not-true _ (c .if2 .taken) in
     sym (not-in-range s 4 (bad-board (positionOf s) e))
@@ -39,60 +33,35 @@ shared-slice-read-if3 c = search needs
 
 returns-3 : tie.Need-returns-3
 unfolding positionOf
-returns-3 c =
+returns-3 c = 
     let s = c .before .before .before .before .before .before .before .args .s .now in
     let e : numbersInRange (take recordSize s) ≡ true = sym (c .before .before .before .numbers-in-range .ensures) ∙ not-false _ (c .before .before .if2 .left) in
     sym (not-in-range s 4 (bad-check (positionOf s) e (omega (arith, c .if3 .taken))))
 
-largest-move-requires : tie.Need-largest-move-requires
-largest-move-requires c κs = search needs
+shared-slice-read-entries : tie.Need-shared-slice-read-entries
+shared-slice-read-entries c = search needs
 
-cast-if4 : tie.Need-cast-if4
-cast-if4 c = search needs
+cast-entries : tie.Need-cast-entries
+cast-entries c = omega (arith, c .shared-slice-known3 .given lengthAt)
+
+is-unused-requires : tie.Need-is-unused-requires
+is-unused-requires c κs = (c .before .before .before .before .before .before .if1 .left, omega (arith, c .shared-slice-known3 .given lengthAt))
 
 returns-4 : tie.Need-returns-4
-unfolding positionOf
-returns-4 c =
-    let s = c .before .before .before .before .before .before .before .before .before .args .s .now in
-    let e : numbersInRange (take recordSize s) ≡ true = sym (c .before .before .before .before .before .numbers-in-range .ensures) ∙ not-false _ (c .before .before .before .before .if2 .left) in
-    let f : listInRange (positionOf s .moves) ≡ false =
-    read-list s (λ i. c .before .before .before .shared-slice-known2 .given i .fits) ∙ ap (λ (m : ℕ). leb m lastMove) (sym (c .before .largest-move .ensures)) ∙ lt-leb _ _ (c .if4 .taken) in
-    sym (not-in-range s 5 (bad-list (positionOf s) e (omega (arith, c .before .before .if3 .left)) f))
+returns-4 c = 
+    let s = c .before .before .before .before .before .before .before .before .before .before .args .s .now in
+    sym (not-unused s (λ i. c .before .before .before .before .shared-slice-known2 .given i .fits) (c .before .before .before .before .before .before .before .before .if1 .left) (sym (c .before .is-unused .ensures) ∙ not-true (c .before .is-unused .result) (c .if4 .taken)))
 
-shared-slice-read-end : tie.Need-shared-slice-read-end
-shared-slice-read-end c = search needs
-
-cast-end : tie.Need-cast-end
-cast-end c = omega (arith, c .shared-slice-known3 .given lengthAt)
-
-mul-end : tie.Need-mul-end
-mul-end c = omega (arith, c .shared-slice-known3 .given lengthAt)
-
-add-end : tie.Need-add-end
-add-end c = omega (arith, c .shared-slice-known3 .given lengthAt)
-
-sub-largest : tie.Need-sub-largest
-sub-largest c = omega (arith, c .shared-slice-known3 .given lengthAt)
-
-part-largest-start : tie.Need-part-largest-start
-part-largest-start c = omega (arith, c .shared-slice-known3 .given lengthAt)
-
-part-largest-end : tie.Need-part-largest-end
-part-largest-end c = search needs
-
-largest-requires : tie.Need-largest-requires
-largest-requires c κs = search needs
+list-in-range-requires : tie.Need-list-in-range-requires
+list-in-range-requires c κs = (c .before .before .before .before .before .before .before .before .if1 .left, omega (arith, c .before .before .shared-slice-known3 .given lengthAt), sym (c .before .is-unused .ensures) ∙ not-false (c .before .is-unused .result) (c .if4 .left))
 
 returns-5 : tie.Need-returns-5
-unfolding positionOf
-returns-5 c =
-    let s = c .before .before .before .before .before .before .before .before .before .before .before .before .args .s .now in
-    let whole : length s ≡ positionSize = c .before .before .before .before .before .before .before .before .before .before .if1 .left in
-    let b : AllBytes s = λ i. c .before .before .before .before .before .before .shared-slice-known2 .given i .fits in
-    let e : numbersInRange (take recordSize s) ≡ true = sym (c .before .before .before .before .before .before .before .before .numbers-in-range .ensures) ∙ not-false _ (c .before .before .before .before .before .before .before .if2 .left) in
-    let f : listInRange (positionOf s .moves) ≡ true = read-list s b ∙ ap (λ (m : ℕ). leb m lastMove) (sym (c .before .before .before .before .largest-move .ensures)) ∙ le-leb _ _ (c .before .before .before .if4 .left) in
-    let z : positionCheck (positionOf s) ≡ 0 = no-fault (positionOf s) e (omega (arith, c .before .before .before .before .before .if3 .left)) f in
-    ap (λ (m : ℕ). eqb m 0) (c .largest .ensures ∙ ap largest (past-part s b whole)) ∙ sym (known s b whole z)
+returns-5 c = 
+    let s = c .before .before .before .before .before .before .before .before .before .before .before .args .s .now in
+    let whole : length s ≡ positionSize = c .before .before .before .before .before .before .before .before .before .if1 .left in
+    let b : AllBytes s = λ i. c .before .before .before .before .before .shared-slice-known2 .given i .fits in
+    let board : numbersInRange (take recordSize s) ≡ true = sym (c .before .before .before .before .before .before .before .numbers-in-range .ensures) ∙ not-false _ (c .before .before .before .before .before .before .if2 .left) in
+    c .list-in-range .ensures ∙ sym (unused s b whole (sym (c .before .before .is-unused .ensures) ∙ not-false (c .before .before .is-unused .result) (c .before .if4 .left)) board (omega (arith, c .before .before .before .before .if3 .left)))
 
 pub is-position-spec : {M : Type 1} → statement M
 is-position-spec =
@@ -104,15 +73,9 @@ is-position-spec =
     returns-2
     shared-slice-read-if3
     returns-3
-    largest-move-requires
-    cast-if4
+    shared-slice-read-entries
+    cast-entries
+    is-unused-requires
     returns-4
-    shared-slice-read-end
-    cast-end
-    mul-end
-    add-end
-    sub-largest
-    part-largest-start
-    part-largest-end
-    largest-requires
+    list-in-range-requires
     returns-5)

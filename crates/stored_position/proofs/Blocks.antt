@@ -1,0 +1,97 @@
+-- A list looked at move by move with no branch, and a block of entries that holds the list and zeros past it.
+-- Assumes nothing.
+use mathlib.Core.Path.{_≡_, refl, ap, sym, _∙_}
+use mathlib.Core.Bool.{Bool, true, false, _&&_, _||_}
+use mathlib.Core.List.{List}
+use Prim.Native.Nat.{ℕ, zero, suc, _+_, _*_, _-_, _<_, _≤_}
+use native.Mathlib.Omega.{arith}
+use lib.Bits.{bitOr}
+use lib.Dec.{eqb, leb}
+use lib.ListN.{length, take, drop, getD, length-drop}
+use lib.Seq.{getD-drop, take-all}
+use borrow.Author.Tests.{le-leb, ne-eqb}
+use Rattle.square.specs.Numbers.{allAtMost, among}
+use Rattle.square.proofs.Bounds.{gather, bound-at}
+use Rattle.chess_move.specs.Number.{ofBytes}
+use Rattle.position.specs.Layout.{movesAt, movesFrom}
+use Rattle.stored_position.proofs.Listing.{movesLeft, moveHere, one-less}
+
+-- how many entries are looked at together, as in src/lib.rt, and from where on a shorter list uses no byte
+abbrev pub block : ℕ
+block = 64
+
+abbrev pub behindBlock : ℕ
+behindBlock = movesAt + 2 * (block - 1)
+
+-- the start of the loop over the first k entries, a turn, and its end
+pub range-start : (n : ℕ) (s : List ℕ) (k : ℕ) → allAtMost n (movesLeft s k 0) ≡ allAtMost n (movesFrom s movesAt k)
+range-start n s k = let e : k - 0 ≡ k = omega arith in rw e
+
+pub range-turn : (n : ℕ) (s : List ℕ) (k a i : ℕ) → i < k
+    → eqb (bitOr a (moveHere s i - n)) 0 && allAtMost n (movesLeft s k (i + 1)) ≡ eqb a 0 && allAtMost n (movesLeft s k i)
+unfolding allAtMost
+range-turn n s k a i h = rw (one-less s k i h) (gather a (moveHere s i) n (allAtMost n (movesLeft s k (i + 1))))
+
+pub range-end : (n : ℕ) (s : List ℕ) (k i : ℕ) → k ≤ i → allAtMost n (movesLeft s k i) ≡ true
+unfolding allAtMost movesFrom
+range-end n s k i h = let e : k - i ≡ 0 = omega arith in rw e
+
+-- the part that a slice from a place on is
+pub part-to-end : (s : List ℕ) (at : ℕ) → take (length s - at) (drop at s) ≡ drop at s
+part-to-end s at = take-all (length s - at) (drop at s) (rw (length-drop at s) (omega arith))
+
+-- from a place on all bytes are 0
+abbrev pub ZerosFrom : List ℕ → ℕ → Type 0
+ZerosFrom s at = (i : ℕ) → at ≤ i → getD s i 0 ≡ 0
+
+pub zeros-from : (s : List ℕ) (at : ℕ) → allAtMost 0 (drop at s) ≡ true → ZerosFrom s at
+zeros-from s at e i h =
+    let f : at + (i - at) ≡ i = omega arith in
+    let g : getD s i 0 ≡ getD (drop at s) (i - at) 0 = ap (λ (x : ℕ). getD s x 0) (sym f) ∙ sym (getD-drop at s (i - at) 0) in
+    omega (arith, bound-at 0 (drop at s) (i - at) e)
+
+-- past the list a block holds moves 0, which are in range
+zeros-in-range : (n : ℕ) (s : List ℕ) (at j : ℕ) → ZerosFrom s at → allAtMost n (movesFrom s at j) ≡ true
+unfolding allAtMost movesFrom
+zeros-in-range n s at zero z = refl
+zeros-in-range n s at (suc j) z =
+    let h : ofBytes (getD s at 0) (getD s (at + 1) 0) ≤ n = omega (arith, z at (omega arith), z (at + 1) (omega arith)) in
+    rw (le-leb _ _ h) (zeros-in-range n s (at + 2) j (λ i h. z i (omega arith)))
+
+block-from : (n : ℕ) (s : List ℕ) (at k j : ℕ) → ZerosFrom s (at + 2 * k) → allAtMost n (movesFrom s at (k + j)) ≡ allAtMost n (movesFrom s at k)
+unfolding allAtMost movesFrom
+block-from n s at zero j z =
+    let e : 0 + j ≡ j = omega arith in
+    rw e (zeros-in-range n s at j (λ i h. z i (omega arith)))
+block-from n s at (suc k) j z =
+    let e : suc k + j ≡ suc (k + j) = omega arith in
+    rw e (ap (λ (t : Bool). leb (ofBytes (getD s at 0) (getD s (at + 1) 0)) n && t) (block-from n s (at + 2) k j (λ i h. z i (omega arith))))
+
+pub block-range : (n : ℕ) (s : List ℕ) (k : ℕ) → k ≤ block → allAtMost 0 (drop (movesAt + 2 * k) s) ≡ true
+    → allAtMost n (movesFrom s movesAt block) ≡ allAtMost n (movesFrom s movesAt k)
+block-range n s k h z =
+    let e : k + (block - k) ≡ block = omega arith in
+    ap (λ (x : ℕ). allAtMost n (movesFrom s movesAt x)) (sym e) ∙ block-from n s movesAt k (block - k) (zeros-from s (movesAt + 2 * k) z)
+
+-- and which are no other move
+zeros-list : (m : ℕ) (s : List ℕ) (at j : ℕ) → (m ≡ 0 → ⊥) → ZerosFrom s at → among m (movesFrom s at j) ≡ false
+unfolding among movesFrom
+zeros-list m s at zero n z = refl
+zeros-list m s at (suc j) n z =
+    let h : ofBytes (getD s at 0) (getD s (at + 1) 0) ≡ m → ⊥ = λ e. n (omega (arith, z at (omega arith), z (at + 1) (omega arith))) in
+    rw (ne-eqb _ _ h) (zeros-list m s (at + 2) j n (λ i h. z i (omega arith)))
+
+among-from : (m : ℕ) (s : List ℕ) (at k j : ℕ) → (m ≡ 0 → ⊥) → ZerosFrom s (at + 2 * k) → among m (movesFrom s at (k + j)) ≡ among m (movesFrom s at k)
+unfolding among movesFrom
+among-from m s at zero j n z =
+    let e : 0 + j ≡ j = omega arith in
+    rw e (zeros-list m s at j n (λ i h. z i (omega arith)))
+among-from m s at (suc k) j n z =
+    let e : suc k + j ≡ suc (k + j) = omega arith in
+    rw e (ap (λ (t : Bool). eqb (ofBytes (getD s at 0) (getD s (at + 1) 0)) m || t) (among-from m s (at + 2) k j n (λ i h. z i (omega arith))))
+
+pub block-list : (m : ℕ) (s : List ℕ) (k : ℕ) → k ≤ block → (m ≡ 0 → ⊥) → allAtMost 0 (drop (movesAt + 2 * k) s) ≡ true
+    → among m (movesFrom s movesAt block) ≡ among m (movesFrom s movesAt k)
+block-list m s k h n z =
+    let e : k + (block - k) ≡ block = omega arith in
+    ap (λ (x : ℕ). among m (movesFrom s movesAt x)) (sym e) ∙ among-from m s movesAt k (block - k) n (zeros-from s (movesAt + 2 * k) z)
