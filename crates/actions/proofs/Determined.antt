@@ -6,5 +6,6 @@ use Rattle.actions.specs.Promises.{ActionsDetermined}
 pub actions-determined : ActionsDetermined
 actions-determined = record {
   move-at = λ acts i. determined;
+  moves-in = λ acts n. determined;
   last = λ acts n. determined;
 }

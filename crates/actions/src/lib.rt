@@ -9,7 +9,7 @@ ghost use Rattle.square.specs.Parts.{item};
 ghost use Rattle.chess_move.specs.Number.{numberAnswer};
 ghost use Rattle.action.specs.declared.Stored.the-variants.{Holds};
 ghost use Rattle.action.specs.Layout.{actionSize};
-ghost use Rattle.actions.specs.Part.{moveHeld, moveAt, lastAction};
+ghost use Rattle.actions.specs.Part.{moveHeld, moveAt, movesIn, lastAction};
 
 // More than any move's number.
 pub const NO_MOVE: u64 = LAST_MOVE + 1;
@@ -55,6 +55,22 @@ pub fn move_at(acts: &[u8], i: usize) -> u64
         Stored::Holds(action) => move_made(action),
         Stored::Nothing => NO_MOVE,
     }
+}
+
+// How many of the first `n` actions are moves.
+pub fn moves_in(acts: &[u8], n: usize) -> usize
+    ensures { λ r. ⌜ r ≡ movesIn (now (acts .entry)) n ⌝ }
+{
+    let mut k: usize = 0;
+    let mut i: usize = 0;
+    while i < n {
+        let m = move_at(acts, i);
+        i += 1;
+        if m <= LAST_MOVE {
+            k += 1;
+        }
+    }
+    k
 }
 
 // The last of the first `n` actions.

@@ -1,3 +1,4 @@
 pub mod Emptied
+pub mod Back
 pub mod Runs
 pub mod Determined

@@ -1,3 +1,4 @@
 pub mod Emptying
 pub mod Claim
+pub mod Back
 pub mod Promises

@@ -4,11 +4,12 @@ use board_builder::BLACK_RIGHTS_AT;
 use board_builder::WHITE_RIGHTS_AT;
 use chess_move::LAST_MOVE;
 ghost use mathlib.Core.Path.{_≡_};
-ghost use mathlib.Core.Bool.{cond, _||_};
+ghost use mathlib.Core.Bool.{cond};
 ghost use Prim.Native.Nat.{_-_};
 ghost use Rattle.position.specs.Layout.{positionOf};
 ghost use Rattle.claim.specs.Emptying.{irreversible, rightsDiffer};
 ghost use Rattle.claim.specs.Claim.{runAfter, runAt, claimIn, claimAt};
+ghost use Rattle.claim.specs.Back.{orElse, runBefore, runKnown};
 
 // The reversible moves after which a draw may be claimed.
 pub const CLAIM_COUNT: usize = 100;
@@ -40,12 +41,6 @@ fn rights_differ(p: &[u8], q: &[u8]) -> bool
     square::byte_at(p, BLACK_RIGHTS_AT) != square::byte_at(q, BLACK_RIGHTS_AT)
 }
 
-fn either(a: bool, b: bool) -> bool
-    ensures { λ r. ⌜ r ≡ a || b ⌝ }
-{
-    if a { true } else { b }
-}
-
 fn from(emptied: bool, next: usize, before: usize) -> usize
     ensures { λ r. ⌜ r ≡ cond emptied next before ⌝ }
 {
@@ -59,24 +54,53 @@ fn run_after(p: &[u8], q: &[u8], m: u64, next: usize, r: Run) -> Run
     let undone = is_irreversible(p, m);
     let changed = rights_differ(p, q);
     Run {
-        first: from(either(undone, changed), next, r.first),
-        since: from(either(undone, changed), next, r.since),
+        first: from(square::either(undone, changed), next, r.first),
+        since: from(square::either(undone, changed), next, r.since),
     }
 }
 
-// The run after the first `n` actions.
+fn or_else(known: usize, earlier: usize) -> usize
+    ensures { λ r. ⌜ r ≡ orElse known earlier ⌝ }
+{
+    if known == 0 { earlier } else { known }
+}
+
+// What is known of a run, looking back: 0 is not known yet.
+fn run_before(r: Run, earlier: Run) -> Run
+    ensures { λ s. ⌜ s ≡ runBefore r earlier ⌝ }
+{
+    Run {
+        first: or_else(r.first, earlier.first),
+        since: or_else(r.since, earlier.since),
+    }
+}
+
+fn is_known(r: Run) -> bool
+    ensures { λ t. ⌜ t ≡ runKnown r ⌝ }
+{
+    if r.first == 0 {
+        return false;
+    }
+    r.since != 0
+}
+
+// The run after the first `n` actions: back from the last one, until both numbers are known.
 fn run_at(acts: &[u8], ps: &[u8], n: usize) -> Run
     ensures { λ r. ⌜ r ≡ runAt (now (acts .entry)) (now (ps .entry)) n ⌝ }
 {
-    let mut r = Run { first: 0, since: 0 };
-    let mut k: usize = 0;
-    let mut i: usize = 0;
-    while i < n {
+    let none = Run { first: 0, since: 0 };
+    let mut r = none;
+    let mut k = actions::moves_in(acts, n);
+    let mut i = n;
+    while 0 < i {
+        i -= 1;
         let m = actions::move_at(acts, i);
-        i += 1;
         if m <= LAST_MOVE {
-            r = run_after(position::at(ps, k), position::at(ps, k + 1), m, k + 1, r);
-            k += 1;
+            r = run_before(r, run_after(position::at(ps, k - 1), position::at(ps, k), m, k, none));
+            if is_known(r) {
+                return r;
+            }
+            k -= 1;
         }
     }
     r

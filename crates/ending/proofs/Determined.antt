@@ -6,5 +6,6 @@ use Rattle.ending.specs.Promises.{EndingDetermined}
 pub ending-determined : EndingDetermined
 ending-determined = record {
   result = λ acts ps n m. determined;
+  by-last-action = λ acts n. determined;
   offer-stands = λ acts ps n m. determined;
 }

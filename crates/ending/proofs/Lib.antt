@@ -1,3 +1,4 @@
 pub mod Results
+pub mod FirstByte
 pub mod Standing
 pub mod Determined

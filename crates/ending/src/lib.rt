@@ -1,4 +1,5 @@
 // How a game has ended, and whether an offer stands, after game.rs.
+use action::ACTION_SIZE;
 use action::Action;
 use action::Stored;
 use board_builder::SIDE_AT;
@@ -9,6 +10,7 @@ ghost use mathlib.Core.Bool.{cond, _||_};
 ghost use Prim.Native.Nat.{_-_};
 ghost use lib.Dec.{eqb};
 ghost use Rattle.action.specs.declared.Stored.the-variants.{Holds};
+ghost use Rattle.actions.specs.Part.{lastAction};
 ghost use Rattle.ending.specs.Ending.{resultWithoutMoves, resultOfAction, isOffer, isOfferBy, resultAt, offerAt};
 
 // The results, in the order of `GameResult`; 0 is none.
@@ -28,6 +30,9 @@ pub const STALEMATE: u64 = 5;
 pub const DRAW_ACCEPTED: u64 = 6;
 
 pub const DRAW_DECLARED: u64 = 7;
+
+// The first byte of an offer. A move's is lower, and those of the actions that end a game are higher.
+const OFFER: u8 = 2;
 
 fn without_moves(side: u8, check: u8) -> u64
     ensures { λ r. ⌜ r ≡ resultWithoutMoves side check ⌝ }
@@ -63,6 +68,7 @@ fn by_action(action: Action) -> u64
     }
 }
 
+// How an action has ended the game, or 0.
 fn by_last(last: Stored) -> u64
     ensures { λ r. ⌜ r ≡ resultOfAction last ⌝ }
 {
@@ -70,6 +76,22 @@ fn by_last(last: Stored) -> u64
         Stored::Holds(action) => by_action(action),
         Stored::Nothing => GOES_ON,
     }
+}
+
+// The same of the last of the first `n` actions. Its first byte settles nearly all of them, without a look at the others.
+pub fn by_last_action(acts: &[u8], n: usize) -> u64
+    ensures { λ r. ⌜ r ≡ resultOfAction (lastAction (now (acts .entry)) n) ⌝ }
+{
+    if n == 0 {
+        return GOES_ON;
+    }
+    if acts.len() / ACTION_SIZE < n {
+        return GOES_ON;
+    }
+    if acts[ACTION_SIZE * (n - 1)] <= OFFER {
+        return GOES_ON;
+    }
+    by_last(actions::last(acts, n))
 }
 
 // The result after the first `n` actions, with position `m` on the board.
@@ -80,7 +102,7 @@ pub fn result(acts: &[u8], ps: &[u8], n: usize, m: usize) -> u64
     if square::byte_at(p, LENGTH_AT) == 0 {
         return without_moves(square::byte_at(p, SIDE_AT), square::byte_at(p, CHECK_AT));
     }
-    by_last(actions::last(acts, n))
+    by_last_action(acts, n)
 }
 
 fn offers(action: Action) -> bool

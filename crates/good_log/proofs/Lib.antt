@@ -1,3 +1,4 @@
 pub mod Steps
+pub mod Moves
 pub mod Pass
 pub mod Determined

@@ -10,12 +10,16 @@ use lib.Dec.{eqb, leb}
 use lib.ListN.{length, getD}
 use borrow.Author.Tests.{eq-eqb, ne-eqb, eqb-true, eqb-false, leb-true, leb-false}
 use Rattle.square.proofs.Numbers.{both-left, both-right, most-each}
+use Rattle.square.specs.Parts.{item}
 use Rattle.chess_move.specs.Number.{lastMove}
 use Rattle.actions.specs.Part.{moveAt, movesIn}
+use Rattle.position.specs.Layout.{positionSize}
+use Rattle.stored_position.specs.Bytes.{isPosition}
 use Rattle.game_rules.specs.Limits.{Limits, limits, actionsLength, positionsLength}
 use Rattle.game_rules.specs.Good.{nextSound, sound, isGood}
 use Rattle.good_log.specs.Steps.{notSound, step}
 use Rattle.good_log.proofs.Steps.{stepTo, step-is}
+use Rattle.good_log.proofs.Moves.{step-leaves}
 
 module _ (acts : List ℕ) where
   moves-step : (i : ℕ) → movesIn acts i ≤ movesIn acts (suc i)
@@ -109,6 +113,7 @@ pub record Going (acts ps : List ℕ) (n m i k : ℕ) : Type 0 where
   pub counted : k ≡ movesIn acts i
   pub within : k ≤ m
   pub ok : sound limits acts ps i ≡ true
+  pub stands : isPosition (item positionSize ps k) ≡ true
 
 module _ (acts ps : List ℕ) (n m i k : ℕ) (g : Given acts ps n m) (at : Going acts ps n m i k) (before : i < n) (bytes : (j : ℕ) → getD acts j 0 < 256) where
   going-step : step acts ps m i k ≡ stepTo acts ps m i
@@ -127,4 +132,5 @@ module _ (acts ps : List ℕ) (n m i k : ℕ) (g : Given acts ps n m) (at : Goin
         counted = turn-on acts ps n m i r (e ∙ going-step) less fits .0;
         within = fits;
         ok = sound-turn acts ps n m i r (e ∙ going-step) less (at .ok) fits;
+        stands = step-leaves acts ps m i k r e (omega (arith, g .some)) (at .stands);
       }

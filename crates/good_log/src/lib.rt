@@ -8,6 +8,7 @@ use game_rules::ACTIONS_LENGTH;
 use game_rules::MAX_ACTIONS;
 use game_rules::MAX_MOVES;
 use game_rules::POSITIONS_LENGTH;
+use position::LENGTH_AT;
 use square::ACCEPTED;
 use square::NO_CLAIM;
 use square::NO_OFFER;
@@ -15,10 +16,16 @@ use square::NOT_GOOD;
 use square::NOT_LISTED;
 use square::OUT_OF_RANGE;
 use square::PART_TOO_SHORT;
+use stored_position::BLOCK;
 ghost use mathlib.Core.Path.{_≡_};
+ghost use mathlib.Core.Bool.{true};
 ghost use Prim.Native.Nat.{_+_, _≤_, _<_};
 ghost use lib.ListN.{length};
+ghost use Rattle.square.specs.Parts.{item};
+ghost use Rattle.chess_move.specs.Number.{lastMove};
 ghost use Rattle.action.specs.Layout.{colourCheck};
+ghost use Rattle.position.specs.Layout.{positionSize};
+ghost use Rattle.stored_position.specs.Bytes.{isPosition, listsMove};
 ghost use Rattle.game_rules.specs.Limits.{limits, actionsLength, positionsLength};
 ghost use Rattle.game_rules.specs.Rules.{unless};
 ghost use Rattle.game_rules.specs.Good.{isGood};
@@ -62,10 +69,25 @@ fn other_fits(acts: &[u8], ps: &[u8], i: usize, k: usize, stored: Stored) -> boo
     }
 }
 
+// Whether a position lists a move. Its bytes past the list are 0, so that all of a block may be looked at for any move but 0.
+fn lists(p: &[u8], m: u64) -> bool
+    requires { ⌜ (isPosition (now p) ≡ true) × (m ≤ lastMove) ⌝ }
+    ensures { λ r. ⌜ r ≡ listsMove (now (p .entry)) m ⌝ }
+{
+    if m == 0 {
+        return stored_position::lists(p, m);
+    }
+    if BLOCK <= square::byte_at(p, LENGTH_AT) as usize {
+        return stored_position::lists(p, m);
+    }
+    stored_position::in_block(p, m as u16)
+}
+
 fn move_fits(p: &[u8], m: u64, q: &[u8]) -> bool
+    requires { ⌜ (isPosition (now p) ≡ true) × (m ≤ lastMove) ⌝ }
     ensures { λ r. ⌜ r ≡ moveFits (now (p .entry)) m (now (q .entry)) ⌝ }
 {
-    if !stored_position::lists(p, m) {
+    if !lists(p, m) {
         return false;
     }
     if !stored_position::is_position(q) {
@@ -75,7 +97,7 @@ fn move_fits(p: &[u8], m: u64, q: &[u8]) -> bool
 }
 
 fn move_step(ps: &[u8], m: usize, k: usize, x: u64) -> usize
-    requires { ⌜ k ≤ m ⌝ }
+    requires { ⌜ (k ≤ m) × (isPosition (item positionSize (now ps) k) ≡ true) × (x ≤ lastMove) ⌝ }
     ensures { λ r. ⌜ r ≡ moveStep (now (ps .entry)) m k x ⌝ }
 {
     if k == m {
@@ -97,17 +119,21 @@ fn other_step(acts: &[u8], ps: &[u8], i: usize, k: usize) -> usize
     NOT_SOUND
 }
 
-// The moves after action `i`, `k` of them before it and `m` in all; more than a log may have if the action was not accepted there.
+// The moves after action `i`, `k` of them before it and `m` in all; more than a log may have if the action was not accepted there. Whether the list before
+// it was empty is not asked for a move: no such list has it.
 fn next(acts: &[u8], ps: &[u8], m: usize, i: usize, k: usize) -> usize
-    requires { ⌜ (k ≤ m) × (i < limits .most-actions) ⌝ }
+    requires { ⌜ (k ≤ m) × (i < limits .most-actions) × (isPosition (item positionSize (now ps) k) ≡ true) ⌝ }
     ensures { λ r. ⌜ r ≡ step (now (acts .entry)) (now (ps .entry)) m i k ⌝ }
 {
-    if ending::result(acts, ps, i, k) != GOES_ON {
+    if ending::by_last_action(acts, i) != GOES_ON {
         return NOT_SOUND;
     }
     let x = actions::move_at(acts, i);
     if x <= LAST_MOVE {
         return move_step(ps, m, k, x);
+    }
+    if ending::result(acts, ps, i, k) != GOES_ON {
+        return NOT_SOUND;
     }
     other_step(acts, ps, i, k)
 }

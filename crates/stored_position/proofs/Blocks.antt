@@ -1,7 +1,7 @@
 -- A list looked at move by move with no branch, and a block of entries that holds the list and zeros past it.
 -- Assumes nothing.
 use mathlib.Core.Path.{_≡_, refl, ap, sym, _∙_}
-use mathlib.Core.Bool.{Bool, true, false, _&&_, _||_}
+use mathlib.Core.Bool.{Bool, true, false, _&&_, _||_, or-assoc, or-false}
 use mathlib.Core.List.{List}
 use Prim.Native.Nat.{ℕ, zero, suc, _+_, _*_, _-_, _<_, _≤_}
 use native.Mathlib.Omega.{arith}
@@ -9,17 +9,15 @@ use lib.Bits.{bitOr}
 use lib.Dec.{eqb, leb}
 use lib.ListN.{length, take, drop, getD, length-drop}
 use lib.Seq.{getD-drop, take-all}
-use borrow.Author.Tests.{le-leb, ne-eqb}
+use borrow.Author.Tests.{eq-eqb, ne-eqb, le-leb}
 use Rattle.square.specs.Numbers.{allAtMost, among}
 use Rattle.square.proofs.Bounds.{gather, bound-at}
 use Rattle.chess_move.specs.Number.{ofBytes}
-use Rattle.position.specs.Layout.{movesAt, movesFrom}
-use Rattle.stored_position.proofs.Listing.{movesLeft, moveHere, one-less}
+use Rattle.position.specs.Layout.{lengthAt, movesAt, positionSize, movesFrom, positionOf}
+use Rattle.stored_position.specs.Bytes.{block, listsMove, inBlock}
+use Rattle.stored_position.proofs.Listing.{movesLeft, moveHere, one-less, lists-end}
 
--- how many entries are looked at together, as in src/lib.rt, and from where on a shorter list uses no byte
-abbrev pub block : ℕ
-block = 64
-
+-- from where on a list that is shorter than a block uses no byte
 abbrev pub behindBlock : ℕ
 behindBlock = movesAt + 2 * (block - 1)
 
@@ -90,8 +88,30 @@ among-from m s at (suc k) j n z =
     let e : suc k + j ≡ suc (k + j) = omega arith in
     rw e (ap (λ (t : Bool). eqb (ofBytes (getD s at 0) (getD s (at + 1) 0)) m || t) (among-from m s (at + 2) k j n (λ i h. z i (omega arith))))
 
-pub block-list : (m : ℕ) (s : List ℕ) (k : ℕ) → k ≤ block → (m ≡ 0 → ⊥) → allAtMost 0 (drop (movesAt + 2 * k) s) ≡ true
+block-among : (m : ℕ) (s : List ℕ) (k : ℕ) → k ≤ block → (m ≡ 0 → ⊥) → allAtMost 0 (drop (movesAt + 2 * k) s) ≡ true
     → among m (movesFrom s movesAt block) ≡ among m (movesFrom s movesAt k)
-block-list m s k h n z =
+block-among m s k h n z =
     let e : k + (block - k) ≡ block = omega arith in
     ap (λ (x : ℕ). among m (movesFrom s movesAt x)) (sym e) ∙ among-from m s movesAt k (block - k) n (zeros-from s (movesAt + 2 * k) z)
+
+-- so the block of a position has another move than 0 exactly if the list, which is shorter, has it
+pub block-lists : (m : ℕ) (s : List ℕ) → getD s lengthAt 0 ≤ block → (m ≡ 0 → ⊥) → allAtMost 0 (drop (movesAt + 2 * getD s lengthAt 0) s) ≡ true → inBlock s m ≡ listsMove s m
+unfolding inBlock listsMove positionOf
+block-lists m s h n z = ap (λ (t : Bool). eqb (length s) positionSize && t) (block-among m s (getD s lengthAt 0) h n z)
+
+-- the start of the loop over a block, a turn, and its end
+pub look-start : (s : List ℕ) (m : ℕ) → length s ≡ positionSize → among m (movesFrom s movesAt block) ≡ inBlock s m
+unfolding inBlock
+look-start s m h = rw (eq-eqb _ _ h)
+
+pub look-turn : (s : List ℕ) (m i : ℕ) (found : Bool) → i < block
+    → (found || eqb (moveHere s i) m) || among m (movesLeft s block (i + 1)) ≡ found || among m (movesLeft s block i)
+unfolding among
+look-turn s m i found h = rw (one-less s block i h) (or-assoc found (eqb (moveHere s i) m) (among m (movesLeft s block (i + 1))))
+
+pub look-end : (s : List ℕ) (m i : ℕ) (found : Bool) → block ≤ i → found || among m (movesLeft s block i) ≡ found
+look-end s m i found h = rw (lists-end s m block i h) (or-false found)
+
+pub look-short : (s : List ℕ) (m : ℕ) → (length s ≡ positionSize → ⊥) → inBlock s m ≡ false
+unfolding inBlock
+look-short s m h = rw (ne-eqb _ _ h)

@@ -1,15 +1,16 @@
 -- Bytes known as those of a position: what is left to look at once the checks pass.
 -- Assumes nothing.
 use mathlib.Core.Path.{_≡_, refl, ap, ap₂, sym, _∙_}
-use mathlib.Core.Bool.{Bool, true, false, _&&_, and-true, and-false}
+use mathlib.Core.Bool.{Bool, true, false, _&&_, and-true, and-false, false≢true}
 use mathlib.Core.List.{List, [], _∷_, _++_}
 use Prim.Native.Nat.{ℕ, zero, suc, _+_, _*_, _-_, _≤_}
 use native.Mathlib.Omega.{arith}
 use lib.Dec.{eqb, leb, eqb·suc-zero, leb·suc-zero}
 use lib.ListN.{length, take, drop, getD, replicate, length-drop, take-append-drop}
 use lib.Seq.{drop-cons, drop-drop}
-use borrow.Author.Tests.{eq-eqb, eqb-true, le-leb}
+use borrow.Author.Tests.{eq-eqb, eqb-true, eqb-false, le-leb}
 use Rattle.square.specs.Numbers.{allAtMost, same}
+use Rattle.square.proofs.Numbers.{both-right}
 use Rattle.square.proofs.Same.{same-lengths}
 use Rattle.board_builder.specs.BoardBuilder.{recordSize, numbersInRange}
 use Rattle.chess_move.specs.Number.{lastMove}
@@ -113,3 +114,15 @@ other-size s n = go (eqb (positionCheck (positionOf s)) 0) refl
         let p = position-fits (positionOf s) (eqb-true _ _ e) in
         same-lengths s (positionBytes (positionOf s)) (λ h. n (h ∙ length-position (positionOf s) (p .wide) (p .short)))
     go false e = refl
+
+-- so a position is whole, and past its list all is 0
+pub position-whole : (s : List ℕ) → isPosition s ≡ true → length s ≡ positionSize
+position-whole s e = go (eqb (length s) positionSize) refl
+  where
+    go : (t : Bool) → eqb (length s) positionSize ≡ t → length s ≡ positionSize
+    go true f = eqb-true _ _ f
+    go false f = absurd (false≢true (sym (other-size s (eqb-false _ _ f)) ∙ e))
+
+pub position-unused : (s : List ℕ) (b : AllBytes s) (e : isPosition s ≡ true) → allAtMost 0 (past s b (position-whole s e)) ≡ true
+position-unused s b e =
+    both-right (eqb (positionCheck (positionOf s)) 0) (allAtMost 0 (past s b (position-whole s e))) (sym (known s b (position-whole s e)) ∙ e)

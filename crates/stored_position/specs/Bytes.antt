@@ -12,7 +12,7 @@ use Rattle.board_builder.specs.declared.BoardBuilder.{BoardBuilder}
 use Rattle.board_builder.specs.BoardBuilder.{numbers, numbersInRange}
 use Rattle.chess_move.specs.Number.{lowByte, highByte}
 use Rattle.move_list.specs.MoveList.{longestList, listInRange}
-use Rattle.position.specs.Layout.{Position, positionSize, positionOf}
+use Rattle.position.specs.Layout.{Position, movesAt, positionSize, movesFrom, positionOf}
 
 unfoldable pub moveBytes : List ℕ → List ℕ
 moveBytes [] = []
@@ -38,3 +38,11 @@ isPosition s = eqb (positionCheck (positionOf s)) 0 && same s (positionBytes (po
 -- whole bytes of a position whose list has the move
 unfoldable pub listsMove : List ℕ → ℕ → Bool
 listsMove s m = eqb (length s) positionSize && among m (positionOf s .moves)
+
+-- entries that are looked at together, whether used or not, where the list is shorter
+abbrev pub block : ℕ
+block = 64
+
+-- whole bytes of a position whose first entries, the list and what is past it, have the move
+unfoldable pub inBlock : List ℕ → ℕ → Bool
+inBlock s m = eqb (length s) positionSize && among m (movesFrom s movesAt block)

@@ -23,7 +23,7 @@ ghost use Rattle.board_builder.specs.BoardBuilder.{recordSize, numbers};
 ghost use Rattle.move_list.specs.MoveList.{longestList};
 ghost use Rattle.chess_move.specs.Number.{lastMove, ofBytes};
 ghost use Rattle.position.specs.Layout.{movesAt, positionSize, movesFrom};
-ghost use Rattle.stored_position.specs.Bytes.{moveBytes, positionBytes, positionCheck, positionGiven, isPosition, listsMove};
+ghost use Rattle.stored_position.specs.Bytes.{moveBytes, positionBytes, positionCheck, positionGiven, isPosition, listsMove, inBlock};
 
 // Entries that are looked at together, whether used or not, where the list is shorter, as nearly every list is: a length that is known to the compiler
 // makes straight code of the loop, and no branch hangs on the list's length.
@@ -221,4 +221,22 @@ pub fn lists(s: &[u8], m: u64) -> bool
         i += 1;
     }
     false
+}
+
+// Whether a move stands in the first block of entries, in the list or past it: with no branch, so that the entries are taken many at a time. Bytes that are
+// not as long as a position have none.
+pub fn in_block(s: &[u8], m: u16) -> bool
+    ensures { λ r. ⌜ r ≡ inBlock (now (s .entry)) m ⌝ }
+{
+    if s.len() != POSITION_SIZE {
+        return false;
+    }
+    let mut found = false;
+    let mut i: usize = 0;
+    while i < BLOCK {
+        let at = MOVES_AT + 2 * i;
+        found = square::either(found, s[at] as u16 + 256 * (s[at + 1] as u16) == m);
+        i += 1;
+    }
+    found
 }

@@ -1,83 +1,120 @@
-use mathlib.Core.Path.{_≡_, ap, sym, _∙_}
 use borrow.Author.Needs.{needs}
+use mathlib.Core.Path.{_≡_, ap, sym, _∙_}
+use mathlib.Core.Bool.{true}
 use native.Mathlib.Omega.{arith}
-use Prim.Native.Nat.{_-_, _≤_}
+use Prim.Native.Nat.{ℕ, _+_, _-_}
 use Rattle.actions.specs.Part.{movesIn}
+use Rattle.actions.proofs.Counting.{one-more, no-more}
 use Rattle.claim.specs.Claim.{runAt}
-use Rattle.claim.proofs.Runs.{none-made, run-begun, one-more, no-more, run-goes-on, run-stays}
-use Rattle.claim.proofs.Runs.{none-made, run-begun, one-more, no-more, run-goes-on, run-stays}
-use Rattle.claim.proofs.Runs.{none-made, run-begun, one-more, no-more, run-goes-on, run-stays}
+use Rattle.claim.specs.Back.{runBefore, runKnown}
+use Rattle.claim.proofs.Back.{back-start, back-known, back-end, back-turn, run-by-none}
 use Rattle.claim.proofs.run_at.Statement.{statement}
 use Rattle.claim.proofs.run_at.Tie as tie
 
 abbrev Inv-loop : tie.InvT-loop
-Inv-loop acts ps n r₀ k₀ i₀ r k i = (i ≤ n) × (k ≡ movesIn acts i) × (k ≤ i) × (r ≡ runAt acts ps i)
+Inv-loop acts ps n none r₀ k₀ i₀ r k i = (k ≡ movesIn acts i) × (runBefore r (runAt acts ps i) ≡ runAt acts ps n)
 
 abbrev μ-loop : tie.MeasureT-loop
-μ-loop acts ps n r₀ k₀ i₀ r k i = n - i
+μ-loop acts ps n none r₀ k₀ i₀ r k i = i
+
+moves-in-requires : tie.Need-moves-in-requires Inv-loop μ-loop
+moves-in-requires c κs = search needs
 
 loop-holds : tie.Need-loop-holds Inv-loop μ-loop
-loop-holds c = (omega arith, sym (none-made _), omega arith, sym (run-begun _ _))
+loop-holds c = (c .moves-in .ensures, back-start (runAt (c .before .before .before .args .acts .now) (c .before .before .before .args .ps .now) (c .before .before .before .args .n)))
+
+sub-i : tie.Need-sub-i Inv-loop μ-loop
+sub-i c = search needs
 
 move-at-requires : tie.Need-move-at-requires Inv-loop μ-loop
 move-at-requires c κs = search needs
 
-add-i : tie.Need-add-i Inv-loop μ-loop
-add-i c = omega arith
+sub-at : tie.Need-sub-at Inv-loop μ-loop
+sub-at c = 
+    let acts = c .before .before .before .before .before .before .before .args .acts .now in
+    let ps = c .before .before .before .before .before .before .before .args .ps .now in
+    let k = c .before .before .before .loop .k in
+    let j = c .before .before .before .loop .i - 1 in
+    let m = c .before .move-at .result in
+    let e : c .before .before .before .loop .i ≡ j + 1 = omega (arith, c .before .before .loop-test .taken) in
+    let counted : k ≡ movesIn acts (j + 1) = c .before .before .before .loop .inv .0 ∙ ap (movesIn acts) e in
+    omega (arith, one-more acts j m (c .before .move-at .ensures) (c .if1 .taken))
 
 at-requires : tie.Need-at-requires Inv-loop μ-loop
 at-requires c κs = search needs
 
-add-at : tie.Need-add-at Inv-loop μ-loop
-add-at c = omega arith
-
 at-requires-2 : tie.Need-at-requires-2 Inv-loop μ-loop
 at-requires-2 c κs = search needs
-
-add-run-after : tie.Need-add-run-after Inv-loop μ-loop
-add-run-after c = omega arith
 
 run-after-requires : tie.Need-run-after-requires Inv-loop μ-loop
 run-after-requires c κs = search needs
 
-add-k : tie.Need-add-k Inv-loop μ-loop
-add-k c = omega arith
+run-before-requires : tie.Need-run-before-requires Inv-loop μ-loop
+run-before-requires c κs = search needs
 
-loop-less : tie.Need-loop-less Inv-loop μ-loop
-loop-less c = omega arith
-
-loop-again : tie.Need-loop-again Inv-loop μ-loop
-loop-again c = let acts = c .before .before .before .before .before .before .before .before .before .args .acts .now in
-    let i = c .before .before .before .before .before .before .loop .i in
-    let k = c .before .before .before .before .before .before .loop .k in
-    let m = c .before .before .before .before .move-at .result in
-    let inv = c .before .before .before .before .before .before .loop .inv in
-    let read = c .before .before .before .before .move-at .ensures in (
-      omega arith,
-      one-more acts i k m (inv .1) read (c .before .before .before .if1 .taken),
-      omega arith,
-      run-goes-on acts i k m (inv .1) read (c .before .before .before .before .before .before .before .before .before .args .ps .now) (c .before .before .before .before .before .before .loop .r) (inv .3) (c .run-after .result) (c .before .before .at .result .now) (c .before .at2 .result .now) (c .run-after .ensures) (c .before .before .at .ensures) (c .before .at2 .ensures) (c .before .before .before .if1 .taken),
-    )
-
-loop-less-2 : tie.Need-loop-less-2 Inv-loop μ-loop
-loop-less-2 c = omega arith
-
-loop-again-2 : tie.Need-loop-again-2 Inv-loop μ-loop
-loop-again-2 c = let acts = c .before .before .before .before .before .before .args .acts .now in
-    let i = c .before .before .before .loop .i in
-    let k = c .before .before .before .loop .k in
-    let m = c .before .move-at .result in
-    let inv = c .before .before .before .loop .inv in
-    let read = c .before .move-at .ensures in (
-      omega arith,
-      no-more acts i k m (inv .1) read (c .if1 .left),
-      omega arith,
-      run-stays acts i k m (inv .1) read (c .before .before .before .before .before .before .args .ps .now) (c .before .before .before .loop .r) (inv .3) (c .if1 .left),
-    )
+is-known-requires : tie.Need-is-known-requires Inv-loop μ-loop
+is-known-requires c κs = search needs
 
 returns : tie.Need-returns Inv-loop μ-loop
-returns c = let e : c .before .loop .i ≡ c .before .before .before .before .args .n = omega arith in
-    c .before .loop .inv .3 ∙ ap (runAt (c .before .before .before .before .args .acts .now) (c .before .before .before .before .args .ps .now)) e
+returns c = 
+    let acts = c .before .before .before .before .before .before .before .before .before .before .before .before .before .args .acts .now in
+    let ps = c .before .before .before .before .before .before .before .before .before .before .before .before .before .args .ps .now in
+    let k = c .before .before .before .before .before .before .before .before .before .loop .k in
+    let j = c .before .before .before .before .before .before .before .before .before .loop .i - 1 in
+    let m = c .before .before .before .before .before .before .before .move-at .result in
+    let e : c .before .before .before .before .before .before .before .before .before .loop .i ≡ j + 1 = omega (arith, c .before .before .before .before .before .before .before .before .loop-test .taken) in
+    let counted : k ≡ movesIn acts (j + 1) = c .before .before .before .before .before .before .before .before .before .loop .inv .0 ∙ ap (movesIn acts) e in
+    let was : runBefore (c .before .before .before .before .before .before .before .before .before .loop .r) (runAt acts ps (j + 1)) ≡ runAt acts ps (c .before .before .before .before .before .before .before .before .before .before .before .before .before .args .n) = ap (λ (x : ℕ). runBefore (c .before .before .before .before .before .before .before .before .before .loop .r) (runAt acts ps x)) (sym e) ∙ c .before .before .before .before .before .before .before .before .before .loop .inv .1 in
+    let known : runKnown (c .before .before .run-before .result) ≡ true = sym (c .before .is-known .ensures) ∙ c .if2 .taken in
+    sym (back-known (c .before .before .run-before .result) (runAt acts ps j) known) ∙ back-turn acts ps j m (c .before .before .before .before .before .before .before .move-at .ensures) (c .before .before .before .before .before .before .if1 .taken) k counted (c .before .before .before .before .before .at .result .now) (c .before .before .before .before .at2 .result .now) (c .before .before .before .before .before .at .ensures) (c .before .before .before .before .at2 .ensures) (c .before .before .before .before .before .before .before .before .before .loop .r) (c .before .before .run-before .result) (c .before .before .before .run-after .result) (runAt acts ps (c .before .before .before .before .before .before .before .before .before .before .before .before .before .args .n)) (c .before .before .before .run-after .ensures) (c .before .before .run-before .ensures) was
+
+sub-k : tie.Need-sub-k Inv-loop μ-loop
+sub-k c = 
+    let acts = c .before .before .before .before .before .before .before .before .before .before .before .before .before .args .acts .now in
+    let ps = c .before .before .before .before .before .before .before .before .before .before .before .before .before .args .ps .now in
+    let k = c .before .before .before .before .before .before .before .before .before .loop .k in
+    let j = c .before .before .before .before .before .before .before .before .before .loop .i - 1 in
+    let m = c .before .before .before .before .before .before .before .move-at .result in
+    let e : c .before .before .before .before .before .before .before .before .before .loop .i ≡ j + 1 = omega (arith, c .before .before .before .before .before .before .before .before .loop-test .taken) in
+    let counted : k ≡ movesIn acts (j + 1) = c .before .before .before .before .before .before .before .before .before .loop .inv .0 ∙ ap (movesIn acts) e in
+    omega (arith, one-more acts j m (c .before .before .before .before .before .before .before .move-at .ensures) (c .before .before .before .before .before .before .if1 .taken))
+
+loop-less : tie.Need-loop-less Inv-loop μ-loop
+loop-less c = omega (arith, c .before .before .before .before .before .before .before .before .loop-test .taken)
+
+loop-again : tie.Need-loop-again Inv-loop μ-loop
+loop-again c = 
+    let acts = c .before .before .before .before .before .before .before .before .before .before .before .before .before .args .acts .now in
+    let ps = c .before .before .before .before .before .before .before .before .before .before .before .before .before .args .ps .now in
+    let k = c .before .before .before .before .before .before .before .before .before .loop .k in
+    let j = c .before .before .before .before .before .before .before .before .before .loop .i - 1 in
+    let m = c .before .before .before .before .before .before .before .move-at .result in
+    let e : c .before .before .before .before .before .before .before .before .before .loop .i ≡ j + 1 = omega (arith, c .before .before .before .before .before .before .before .before .loop-test .taken) in
+    let counted : k ≡ movesIn acts (j + 1) = c .before .before .before .before .before .before .before .before .before .loop .inv .0 ∙ ap (movesIn acts) e in
+    let was : runBefore (c .before .before .before .before .before .before .before .before .before .loop .r) (runAt acts ps (j + 1)) ≡ runAt acts ps (c .before .before .before .before .before .before .before .before .before .before .before .before .before .args .n) = ap (λ (x : ℕ). runBefore (c .before .before .before .before .before .before .before .before .before .loop .r) (runAt acts ps x)) (sym e) ∙ c .before .before .before .before .before .before .before .before .before .loop .inv .1 in
+    (omega (arith, one-more acts j m (c .before .before .before .before .before .before .before .move-at .ensures) (c .before .before .before .before .before .before .if1 .taken)), back-turn acts ps j m (c .before .before .before .before .before .before .before .move-at .ensures) (c .before .before .before .before .before .before .if1 .taken) k counted (c .before .before .before .before .before .at .result .now) (c .before .before .before .before .at2 .result .now) (c .before .before .before .before .before .at .ensures) (c .before .before .before .before .at2 .ensures) (c .before .before .before .before .before .before .before .before .before .loop .r) (c .before .before .run-before .result) (c .before .before .before .run-after .result) (runAt acts ps (c .before .before .before .before .before .before .before .before .before .before .before .before .before .args .n)) (c .before .before .before .run-after .ensures) (c .before .before .run-before .ensures) was)
+
+loop-less-2 : tie.Need-loop-less-2 Inv-loop μ-loop
+loop-less-2 c = omega (arith, c .before .before .loop-test .taken)
+
+loop-again-2 : tie.Need-loop-again-2 Inv-loop μ-loop
+loop-again-2 c = 
+    let acts = c .before .before .before .before .before .before .before .args .acts .now in
+    let ps = c .before .before .before .before .before .before .before .args .ps .now in
+    let k = c .before .before .before .loop .k in
+    let j = c .before .before .before .loop .i - 1 in
+    let m = c .before .move-at .result in
+    let e : c .before .before .before .loop .i ≡ j + 1 = omega (arith, c .before .before .loop-test .taken) in
+    let counted : k ≡ movesIn acts (j + 1) = c .before .before .before .loop .inv .0 ∙ ap (movesIn acts) e in
+    let was : runBefore (c .before .before .before .loop .r) (runAt acts ps (j + 1)) ≡ runAt acts ps (c .before .before .before .before .before .before .before .args .n) = ap (λ (x : ℕ). runBefore (c .before .before .before .loop .r) (runAt acts ps x)) (sym e) ∙ c .before .before .before .loop .inv .1 in
+    (counted ∙ no-more acts j m (c .before .move-at .ensures) (c .if1 .left), ap (runBefore (c .before .before .before .loop .r)) (sym (run-by-none acts ps j m (c .before .move-at .ensures) (c .if1 .left))) ∙ was)
+
+returns-2 : tie.Need-returns-2 Inv-loop μ-loop
+returns-2 c = 
+    let e : c .before .loop .i ≡ 0 = omega (arith, c .loop-test .left) in
+    let acts = c .before .before .before .before .before .args .acts .now in
+    let ps = c .before .before .before .before .before .args .ps .now in
+    sym (back-end acts ps (c .before .loop .r)) ∙ ap (λ (x : ℕ). runBefore (c .before .loop .r) (runAt acts ps x)) (sym e) ∙ c .before .loop .inv .1
 
 pub run-at-spec : {M : Type 1} → statement M
 run-at-spec =
@@ -85,17 +122,20 @@ run-at-spec =
     (tie.spec
     Inv-loop
     μ-loop
+    moves-in-requires
     loop-holds
+    sub-i
     move-at-requires
-    add-i
+    sub-at
     at-requires
-    add-at
     at-requires-2
-    add-run-after
     run-after-requires
-    add-k
+    run-before-requires
+    is-known-requires
+    returns
+    sub-k
     loop-less
     loop-again
     loop-less-2
     loop-again-2
-    returns)
+    returns-2)

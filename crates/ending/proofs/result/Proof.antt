@@ -3,7 +3,7 @@ use mathlib.Core.Path.{ap, ap₂, sym, _∙_}
 use mathlib.Core.List.{List}
 use Prim.Native.Nat.{ℕ}
 use Rattle.position.specs.Layout.{positionOf}
-use Rattle.ending.specs.Ending.{resultWithoutMoves, resultOfAction, resultOf}
+use Rattle.ending.specs.Ending.{resultWithoutMoves, resultOf}
 use Rattle.actions.specs.Part.{lastAction}
 use Rattle.position.specs.Layout.{positionOf}
 use Rattle.ending.proofs.Results.{result-empty, result-last}
@@ -33,18 +33,15 @@ returns c = let last = lastAction (c .before .before .before .before .before .be
     ∙ sym (result-empty (c .before .before .before .before .before .at .result .now) last (sym (c .before .before .before .before .byte-at .ensures) ∙ c .before .before .before .if1 .taken))
     ∙ ap (λ (p : List ℕ). resultOf (positionOf p) last) (c .before .before .before .before .before .at .ensures)
 
-last-requires : tie.Need-last-requires
-last-requires c κs = search needs
-
-by-last-requires : tie.Need-by-last-requires
-by-last-requires c κs = search needs
+by-last-action-requires : tie.Need-by-last-action-requires
+by-last-action-requires c κs = search needs
 
 returns-2 : tie.Need-returns-2
-returns-2 c = let last = lastAction (c .before .before .before .before .before .before .before .args .acts .now) (c .before .before .before .before .before .before .before .args .n) in
-    c .by-last .ensures
-    ∙ ap resultOfAction (c .before .last .ensures)
-    ∙ sym (result-last (c .before .before .before .before .at .result .now) last (λ e. c .before .before .if1 .left (c .before .before .before .byte-at .ensures ∙ e)))
-    ∙ ap (λ (p : List ℕ). resultOf (positionOf p) last) (c .before .before .before .before .at .ensures)
+returns-2 c =
+    let last = lastAction (c .before .before .before .before .before .before .args .acts .now) (c .before .before .before .before .before .before .args .n) in
+    c .by-last-action .ensures
+    ∙ sym (result-last (c .before .before .before .at .result .now) last (λ e. c .before .if1 .left (c .before .before .byte-at .ensures ∙ e)))
+    ∙ ap (λ (p : List ℕ). resultOf (positionOf p) last) (c .before .before .before .at .ensures)
 
 pub result-spec : {M : Type 1} → statement M
 result-spec =
@@ -56,6 +53,5 @@ result-spec =
     byte-at-requires-3
     without-moves-requires
     returns
-    last-requires
-    by-last-requires
+    by-last-action-requires
     returns-2)

@@ -3,7 +3,10 @@ use native.Mathlib.Omega.{arith}
 use borrow.Author.Needs.{needs}
 use borrow.Author.Tests.{not-true, not-false}
 use Prim.Native.Nat.{_-_, zero-le}
+use mathlib.Core.Bool.{true}
+use Rattle.square.specs.Parts.{item}
 use Rattle.actions.specs.Part.{movesIn}
+use Rattle.position.specs.Layout.{positionSize}
 use Rattle.stored_position.specs.Bytes.{isPosition}
 use Rattle.game_rules.specs.Limits.{limits}
 use Rattle.game_rules.specs.Good.{sound}
@@ -31,10 +34,13 @@ returns c =
 
 loop-holds : tie.Need-loop-holds Inv-loop μ-loop
 unfolding sound movesIn
-loop-holds c = record { far = zero-le; counted = refl; within = zero-le; ok = ap isPosition (sym (c .before .before .at .ensures)) ∙ sym (c .before .is-position .ensures) ∙ not-false (c .before .is-position .result) (c .if1 .left) }
+loop-holds c =
+    let begun : isPosition (item positionSize (c .before .before .before .before .before .args .ps .now) 0) ≡ true =
+    ap isPosition (sym (c .before .before .at .ensures)) ∙ sym (c .before .is-position .ensures) ∙ not-false (c .before .is-position .result) (c .if1 .left) in
+    record { far = zero-le; counted = refl; within = zero-le; ok = begun; stands = begun }
 
 next-requires : tie.Need-next-requires Inv-loop μ-loop
-next-requires c κs = (c .before .loop .inv .within, omega (arith, c .before .before .before .before .before .before .before .pre .0, c .loop-test .taken))
+next-requires c κs = (c .before .loop .inv .within, omega (arith, c .before .before .before .before .before .before .before .pre .0, c .loop-test .taken), c .before .loop .inv .stands)
 
 returns-2 : tie.Need-returns-2 Inv-loop μ-loop
 returns-2 c =

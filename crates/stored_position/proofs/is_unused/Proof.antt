@@ -8,7 +8,8 @@ use borrow.Author.Tests.{not-true, not-false}
 use Rattle.square.specs.Numbers.{allAtMost}
 use Rattle.square.proofs.Bounds.{bound-parts, bound-overlap}
 use Rattle.position.specs.Layout.{movesAt}
-use Rattle.stored_position.proofs.Blocks.{block, behindBlock, part-to-end}
+use Rattle.stored_position.specs.Bytes.{block}
+use Rattle.stored_position.proofs.Blocks.{behindBlock, part-to-end}
 use Rattle.stored_position.proofs.is_unused.Statement.{statement}
 use Rattle.stored_position.proofs.is_unused.Tie as tie
 
