@@ -1,13 +1,13 @@
 -- A move in the pass: what the last action alone settles, why the list's length need not be asked, and that each accepted action leaves a position.
 -- Assumes nothing.
-use mathlib.Core.Path.{_≡_, refl, sym, _∙_}
+use mathlib.Core.Path.{_≡_, refl, ap, sym, _∙_}
 use mathlib.Core.Bool.{Bool, true, false, cond, _&&_, and-false}
 use mathlib.Core.List.{List, [], _∷_}
 use Prim.Native.Nat.{ℕ, suc, _<_, _≤_}
 use native.Mathlib.Omega.{arith}
-use lib.Dec.{eqb, leb}
+use lib.Dec.{eqb, leb, ltb}
 use lib.ListN.{length}
-use borrow.Author.Tests.{eq-eqb, ne-eqb, eqb-true, eqb-false, le-leb}
+use borrow.Author.Tests.{eq-eqb, ne-eqb, eqb-true, eqb-false, le-leb, lt-leb, lt-ltb, ltb-true}
 use Rattle.square.specs.Numbers.{among}
 use Rattle.square.specs.Parts.{item}
 use Rattle.square.proofs.Numbers.{both-left, both-right}
@@ -17,7 +17,8 @@ use Rattle.actions.specs.Part.{moveAt, lastAction}
 use Rattle.position.specs.Layout.{Position, positionSize, side, positionOf, positionAt}
 use Rattle.stored_position.specs.Bytes.{isPosition, listsMove}
 use Rattle.ending.specs.Ending.{whiteCheckmates, blackCheckmates, stalemate, resultWithoutMoves, resultOfAction, resultOf, resultAt}
-use Rattle.good_log.specs.Steps.{moveFits, notSound, moveStep, otherFits, step}
+use Rattle.game_rules.specs.Limits.{limits}
+use Rattle.good_log.specs.Steps.{moveFits, notSound, moveStep, otherFits, step, movesAfter}
 
 -- with no move left, a game has ended
 ended-without : (mover check : ℕ) → resultWithoutMoves mover check ≡ 0 → ⊥
@@ -53,9 +54,32 @@ empty-lists s x e = go (positionOf s .moves) e
     go [] f = and-false (eqb (length s) positionSize)
     go (y ∷ l) f = absurd (omega arith)
 
+-- what a sound step leaves: the count of moves, which is within those in all, and a position
+pub record Left (acts ps : List ℕ) (m i k : ℕ) : Type 0 where
+  pub counted : step acts ps m i k ≡ movesAfter acts i k
+  pub within : step acts ps m i k ≤ m
+  pub stands : isPosition (item positionSize ps (step acts ps m i k)) ≡ true
+
+sound-by : (fits : Bool) (k : ℕ) → k < notSound → ltb (cond fits k notSound) notSound ≡ fits
+sound-by true k h = lt-ltb k notSound h
+sound-by false k h = refl
+
 both-unsound : (t : Bool) → cond t notSound notSound ≡ notSound
 both-unsound true = refl
 both-unsound false = refl
+
+-- a step is sound exactly if the action fits
+module _ (ps : List ℕ) (m k : ℕ) where
+  pub move-unsound : m ≤ k → k ≤ m → (x : ℕ) → ltb (moveStep ps m k x) notSound ≡ false
+  move-unsound h within x =
+      let full : k ≡ m = omega arith in
+      rw (eq-eqb _ _ full)
+
+  pub move-sound-by : (x : ℕ) → k < m → m ≤ limits .most-moves
+      → ltb (moveStep ps m k x) notSound ≡ moveFits (item positionSize ps k) x (item positionSize ps (suc k))
+  move-sound-by x less some =
+      let other : k ≡ m → ⊥ = λ e. omega arith in
+      rw (ne-eqb _ _ other) (sound-by (moveFits (item positionSize ps k) x (item positionSize ps (suc k))) (suc k) (omega arith))
 
 module _ (acts ps : List ℕ) (m i k : ℕ) where
   pub step-ended : (resultAt acts ps i k ≡ 0 → ⊥) → step acts ps m i k ≡ notSound
@@ -82,22 +106,36 @@ module _ (acts ps : List ℕ) (m i k : ℕ) where
       go false f =
           sym (step-of-move x read h (by-action (positionAt ps k) (lastAction acts i) (eqb-false _ _ f) ∙ e))
 
-  -- what stands on the board after an accepted action is a position
-  pub step-leaves : (r : ℕ) → r ≡ step acts ps m i k → r < notSound → isPosition (item positionSize ps k) ≡ true → isPosition (item positionSize ps r) ≡ true
+  pub other-sound-by : (x : ℕ) → x ≡ moveAt acts i → lastMove < x → k ≤ limits .most-moves → resultAt acts ps i k ≡ 0
+      → ltb (step acts ps m i k) notSound ≡ otherFits acts ps i k (lastAction acts (suc i))
   unfolding step
-  step-leaves r here less was =
-      go (eqb (resultAt acts ps i k) 0) (leb (moveAt acts i) lastMove) (eqb k m)
+  other-sound-by x read h some e =
+      rw (eq-eqb _ _ e, ← read, lt-leb x lastMove h) (sound-by (otherFits acts ps i k (lastAction acts (suc i))) k (omega arith))
+
+  pub unsound : step acts ps m i k ≡ notSound → ltb (step acts ps m i k) notSound ≡ false
+  unsound e = rw e
+
+  -- a sound action leaves a position on the board, and counts as a move if it is one
+  pub sound-leaves : ltb (step acts ps m i k) notSound ≡ true → k ≤ m → isPosition (item positionSize ps k) ≡ true → Left acts ps m i k
+  unfolding step
+  sound-leaves sound within was =
+      go (eqb (resultAt acts ps i k) 0) (leb (moveAt acts i) lastMove) refl (eqb k m) refl
       (moveFits (item positionSize ps k) (moveAt acts i) (item positionSize ps (suc k))) refl
-      (otherFits acts ps i k (lastAction acts (suc i))) here
+      (otherFits acts ps i k (lastAction acts (suc i))) refl (ltb-true _ _ sound)
     where
-      go : (on move full fits : Bool) → moveFits (item positionSize ps k) (moveAt acts i) (item positionSize ps (suc k)) ≡ fits → (other : Bool)
-          → r ≡ cond on (cond move (cond full notSound (cond fits (suc k) notSound)) (cond other k notSound)) notSound
-          → isPosition (item positionSize ps r) ≡ true
-      go false move full fits f other e = absurd (omega arith)
-      go true true true fits f other e = absurd (omega arith)
-      go true true false false f other e = absurd (omega arith)
-      go true true false true f other e =
-          rw e
-          (both-left (isPosition (item positionSize ps (suc k))) _ (both-right (listsMove (item positionSize ps k) (moveAt acts i)) _ f))
-      go true false full fits f true e = rw e was
-      go true false full fits f false e = absurd (omega arith)
+      go : (on move : Bool) → leb (moveAt acts i) lastMove ≡ move → (full : Bool) → eqb k m ≡ full → (fits : Bool)
+          → moveFits (item positionSize ps k) (moveAt acts i) (item positionSize ps (suc k)) ≡ fits → (other : Bool)
+          → step acts ps m i k ≡ cond on (cond move (cond full notSound (cond fits (suc k) notSound)) (cond other k notSound)) notSound
+          → step acts ps m i k < notSound → Left acts ps m i k
+      go false move a full b fits f other e h = absurd (omega arith)
+      go true true a true b fits f other e h = absurd (omega arith)
+      go true true a false b false f other e h = absurd (omega arith)
+      go true true a false b true f other e h =
+          record {
+            counted = e ∙ sym (ap (λ (t : Bool). cond t (suc k) k) a);
+            within = rw e (omega (arith, eqb-false k m b));
+            stands = rw e (both-left (isPosition (item positionSize ps (suc k))) _ (both-right (listsMove (item positionSize ps k) (moveAt acts i)) _ f));
+          }
+      go true false a full b fits f true e h =
+          record { counted = e ∙ sym (ap (λ (t : Bool). cond t (suc k) k) a); within = rw e within; stands = rw e was }
+      go true false a full b fits f false e h = absurd (omega arith)

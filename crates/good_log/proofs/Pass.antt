@@ -6,9 +6,9 @@ use mathlib.Core.List.{List}
 use Prim.Native.Nat.{ℕ, zero, suc, _+_, _-_, _<_, _≤_}
 use native.Mathlib.Numerals.{add-one}
 use native.Mathlib.Omega.{arith}
-use lib.Dec.{eqb, leb}
+use lib.Dec.{eqb, leb, ltb}
 use lib.ListN.{length, getD}
-use borrow.Author.Tests.{eq-eqb, ne-eqb, eqb-true, eqb-false, leb-true, leb-false}
+use borrow.Author.Tests.{eq-eqb, ne-eqb, eqb-true, eqb-false, leb-true, leb-false, ltb-false}
 use Rattle.square.proofs.Numbers.{both-left, both-right, most-each}
 use Rattle.square.specs.Parts.{item}
 use Rattle.chess_move.specs.Number.{lastMove}
@@ -17,9 +17,9 @@ use Rattle.position.specs.Layout.{positionSize}
 use Rattle.stored_position.specs.Bytes.{isPosition}
 use Rattle.game_rules.specs.Limits.{Limits, limits, actionsLength, positionsLength}
 use Rattle.game_rules.specs.Good.{nextSound, sound, isGood}
-use Rattle.good_log.specs.Steps.{notSound, step}
+use Rattle.good_log.specs.Steps.{notSound, step, movesAfter}
 use Rattle.good_log.proofs.Steps.{stepTo, step-is}
-use Rattle.good_log.proofs.Moves.{step-leaves}
+use Rattle.good_log.proofs.Moves.{Left, sound-leaves}
 
 module _ (acts : List ℕ) where
   moves-step : (i : ℕ) → movesIn acts i ≤ movesIn acts (suc i)
@@ -121,16 +121,19 @@ module _ (acts ps : List ℕ) (n m i k : ℕ) (g : Given acts ps n m) (at : Goin
       step-is acts ps m i k (most-each 255 acts (λ j. omega (arith, bytes j))) (at .counted) (at .within) (at .ok)
       (omega (arith, g .few)) (g .some) (omega (arith, g .few, g .room)) (omega (arith, at .within, g .some, g .place))
 
-  pub going-out : (r : ℕ) → r ≡ step acts ps m i k → m < r → isGood limits acts ps n m ≡ false
-  going-out r e over = turn-out acts ps n m i r (e ∙ going-step) (omega (arith, g .some)) over before
+  pub going-out : ltb (step acts ps m i k) notSound ≡ false → isGood limits acts ps n m ≡ false
+  going-out e = turn-out acts ps n m i (step acts ps m i k) going-step (omega (arith, g .some)) (omega (arith, g .some, ltb-false (step acts ps m i k) notSound e)) before
 
-  pub going-on : (r : ℕ) → r ≡ step acts ps m i k → r ≤ m → Going acts ps n m (i + 1) r
-  going-on r e fits =
+  pub going-on : (r : ℕ) → r ≡ movesAfter acts i k → ltb (step acts ps m i k) notSound ≡ true → Going acts ps n m (i + 1) r
+  going-on r e sound =
+      let left : Left acts ps m i k = sound-leaves acts ps m i k sound (at .within) (at .stands) in
+      let here : r ≡ step acts ps m i k = e ∙ sym (left .counted) in
       let less : m < notSound = omega (arith, g .some) in
+      let fits : r ≤ m = rw here (left .within) in
       record {
         far = omega arith;
-        counted = turn-on acts ps n m i r (e ∙ going-step) less fits .0;
+        counted = turn-on acts ps n m i r (here ∙ going-step) less fits .0;
         within = fits;
-        ok = sound-turn acts ps n m i r (e ∙ going-step) less (at .ok) fits;
-        stands = step-leaves acts ps m i k r e (omega (arith, g .some)) (at .stands);
+        ok = sound-turn acts ps n m i r (here ∙ going-step) less (at .ok) fits;
+        stands = rw here (left .stands);
       }

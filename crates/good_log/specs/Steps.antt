@@ -52,3 +52,7 @@ step acts ps m i k =
     cond (eqb (resultAt acts ps i k) 0)
     (cond (leb (moveAt acts i) lastMove) (moveStep ps m k (moveAt acts i)) (otherStep acts ps i k))
     notSound
+
+-- the moves after a sound action i, k of them before it
+abbrev pub movesAfter : List ℕ → ℕ → ℕ → ℕ
+movesAfter acts i k = cond (leb (moveAt acts i) lastMove) (suc k) k

@@ -20,6 +20,7 @@ use stored_position::BLOCK;
 ghost use mathlib.Core.Path.{_≡_};
 ghost use mathlib.Core.Bool.{true};
 ghost use Prim.Native.Nat.{_+_, _≤_, _<_};
+ghost use lib.Dec.{ltb};
 ghost use lib.ListN.{length};
 ghost use Rattle.square.specs.Parts.{item};
 ghost use Rattle.chess_move.specs.Number.{lastMove};
@@ -30,10 +31,7 @@ ghost use Rattle.game_rules.specs.Limits.{limits, actionsLength, positionsLengt
 ghost use Rattle.game_rules.specs.Rules.{unless};
 ghost use Rattle.game_rules.specs.Good.{isGood};
 ghost use Rattle.game_rules.specs.Calls.{logCheck};
-ghost use Rattle.good_log.specs.Steps.{otherCheck, otherFits, moveFits, moveStep, otherStep, step};
-
-// More moves than a log may have: what a step gives for an action that is not sound.
-const NOT_SOUND: usize = MAX_MOVES + 1;
+ghost use Rattle.good_log.specs.Steps.{otherCheck, otherFits, moveFits, notSound, moveStep, step, movesAfter};
 
 fn number_unless(ok: bool, number: u64) -> u64
     ensures { λ r. ⌜ r ≡ unless ok number ⌝ }
@@ -96,46 +94,45 @@ fn move_fits(p: &[u8], m: u64, q: &[u8]) -> bool
     square::byte_at(q, SIDE_AT) != square::byte_at(p, SIDE_AT)
 }
 
-fn move_step(ps: &[u8], m: usize, k: usize, x: u64) -> usize
-    requires { ⌜ (k ≤ m) × (isPosition (item positionSize (now ps) k) ≡ true) × (x ≤ lastMove) ⌝ }
-    ensures { λ r. ⌜ r ≡ moveStep (now (ps .entry)) m k x ⌝ }
+// Whether move `x` was accepted as the next one, with `k` made before it and `m` in all.
+fn move_is_sound(ps: &[u8], m: usize, k: usize, x: u64) -> bool
+    requires { ⌜ (k ≤ m) × (m ≤ limits .most-moves) × (isPosition (item positionSize (now ps) k) ≡ true) × (x ≤ lastMove) ⌝ }
+    ensures { λ r. ⌜ r ≡ ltb (moveStep (now (ps .entry)) m k x) notSound ⌝ }
 {
-    if k == m {
-        return NOT_SOUND;
+    if m <= k {
+        return false;
     }
-    if move_fits(position::at(ps, k), x, position::at(ps, k + 1)) {
-        return k + 1;
-    }
-    NOT_SOUND
+    move_fits(position::at(ps, k), x, position::at(ps, k + 1))
 }
 
-fn other_step(acts: &[u8], ps: &[u8], i: usize, k: usize) -> usize
-    requires { ⌜ i < limits .most-actions ⌝ }
-    ensures { λ r. ⌜ r ≡ otherStep (now (acts .entry)) (now (ps .entry)) i k ⌝ }
-{
-    if other_fits(acts, ps, i, k, actions::last(acts, i + 1)) {
-        return k;
-    }
-    NOT_SOUND
-}
-
-// The moves after action `i`, `k` of them before it and `m` in all; more than a log may have if the action was not accepted there. Whether the list before
-// it was empty is not asked for a move: no such list has it.
-fn next(acts: &[u8], ps: &[u8], m: usize, i: usize, k: usize) -> usize
-    requires { ⌜ (k ≤ m) × (i < limits .most-actions) × (isPosition (item positionSize (now ps) k) ≡ true) ⌝ }
-    ensures { λ r. ⌜ r ≡ step (now (acts .entry)) (now (ps .entry)) m i k ⌝ }
+// Whether action `i` was accepted, with `k` moves made before it and `m` in all. Whether the list before it was empty is not asked for a move: no such
+// list has it.
+fn is_sound(acts: &[u8], ps: &[u8], m: usize, i: usize, k: usize) -> bool
+    requires { ⌜ (k ≤ m) × (m ≤ limits .most-moves) × (i < limits .most-actions) × (isPosition (item positionSize (now ps) k) ≡ true) ⌝ }
+    ensures { λ r. ⌜ r ≡ ltb (step (now (acts .entry)) (now (ps .entry)) m i k) notSound ⌝ }
 {
     if ending::by_last_action(acts, i) != GOES_ON {
-        return NOT_SOUND;
+        return false;
     }
     let x = actions::move_at(acts, i);
     if x <= LAST_MOVE {
-        return move_step(ps, m, k, x);
+        return move_is_sound(ps, m, k, x);
     }
     if ending::result(acts, ps, i, k) != GOES_ON {
-        return NOT_SOUND;
+        return false;
     }
-    other_step(acts, ps, i, k)
+    other_fits(acts, ps, i, k, actions::last(acts, i + 1))
+}
+
+fn moves_after(acts: &[u8], i: usize, k: usize) -> usize
+    requires { ⌜ k ≤ limits .most-moves ⌝ }
+    ensures { λ r. ⌜ r ≡ movesAfter (now (acts .entry)) i k ⌝ }
+{
+    if actions::move_at(acts, i) <= LAST_MOVE {
+        k + 1
+    } else {
+        k
+    }
 }
 
 // Whether some sequence of accepted calls from a start makes the log.
@@ -149,10 +146,10 @@ fn is_good(acts: &[u8], ps: &[u8], n: usize, m: usize) -> bool
     let mut k: usize = 0;
     let mut i: usize = 0;
     while i < n {
-        k = next(acts, ps, m, i, k);
-        if m < k {
+        if !is_sound(acts, ps, m, i, k) {
             return false;
         }
+        k = moves_after(acts, i, k);
         i += 1;
     }
     k == m
