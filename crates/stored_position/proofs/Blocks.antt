@@ -1,7 +1,7 @@
 -- A list looked at move by move with no branch, and a block of entries that holds the list and zeros past it.
 -- Assumes nothing.
 use mathlib.Core.Path.{_≡_, refl, ap, sym, _∙_}
-use mathlib.Core.Bool.{Bool, true, false, _&&_, _||_, or-assoc, or-false}
+use mathlib.Core.Bool.{Bool, true, false, _&&_, _||_, and-true, and-false, or-assoc, or-false}
 use mathlib.Core.List.{List}
 use Prim.Native.Nat.{ℕ, zero, suc, _+_, _*_, _-_, _<_, _≤_}
 use native.Mathlib.Omega.{arith}
@@ -11,10 +11,10 @@ use lib.ListN.{length, take, drop, getD, length-drop}
 use lib.Seq.{getD-drop, take-all}
 use borrow.Author.Tests.{eq-eqb, ne-eqb, le-leb}
 use Rattle.square.specs.Numbers.{allAtMost, among}
-use Rattle.square.proofs.Bounds.{gather, bound-at}
-use Rattle.chess_move.specs.Number.{ofBytes}
+use Rattle.square.proofs.Bounds.{gather, bound-at, bound-parts, bound-overlap}
+use Rattle.chess_move.specs.Number.{lastMove, ofBytes}
 use Rattle.position.specs.Layout.{lengthAt, movesAt, positionSize, movesFrom, positionOf}
-use Rattle.stored_position.specs.Bytes.{block, listsMove, inBlock}
+use Rattle.stored_position.specs.Bytes.{block, listFits, listsMove, inBlock}
 use Rattle.stored_position.proofs.Listing.{movesLeft, moveHere, one-less, lists-end}
 
 -- from where on a list that is shorter than a block uses no byte
@@ -37,6 +37,35 @@ range-end n s k i h = let e : k - i ≡ 0 = omega arith in rw e
 -- the part that a slice from a place on is
 pub part-to-end : (s : List ℕ) (at : ℕ) → take (length s - at) (drop at s) ≡ drop at s
 part-to-end s at = take-all (length s - at) (drop at s) (rw (length-drop at s) (omega arith))
+
+-- a list does not fit if what is past it is not 0, and else fits by its moves
+module _ (s : List ℕ) (entries : ℕ) where
+  abbrev past : List ℕ
+  past = drop (movesAt + 2 * entries) s
+
+  pub not-past : allAtMost 0 (drop (movesAt + 2 * entries) s) ≡ false → listFits s entries ≡ false
+  unfolding listFits
+  not-past e = rw e
+
+  pub by-moves : allAtMost 0 (drop (movesAt + 2 * entries) s) ≡ true → listFits s entries ≡ allAtMost lastMove (movesFrom s movesAt entries)
+  unfolding listFits
+  by-moves e = rw e
+
+  pub not-moves : allAtMost lastMove (movesFrom s movesAt entries) ≡ false → listFits s entries ≡ false
+  unfolding listFits
+  not-moves e = rw e (and-false (allAtMost 0 past))
+
+  pub by-past : allAtMost lastMove (movesFrom s movesAt entries) ≡ true → listFits s entries ≡ allAtMost 0 (drop (movesAt + 2 * entries) s)
+  unfolding listFits
+  by-past e = rw e (and-true (allAtMost 0 past))
+
+  -- a short list's zeros, in two parts that overlap
+  pub not-near : allAtMost 0 (take (2 * block) (drop (movesAt + 2 * entries) s)) ≡ false → listFits s entries ≡ false
+  not-near e = not-past (bound-parts 0 s (movesAt + 2 * entries) (2 * block) ∙ ap (λ (t : Bool). t && allAtMost 0 (drop (movesAt + 2 * entries + 2 * block) s)) e)
+
+  pub far : entries < block → allAtMost 0 (take (2 * block) (drop (movesAt + 2 * entries) s)) ≡ true
+      → allAtMost 0 (drop behindBlock s) ≡ allAtMost 0 (drop (movesAt + 2 * entries) s)
+  far short e = bound-overlap 0 s (movesAt + 2 * entries) behindBlock (2 * block) (omega arith) (omega arith) e
 
 -- from a place on all bytes are 0
 abbrev pub ZerosFrom : List ℕ → ℕ → Type 0

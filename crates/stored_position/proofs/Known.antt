@@ -1,7 +1,7 @@
 -- Bytes known as those of a position: what is left to look at once the checks pass.
 -- Assumes nothing.
 use mathlib.Core.Path.{_≡_, refl, ap, ap₂, sym, _∙_}
-use mathlib.Core.Bool.{Bool, true, false, _&&_, and-true, and-false, false≢true}
+use mathlib.Core.Bool.{Bool, true, false, _&&_, and-comm, false≢true}
 use mathlib.Core.List.{List, [], _∷_, _++_}
 use Prim.Native.Nat.{ℕ, zero, suc, _+_, _*_, _-_, _≤_}
 use native.Mathlib.Omega.{arith}
@@ -17,7 +17,7 @@ use Rattle.chess_move.specs.Number.{lastMove}
 use Rattle.move_list.specs.MoveList.{longestList, listInRange}
 use Rattle.position.specs.Layout.{checkAt, lengthAt, movesAt, positionSize, movesFrom, positionOf}
 use Rattle.position.proofs.Moves.{AllBytes, length-moves, take-two}
-use Rattle.stored_position.specs.Bytes.{moveBytes, positionBytes, positionCheck, isPosition}
+use Rattle.stored_position.specs.Bytes.{moveBytes, positionBytes, positionCheck, isPosition, listFits}
 use Rattle.stored_position.proofs.Bytes.{length-position}
 use Rattle.stored_position.proofs.Checks.{position-fits, by-list}
 
@@ -87,18 +87,13 @@ module _ (s : List ℕ) (b : AllBytes s) (whole : length s ≡ positionSize) whe
       ap (λ (t : Bool). eqb (positionCheck (positionOf s)) 0 && t)
       (ap₂ same in-pieces written-back ∙ same-front (take recordSize s) _ _ ∙ same-past)
 
-  pub not-unused : allAtMost 0 past ≡ false → isPosition s ≡ false
-  not-unused e = known ∙ ap (λ (t : Bool). eqb (positionCheck (positionOf s)) 0 && t) e ∙ and-false (eqb (positionCheck (positionOf s)) 0)
-
-  pub unused : allAtMost 0 past ≡ true → numbersInRange (take recordSize s) ≡ true → getD s checkAt 0 ≤ 1
-      → isPosition s ≡ allAtMost lastMove (movesFrom s movesAt (getD s lengthAt 0))
-  unfolding positionOf
-  unused e board check =
+  -- with the record and the in-check byte in range, the list is left to look at
+  pub by-its-list : numbersInRange (take recordSize s) ≡ true → getD s checkAt 0 ≤ 1 → isPosition s ≡ listFits s (getD s lengthAt 0)
+  unfolding positionOf listFits
+  by-its-list board check =
       known
-      ∙ ap (λ (t : Bool). eqb (positionCheck (positionOf s)) 0 && t) e
-      ∙ and-true (eqb (positionCheck (positionOf s)) 0)
-      ∙ by-list (positionOf s) board check
-      ∙ read-list s b
+      ∙ and-comm (eqb (positionCheck (positionOf s)) 0) (allAtMost 0 past)
+      ∙ ap (λ (t : Bool). allAtMost 0 past && t) (by-list (positionOf s) board check ∙ read-list s b)
 
 -- the refusals: a position out of range, and another size
 pub not-in-range : (s : List ℕ) (n : ℕ) → positionCheck (positionOf s) ≡ suc n → isPosition s ≡ false

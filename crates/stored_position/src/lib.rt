@@ -13,9 +13,8 @@ use square::BAD_LIST;
 use square::OUT_OF_RANGE;
 use square::OUTPUT_TOO_SHORT;
 ghost use mathlib.Core.Path.{_≡_};
-ghost use mathlib.Core.Bool.{true};
-ghost use Prim.Native.Nat.{_+_, _*_, _-_, _≤_};
-ghost use lib.ListN.{length, drop, replicate};
+ghost use Prim.Native.Nat.{_+_, _*_, _-_, _≤_, _<_};
+ghost use lib.ListN.{length, replicate};
 ghost use Rattle.square.specs.Answer.{writeAnswer, writeBytes};
 ghost use Rattle.square.specs.Numbers.{allAtMost};
 ghost use Rattle.square.specs.Parts.{written};
@@ -23,7 +22,7 @@ ghost use Rattle.board_builder.specs.BoardBuilder.{recordSize, numbers};
 ghost use Rattle.move_list.specs.MoveList.{longestList};
 ghost use Rattle.chess_move.specs.Number.{lastMove, ofBytes};
 ghost use Rattle.position.specs.Layout.{movesAt, positionSize, movesFrom};
-ghost use Rattle.stored_position.specs.Bytes.{moveBytes, positionBytes, positionCheck, positionGiven, isPosition, listsMove, inBlock};
+ghost use Rattle.stored_position.specs.Bytes.{block, moveBytes, positionBytes, positionCheck, positionGiven, isPosition, listFits, listsMove, inBlock};
 
 // Entries that are looked at together, whether used or not, where the list is shorter, as nearly every list is: a length that is known to the compiler
 // makes straight code of the loop, and no branch hangs on the list's length.
@@ -152,30 +151,32 @@ fn moves_in_range(s: &[u8], entries: usize) -> bool
     above == 0
 }
 
-// Whether the list is of moves. Past it there are zeros, so that a whole block may be looked at.
-fn list_in_range(s: &[u8], entries: usize) -> bool
-    requires { ⌜ (length (now s) ≡ positionSize) × (entries ≤ longestList) × (allAtMost 0 (drop (movesAt + 2 * entries) (now s)) ≡ true) ⌝ }
-    ensures { λ r. ⌜ r ≡ allAtMost lastMove (movesFrom (now (s .entry)) movesAt entries) ⌝ }
+// Whether a list that is shorter than a block is of moves, with zeros past it. The zeros are looked at in two parts that overlap, each of one length; after
+// that the whole block may be looked at for moves.
+fn is_short_list(s: &[u8], entries: usize) -> bool
+    requires { ⌜ (length (now s) ≡ positionSize) × (entries < block) ⌝ }
+    ensures { λ r. ⌜ r ≡ listFits (now (s .entry)) entries ⌝ }
 {
-    if BLOCK <= entries {
-        return moves_in_range(s, entries);
+    let end = MOVES_AT + 2 * entries;
+    if !square::all_at_most(&s[end..end + 2 * BLOCK], 0) {
+        return false;
+    }
+    if !square::all_at_most(&s[BEHIND_BLOCK..], 0) {
+        return false;
     }
     moves_in_range(s, BLOCK)
 }
 
-// Whether all bytes past the list are 0. Past a list that ends in the first block they are looked at in two parts that overlap, each of one length.
-fn is_unused(s: &[u8], entries: usize) -> bool
+// The same of any list. The zeros come last, so that the compiler does not join the ends of the two functions.
+fn is_list(s: &[u8], entries: usize) -> bool
     requires { ⌜ (length (now s) ≡ positionSize) × (entries ≤ longestList) ⌝ }
-    ensures { λ r. ⌜ r ≡ allAtMost 0 (drop (movesAt + 2 * entries) (now (s .entry))) ⌝ }
+    ensures { λ r. ⌜ r ≡ listFits (now (s .entry)) entries ⌝ }
 {
-    let end = MOVES_AT + 2 * entries;
-    if BLOCK <= entries {
-        return square::all_at_most(&s[end..], 0);
-    }
-    if !square::all_at_most(&s[end..end + 2 * BLOCK], 0) {
+    if !moves_in_range(s, entries) {
         return false;
     }
-    square::all_at_most(&s[BEHIND_BLOCK..], 0)
+    let end = MOVES_AT + 2 * entries;
+    square::all_at_most(&s[end..], 0)
 }
 
 // Whether bytes are exactly those of a position in range.
@@ -192,10 +193,10 @@ pub fn is_position(s: &[u8]) -> bool
         return false;
     }
     let entries = s[LENGTH_AT] as usize;
-    if !is_unused(s, entries) {
-        return false;
+    if BLOCK <= entries {
+        return is_list(s, entries);
     }
-    list_in_range(s, entries)
+    is_short_list(s, entries)
 }
 
 fn number_of(low: u8, high: u8) -> u64

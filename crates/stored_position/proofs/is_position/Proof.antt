@@ -2,13 +2,13 @@ use borrow.Author.Needs.{needs}
 use mathlib.Core.Path.{_≡_, sym, _∙_}
 use mathlib.Core.Bool.{true, false}
 use native.Mathlib.Omega.{arith}
-use lib.ListN.{length, take, length-take}
+use lib.ListN.{take, length-take}
 use borrow.Author.Tests.{not-true, not-false}
 use Rattle.board_builder.specs.BoardBuilder.{recordSize, numbersInRange}
-use Rattle.position.specs.Layout.{lengthAt, positionSize, positionOf}
+use Rattle.position.specs.Layout.{lengthAt, positionOf}
 use Rattle.position.proofs.Moves.{AllBytes}
 use Rattle.stored_position.proofs.Checks.{bad-board, bad-check}
-use Rattle.stored_position.proofs.Known.{other-size, not-in-range, not-unused, unused}
+use Rattle.stored_position.proofs.Known.{other-size, not-in-range, by-its-list}
 use Rattle.stored_position.proofs.is_position.Statement.{statement}
 use Rattle.stored_position.proofs.is_position.Tie as tie
 
@@ -44,24 +44,25 @@ shared-slice-read-entries c = search needs
 cast-entries : tie.Need-cast-entries
 cast-entries c = omega (arith, c .shared-slice-known3 .given lengthAt)
 
-is-unused-requires : tie.Need-is-unused-requires
-is-unused-requires c κs = (c .before .before .before .before .before .before .if1 .left, omega (arith, c .shared-slice-known3 .given lengthAt))
+is-list-requires : tie.Need-is-list-requires
+is-list-requires c κs = (c .before .before .before .before .before .before .before .if1 .left, omega (arith, c .before .shared-slice-known3 .given lengthAt))
 
 returns-4 : tie.Need-returns-4
 returns-4 c = 
     let s = c .before .before .before .before .before .before .before .before .before .before .args .s .now in
-    sym (not-unused s (λ i. c .before .before .before .before .shared-slice-known2 .given i .fits) (c .before .before .before .before .before .before .before .before .if1 .left) (sym (c .before .is-unused .ensures) ∙ not-true (c .before .is-unused .result) (c .if4 .taken)))
+    let b : AllBytes s = λ i. c .before .before .before .before .shared-slice-known2 .given i .fits in
+    let board : numbersInRange (take recordSize s) ≡ true = sym (c .before .before .before .before .before .before .numbers-in-range .ensures) ∙ not-false _ (c .before .before .before .before .before .if2 .left) in
+    c .is-list .ensures ∙ sym (by-its-list s b (c .before .before .before .before .before .before .before .before .if1 .left) board (omega (arith, c .before .before .before .if3 .left)))
 
-list-in-range-requires : tie.Need-list-in-range-requires
-list-in-range-requires c κs = (c .before .before .before .before .before .before .before .before .if1 .left, omega (arith, c .before .before .shared-slice-known3 .given lengthAt), sym (c .before .is-unused .ensures) ∙ not-false (c .before .is-unused .result) (c .if4 .left))
+is-short-list-requires : tie.Need-is-short-list-requires
+is-short-list-requires c κs = (c .before .before .before .before .before .before .before .if1 .left, omega (arith, c .if4 .left))
 
 returns-5 : tie.Need-returns-5
 returns-5 c = 
-    let s = c .before .before .before .before .before .before .before .before .before .before .before .args .s .now in
-    let whole : length s ≡ positionSize = c .before .before .before .before .before .before .before .before .before .if1 .left in
-    let b : AllBytes s = λ i. c .before .before .before .before .before .shared-slice-known2 .given i .fits in
-    let board : numbersInRange (take recordSize s) ≡ true = sym (c .before .before .before .before .before .before .before .numbers-in-range .ensures) ∙ not-false _ (c .before .before .before .before .before .before .if2 .left) in
-    c .list-in-range .ensures ∙ sym (unused s b whole (sym (c .before .before .is-unused .ensures) ∙ not-false (c .before .before .is-unused .result) (c .before .if4 .left)) board (omega (arith, c .before .before .before .before .if3 .left)))
+    let s = c .before .before .before .before .before .before .before .before .before .before .args .s .now in
+    let b : AllBytes s = λ i. c .before .before .before .before .shared-slice-known2 .given i .fits in
+    let board : numbersInRange (take recordSize s) ≡ true = sym (c .before .before .before .before .before .before .numbers-in-range .ensures) ∙ not-false _ (c .before .before .before .before .before .if2 .left) in
+    c .is-short-list .ensures ∙ sym (by-its-list s b (c .before .before .before .before .before .before .before .before .if1 .left) board (omega (arith, c .before .before .before .if3 .left)))
 
 pub is-position-spec : {M : Type 1} → statement M
 is-position-spec =
@@ -75,7 +76,7 @@ is-position-spec =
     returns-3
     shared-slice-read-entries
     cast-entries
-    is-unused-requires
+    is-list-requires
     returns-4
-    list-in-range-requires
+    is-short-list-requires
     returns-5)
