@@ -96,7 +96,10 @@ fn run_at(acts: &[u8], ps: &[u8], n: usize) -> Run
         i -= 1;
         let m = actions::move_at(acts, i);
         if m <= LAST_MOVE {
-            r = run_before(r, run_after(position::at(ps, k - 1), position::at(ps, k), m, k, none));
+            r = run_before(
+                r,
+                run_after(position::at(ps, k - 1), position::at(ps, k), m, k, none),
+            );
             if is_known(r) {
                 return r;
             }

@@ -2,29 +2,28 @@
 -- history that leaves the bytes is the one that they are read as.
 -- Assumes nothing.
 use mathlib.Core.Path.{_≡_, refl, ap, ap₂, sym, _∙_}
-use mathlib.Core.Bool.{Bool, true, false, cond, _&&_}
+use mathlib.Core.Bool.{Bool, true, cond, _&&_}
 use mathlib.Core.List.{List, _++_, append-nil}
 use Prim.Native.Nat.{ℕ, zero, suc, _+_, _*_}
 use native.Mathlib.Omega.{arith}
 use lib.Dec.{eqb, leb}
 use lib.ListN.{length, drop, take, length-append}
-use borrow.Author.Tests.{eqb-true, eq-eqb, le-leb}
+use borrow.Author.Tests.{eqb-true, eq-eqb}
 use Rattle.square.specs.declared.Answer.{Answer}
-use Rattle.square.specs.Answer.{inRangeOr5}
 use Rattle.square.specs.Numbers.{same}
 use Rattle.square.specs.Parts.{item}
 use Rattle.square.proofs.Numbers.{both-left, both-right}
 use Rattle.square.proofs.Same.{same-eq, same-refl}
 use Rattle.square.proofs.Written.{used-grows, last-piece}
-use Rattle.chess_move.specs.declared.ChessMove.{ChessMove}
-use Rattle.chess_move.specs.Number.{lastMove, numberOf, numberAnswer}
-use Rattle.chess_move.proofs.Numbers.{number-of-parts, parts-of-number}
+use Rattle.chess_move.specs.Number.{lastMove}
+use Rattle.chess_move.proofs.Numbers.{number-of-parts}
 use Rattle.action.specs.declared.Action.the-variants.{MakeMove, OfferDraw, AcceptDraw, DeclareDraw, Resign}
 use Rattle.action.specs.declared.Stored.{Stored}
 use Rattle.action.specs.declared.Stored.the-variants.{Holds, Nothing}
 use Rattle.action.specs.Layout.{actionSize, actionBytes, actionOf}
 use Rattle.action.proofs.ReadBack.{held, length-bytes}
 use Rattle.actions.specs.Part.{actionAt, moveHeld, movesIn}
+use Rattle.actions.proofs.Counting.{value-most}
 use Rattle.position.specs.Layout.{Position, positionSize, positionOf, positionAt}
 use Rattle.stored_position.specs.Bytes.{isPosition}
 use Rattle.stored_position.proofs.ReadBack.{position-round, one-size, written-is-position, one-position-form}
@@ -35,13 +34,6 @@ use Rattle.game_rules.specs.Promises.{GoodIsDecided}
 use Rattle.game_rules.proofs.Checks.{move-says, by-kind, no-bytes-made, no-bytes-here, call-of-action, accepted-number, accepted-action}
 
 -- a stored action is counted as a move exactly if its call is one
-pub value-most : (m : ChessMove) → leb (numberAnswer m .value) lastMove ≡ true
-value-most m = go (leb (m .source) 63 && (leb (m .dest) 63 && leb (m .promotion) 6)) refl
-  where
-    go : (ok : Bool) → (leb (m .source) 63 && (leb (m .dest) 63 && leb (m .promotion) 6)) ≡ ok → leb (numberAnswer m .value) lastMove ≡ true
-    go true e = le-leb _ _ (parts-of-number m (ap (λ (b : Bool). inRangeOr5 b (numberOf (m .source) (m .dest) (m .promotion)) .number) e) .0)
-    go false e = rw e refl
-
 pub is-move : (a : Stored) (p : Position) → isMove (callOf a p) ≡ leb (moveHeld a) lastMove
 is-move (Holds (MakeMove m)) p = sym (value-most m)
 is-move (Holds (OfferDraw c)) p = refl

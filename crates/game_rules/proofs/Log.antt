@@ -19,13 +19,14 @@ use Rattle.action.specs.declared.Stored.{Stored}
 use Rattle.action.specs.declared.Stored.the-variants.{Holds, Nothing}
 use Rattle.action.specs.Layout.{actionSize, movesHere, standsAlone, actionOf}
 use Rattle.actions.specs.Part.{actionAt, moveHeld, movesIn, lastAction}
+use Rattle.actions.proofs.Counting.{value-most}
 use Rattle.position.specs.Layout.{Position, positionAt}
 use Rattle.ending.specs.Ending.{resultOf, offerIn, resultAt, offerAt}
 use Rattle.game_rules.specs.Limits.{Limits}
 use Rattle.game_rules.specs.Rules.{current, actions, moves, lastMade, lastButOne, positionAfter, actionMade, result, offerStands, answer}
 use Rattle.game_rules.specs.Good.{callOf, callAt, historyOf, nextSound, sound}
 use Rattle.game_rules.proofs.Checks.{nothing-refused}
-use Rattle.game_rules.proofs.Decide.{value-most, is-move, next-made}
+use Rattle.game_rules.proofs.Decide.{is-move, next-made}
 
 -- whether an action is a move
 abbrev holdsMove : Stored → Bool

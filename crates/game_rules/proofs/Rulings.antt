@@ -14,6 +14,7 @@ use Rattle.action.specs.declared.Stored.{Stored}
 use Rattle.action.specs.declared.Stored.the-variants.{Holds, Nothing}
 use Rattle.action.specs.Layout.{actionSize}
 use Rattle.actions.specs.Part.{actionAt, moveHeld, movesIn}
+use Rattle.actions.proofs.Counting.{value-most}
 use Rattle.position.specs.Layout.{Position, positionSize, positionAt, positionsFrom}
 use Rattle.position.specs.Repeats.{equalsTwoEarlier}
 use Rattle.claim.specs.declared.Run.{Run}
@@ -21,7 +22,6 @@ use Rattle.claim.specs.Emptying.{emptiesCount, emptiesRun}
 use Rattle.claim.specs.Claim.{runAfter, runAt, claimIn, claimAt}
 use Rattle.game_rules.specs.Rules.{makeMove, Ruling, ruling, ruledCall, claimStands}
 use Rattle.game_rules.specs.Good.{callOf, callAt, historyOf}
-use Rattle.game_rules.proofs.Decide.{value-most}
 use Rattle.game_rules.proofs.Log.{current-at}
 
 -- a run is the ruling of a history that ends with position m

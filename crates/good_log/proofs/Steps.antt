@@ -23,12 +23,12 @@ use Rattle.action.specs.declared.Stored.the-variants.{Holds, Nothing}
 use Rattle.action.specs.Layout.{actionSize, actionBytes}
 use Rattle.action.proofs.ReadBack.{one-form}
 use Rattle.actions.specs.Part.{actionAt, moveHeld, movesIn, lastAction}
+use Rattle.actions.proofs.Counting.{value-most}
 use Rattle.position.specs.Layout.{Position, positionSize, side, positionAt}
 use Rattle.stored_position.specs.Bytes.{positionBytes, positionCheck, isPosition, listsMove}
 use Rattle.game_rules.specs.Limits.{Limits, limits}
 use Rattle.game_rules.specs.Rules.{Call, makeMove, History, moves, isMove, actionMade, result, ended, unless, firstRefusal, ownChecks, roomFor, answer}
 use Rattle.game_rules.specs.Good.{callOf, callAt, historyOf, positionHere, positionMade, wasMade, nextSound, sound}
-use Rattle.game_rules.proofs.Decide.{value-most}
 use Rattle.game_rules.proofs.Log.{actions-at, moves-at, made-back, Back, current-is, result-is, offer-is}
 use Rattle.game_rules.proofs.Checks.{nothing-refused}
 use Rattle.game_rules.proofs.Rulings.{claim-is}

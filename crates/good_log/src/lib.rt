@@ -94,7 +94,8 @@ fn move_fits(p: &[u8], m: u64, q: &[u8]) -> bool
     square::byte_at(q, SIDE_AT) != square::byte_at(p, SIDE_AT)
 }
 
-// Whether move `x` was accepted as the next one, with `k` made before it and `m` in all.
+// Whether move `x` was accepted as the next one, with `k` made before it and `m` in all. By `<=` and not `==`, so that the compiler sees that the position
+// after it lies in the part.
 fn move_is_sound(ps: &[u8], m: usize, k: usize, x: u64) -> bool
     requires { ⌜ (k ≤ m) × (m ≤ limits .most-moves) × (isPosition (item positionSize (now ps) k) ≡ true) × (x ≤ lastMove) ⌝ }
     ensures { λ r. ⌜ r ≡ ltb (moveStep (now (ps .entry)) m k x) notSound ⌝ }

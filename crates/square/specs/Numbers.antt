@@ -31,3 +31,7 @@ same (x ∷ xs) (y ∷ ys) = eqb x y && same xs ys
 unfoldable pub among : ℕ → List ℕ → Bool
 among n [] = false
 among n (x ∷ xs) = eqb x n || among n xs
+
+-- one of two tests holds
+abbrev pub either : Bool → Bool → Bool
+either a b = a || b

@@ -1,11 +1,10 @@
 // Answers, squares, colours and pieces as document 01 numbers them, after square.rs, rank.rs, file.rs, color.rs and piece.rs. And texts, written and
 // compared, for the crates above.
 ghost use mathlib.Core.Path.{_≡_};
-ghost use mathlib.Core.Bool.{_||_};
 ghost use Prim.Native.Nat.{_-_};
 ghost use lib.ListN.{length};
 ghost use Rattle.square.specs.Answer.{accepted, refused, writeAnswer, writeBytes};
-ghost use Rattle.square.specs.Numbers.{allAtMost, numberAt, same};
+ghost use Rattle.square.specs.Numbers.{allAtMost, numberAt, same, either};
 ghost use Rattle.square.specs.Square.{makeSquare, rankOf, fileOf, backRank, squareNamed, readSquare, squareText, squareCheck};
 ghost use Rattle.square.specs.Piece.{pieceOf, letterOf, kindOf};
 
@@ -239,7 +238,7 @@ pub fn byte_at(s: &[u8], i: usize) -> u8
 
 // Both are known when it is called: no branch, where `||` has one.
 pub fn either(a: bool, b: bool) -> bool
-    ensures { λ r. ⌜ r ≡ a || b ⌝ }
+    ensures { λ r. ⌜ r ≡ either a b ⌝ }
 {
     if a { true } else { b }
 }

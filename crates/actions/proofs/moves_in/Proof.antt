@@ -1,50 +1,91 @@
 use borrow.Author.Needs.{needs}
-use mathlib.Core.Path.{_≡_, sym, ap, _∙_}
+use mathlib.Core.Path.{_≡_, sym, ap₂, _∙_}
 use native.Mathlib.Omega.{arith}
-use Prim.Native.Nat.{_-_, _≤_, zero-le}
+use Prim.Native.Nat.{ℕ, _+_, _*_, _-_, _≤_, zero-le}
+use lib.ListN.{getD}
+use Rattle.chess_move.specs.Number.{ofBytes}
+use Rattle.action.specs.Layout.{actionSize}
 use Rattle.actions.specs.Part.{movesIn}
-use Rattle.actions.proofs.Counting.{none-made, one-more, no-more}
+use Rattle.actions.proofs.Counting.{none-made, count-turn, count-end, one-at-most}
 use Rattle.actions.proofs.moves_in.Statement.{statement}
 use Rattle.actions.proofs.moves_in.Tie as tie
 
 abbrev Inv-loop : tie.InvT-loop
-Inv-loop acts n k₀ i₀ k i = (i ≤ n) × (k ≤ i) × (k ≡ movesIn acts i)
+Inv-loop acts n stored k₀ i₀ k i = (i ≤ stored) × (k ≤ i) × (k ≡ movesIn acts i)
 
 abbrev μ-loop : tie.MeasureT-loop
-μ-loop acts n k₀ i₀ k i = n - i
+μ-loop acts n stored k₀ i₀ k i = stored - i
+
+smaller-requires : tie.Need-smaller-requires Inv-loop μ-loop
+smaller-requires c κs = search needs
 
 loop-holds : tie.Need-loop-holds Inv-loop μ-loop
-loop-holds c = (zero-le, zero-le, sym (none-made (c .before .args .acts .now)))
+loop-holds c = (zero-le, zero-le, sym (none-made (c .before .before .args .acts .now)))
 
-move-at-requires : tie.Need-move-at-requires Inv-loop μ-loop
-move-at-requires c κs = search needs
+mul-at : tie.Need-mul-at Inv-loop μ-loop
+mul-at c = omega (arith, c .loop-test .taken, c .before .before .smaller .ensures)
 
-add-i : tie.Need-add-i Inv-loop μ-loop
-add-i c = search needs
+shared-slice-read-one-if-move : tie.Need-shared-slice-read-one-if-move Inv-loop μ-loop
+shared-slice-read-one-if-move c = omega (arith, c .before .loop-test .taken, c .before .before .before .smaller .ensures)
+
+add-one-if-move : tie.Need-add-one-if-move Inv-loop μ-loop
+add-one-if-move c = omega (arith, c .before .loop-test .taken, c .before .before .before .smaller .ensures)
+
+shared-slice-read-one-if-move-2 : tie.Need-shared-slice-read-one-if-move-2 Inv-loop μ-loop
+shared-slice-read-one-if-move-2 c = omega (arith, c .before .before .loop-test .taken, c .before .before .before .before .smaller .ensures)
+
+add-one-if-move-2 : tie.Need-add-one-if-move-2 Inv-loop μ-loop
+add-one-if-move-2 c = omega (arith, c .before .before .loop-test .taken, c .before .before .before .before .smaller .ensures)
+
+shared-slice-read-one-if-move-3 : tie.Need-shared-slice-read-one-if-move-3 Inv-loop μ-loop
+shared-slice-read-one-if-move-3 c = omega (arith, c .before .before .before .loop-test .taken, c .before .before .before .before .before .smaller .ensures)
+
+cast-one-if-move : tie.Need-cast-one-if-move Inv-loop μ-loop
+cast-one-if-move c = omega (arith, c .shared-slice-known4 .given (actionSize * c .before .before .before .before .loop .i + 2))
+
+add-one-if-move-3 : tie.Need-add-one-if-move-3 Inv-loop μ-loop
+add-one-if-move-3 c = omega (arith, c .before .before .before .loop-test .taken, c .before .before .before .before .before .smaller .ensures)
+
+shared-slice-read-one-if-move-4 : tie.Need-shared-slice-read-one-if-move-4 Inv-loop μ-loop
+shared-slice-read-one-if-move-4 c = omega (arith, c .before .before .before .before .loop-test .taken, c .before .before .before .before .before .before .smaller .ensures)
+
+cast-one-if-move-2 : tie.Need-cast-one-if-move-2 Inv-loop μ-loop
+cast-one-if-move-2 c = omega (arith, c .shared-slice-known5 .given (actionSize * c .before .before .before .before .before .loop .i + 3))
+
+mul-one-if-move : tie.Need-mul-one-if-move Inv-loop μ-loop
+mul-one-if-move c = omega (arith, c .shared-slice-known5 .given (actionSize * c .before .before .before .before .before .loop .i + 3))
+
+add-one-if-move-4 : tie.Need-add-one-if-move-4 Inv-loop μ-loop
+add-one-if-move-4 c = omega (arith, c .before .shared-slice-known4 .given (actionSize * c .before .before .before .before .before .loop .i + 2), c .shared-slice-known5 .given (actionSize * c .before .before .before .before .before .loop .i + 3))
+
+one-if-move-requires : tie.Need-one-if-move-requires Inv-loop μ-loop
+one-if-move-requires c κs = search needs
 
 add-k : tie.Need-add-k Inv-loop μ-loop
-add-k c = search needs
+add-k c =
+    let acts = c .before .before .before .before .before .before .before .before .before .args .acts .now in
+    let at = actionSize * c .before .before .before .before .before .before .loop .i in
+    let one = one-at-most (getD acts at 0) (getD acts (at + 1) 0) (ofBytes (getD acts (at + 2) 0) (getD acts (at + 3) 0)) in
+    omega (arith, c .one-if-move .ensures, c .before .before .before .before .before .loop-test .taken, c .before .before .before .before .before .before .loop .inv .1)
+
+add-i : tie.Need-add-i Inv-loop μ-loop
+add-i c = omega (arith, c .before .before .before .before .before .loop-test .taken, c .before .before .before .before .before .before .before .smaller .ensures)
 
 loop-less : tie.Need-loop-less Inv-loop μ-loop
-loop-less c = search needs
+loop-less c = omega (arith, c .before .before .before .before .before .loop-test .taken, c .before .before .before .before .before .before .before .smaller .ensures)
 
 loop-again : tie.Need-loop-again Inv-loop μ-loop
-loop-again c = 
-    let more = one-more (c .before .before .before .before .before .args .acts .now) (c .before .before .before .loop .i) (c .before .move-at .result) (c .before .move-at .ensures) (c .if1 .taken) in
-    (omega arith, omega arith, omega (arith, c .before .before .before .loop .inv .2))
-
-loop-less-2 : tie.Need-loop-less-2 Inv-loop μ-loop
-loop-less-2 c = search needs
-
-loop-again-2 : tie.Need-loop-again-2 Inv-loop μ-loop
-loop-again-2 c = 
-    let same = no-more (c .before .before .before .before .before .args .acts .now) (c .before .before .before .loop .i) (c .before .move-at .result) (c .before .move-at .ensures) (c .if1 .left) in
-    (omega arith, omega arith, omega (arith, c .before .before .before .loop .inv .2))
+loop-again c =
+    let acts = c .before .before .before .before .before .before .before .before .before .args .acts .now in
+    let at = actionSize * c .before .before .before .before .before .before .loop .i in
+    let one = one-at-most (getD acts at 0) (getD acts (at + 1) 0) (ofBytes (getD acts (at + 2) 0) (getD acts (at + 3) 0)) in
+    let more = count-turn acts (c .before .before .before .before .before .before .loop .i) (omega (arith, c .before .before .before .before .before .loop-test .taken, c .before .before .before .before .before .before .before .smaller .ensures)) in
+    (omega (arith, c .before .before .before .before .before .loop-test .taken), omega (arith, c .one-if-move .ensures, c .before .before .before .before .before .before .loop .inv .1), ap₂ (λ (x y : ℕ). x + y) (c .before .before .before .before .before .before .loop .inv .2) (c .one-if-move .ensures) ∙ sym more)
 
 returns : tie.Need-returns Inv-loop μ-loop
-returns c = 
-    let e : c .before .loop .i ≡ c .before .before .before .args .n = omega arith in
-    c .before .loop .inv .2 ∙ ap (movesIn (c .before .before .before .args .acts .now)) e
+returns c =
+    let a = c .before .before .before .before .args in
+    c .before .loop .inv .2 ∙ count-end (a .acts .now) (a .n) (c .before .loop .i) (omega (arith, c .loop-test .left, c .before .before .smaller .ensures)) (omega (arith, c .before .loop .inv .0, c .before .before .smaller .ensures))
 
 pub moves-in-spec : {M : Type 1} → statement M
 moves-in-spec =
@@ -52,12 +93,23 @@ moves-in-spec =
     (tie.spec
     Inv-loop
     μ-loop
+    smaller-requires
     loop-holds
-    move-at-requires
-    add-i
+    mul-at
+    shared-slice-read-one-if-move
+    add-one-if-move
+    shared-slice-read-one-if-move-2
+    add-one-if-move-2
+    shared-slice-read-one-if-move-3
+    cast-one-if-move
+    add-one-if-move-3
+    shared-slice-read-one-if-move-4
+    cast-one-if-move-2
+    mul-one-if-move
+    add-one-if-move-4
+    one-if-move-requires
     add-k
+    add-i
     loop-less
     loop-again
-    loop-less-2
-    loop-again-2
     returns)

@@ -30,7 +30,7 @@ move-at-requires : tie.Need-move-at-requires Inv-loop μ-loop
 move-at-requires c κs = search needs
 
 sub-at : tie.Need-sub-at Inv-loop μ-loop
-sub-at c = 
+sub-at c =
     let acts = c .before .before .before .before .before .before .before .args .acts .now in
     let ps = c .before .before .before .before .before .before .before .args .ps .now in
     let k = c .before .before .before .loop .k in
@@ -56,7 +56,7 @@ is-known-requires : tie.Need-is-known-requires Inv-loop μ-loop
 is-known-requires c κs = search needs
 
 returns : tie.Need-returns Inv-loop μ-loop
-returns c = 
+returns c =
     let acts = c .before .before .before .before .before .before .before .before .before .before .before .before .before .args .acts .now in
     let ps = c .before .before .before .before .before .before .before .before .before .before .before .before .before .args .ps .now in
     let k = c .before .before .before .before .before .before .before .before .before .loop .k in
@@ -69,7 +69,7 @@ returns c =
     sym (back-known (c .before .before .run-before .result) (runAt acts ps j) known) ∙ back-turn acts ps j m (c .before .before .before .before .before .before .before .move-at .ensures) (c .before .before .before .before .before .before .if1 .taken) k counted (c .before .before .before .before .before .at .result .now) (c .before .before .before .before .at2 .result .now) (c .before .before .before .before .before .at .ensures) (c .before .before .before .before .at2 .ensures) (c .before .before .before .before .before .before .before .before .before .loop .r) (c .before .before .run-before .result) (c .before .before .before .run-after .result) (runAt acts ps (c .before .before .before .before .before .before .before .before .before .before .before .before .before .args .n)) (c .before .before .before .run-after .ensures) (c .before .before .run-before .ensures) was
 
 sub-k : tie.Need-sub-k Inv-loop μ-loop
-sub-k c = 
+sub-k c =
     let acts = c .before .before .before .before .before .before .before .before .before .before .before .before .before .args .acts .now in
     let ps = c .before .before .before .before .before .before .before .before .before .before .before .before .before .args .ps .now in
     let k = c .before .before .before .before .before .before .before .before .before .loop .k in
@@ -83,7 +83,7 @@ loop-less : tie.Need-loop-less Inv-loop μ-loop
 loop-less c = omega (arith, c .before .before .before .before .before .before .before .before .loop-test .taken)
 
 loop-again : tie.Need-loop-again Inv-loop μ-loop
-loop-again c = 
+loop-again c =
     let acts = c .before .before .before .before .before .before .before .before .before .before .before .before .before .args .acts .now in
     let ps = c .before .before .before .before .before .before .before .before .before .before .before .before .before .args .ps .now in
     let k = c .before .before .before .before .before .before .before .before .before .loop .k in
@@ -98,7 +98,7 @@ loop-less-2 : tie.Need-loop-less-2 Inv-loop μ-loop
 loop-less-2 c = omega (arith, c .before .before .loop-test .taken)
 
 loop-again-2 : tie.Need-loop-again-2 Inv-loop μ-loop
-loop-again-2 c = 
+loop-again-2 c =
     let acts = c .before .before .before .before .before .before .before .args .acts .now in
     let ps = c .before .before .before .before .before .before .before .args .ps .now in
     let k = c .before .before .before .loop .k in
@@ -110,7 +110,7 @@ loop-again-2 c =
     (counted ∙ no-more acts j m (c .before .move-at .ensures) (c .if1 .left), ap (runBefore (c .before .before .before .loop .r)) (sym (run-by-none acts ps j m (c .before .move-at .ensures) (c .if1 .left))) ∙ was)
 
 returns-2 : tie.Need-returns-2 Inv-loop μ-loop
-returns-2 c = 
+returns-2 c =
     let e : c .before .loop .i ≡ 0 = omega (arith, c .loop-test .left) in
     let acts = c .before .before .before .before .before .args .acts .now in
     let ps = c .before .before .before .before .before .args .ps .now in

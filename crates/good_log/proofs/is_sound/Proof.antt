@@ -13,7 +13,7 @@ by-last-action-requires : tie.Need-by-last-action-requires
 by-last-action-requires c κs = search needs
 
 returns : tie.Need-returns
-returns c = 
+returns c =
     let a = c .before .before .before .before .args in
     sym (unsound (a .acts .now) (a .ps .now) (a .m) (a .i) (a .k) (step-after-end (a .acts .now) (a .ps .now) (a .m) (a .i) (a .k) (λ e. c .if1 .taken (c .before .by-last-action .ensures ∙ e))))
 
@@ -24,7 +24,7 @@ move-is-sound-requires : tie.Need-move-is-sound-requires
 move-is-sound-requires c κs = (c .before .before .before .before .before .before .pre .0, c .before .before .before .before .before .before .pre .1, c .before .before .before .before .before .before .pre .3, c .if2 .taken)
 
 returns-2 : tie.Need-returns-2
-returns-2 c = 
+returns-2 c =
     let a = c .before .before .before .before .before .before .before .args in
     c .move-is-sound .ensures ∙ ap (λ (r : ℕ). ltb r notSound) (step-of-listed (a .acts .now) (a .ps .now) (a .m) (a .i) (a .k) (c .before .before .move-at .result) (c .before .before .move-at .ensures) (c .before .if2 .taken) (sym (c .before .before .before .before .by-last-action .ensures) ∙ c .before .before .before .if1 .left))
 
@@ -32,7 +32,7 @@ result-requires : tie.Need-result-requires
 result-requires c κs = search needs
 
 returns-3 : tie.Need-returns-3
-returns-3 c = 
+returns-3 c =
     let a = c .before .before .before .before .before .before .before .before .args in
     sym (unsound (a .acts .now) (a .ps .now) (a .m) (a .i) (a .k) (step-ended (a .acts .now) (a .ps .now) (a .m) (a .i) (a .k) (λ e. c .if3 .taken (c .before .result .ensures ∙ e))))
 
@@ -46,7 +46,7 @@ other-fits-requires : tie.Need-other-fits-requires
 other-fits-requires c κs = search needs
 
 returns-4 : tie.Need-returns-4
-returns-4 c = 
+returns-4 c =
     let a = c .before .before .before .before .before .before .before .before .before .before .args in
     c .other-fits .ensures
     ∙ ap (otherFits (a .acts .now) (a .ps .now) (a .i) (a .k)) (rw (add-one (a .i)) at (c .before .last .ensures))

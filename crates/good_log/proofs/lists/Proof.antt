@@ -32,7 +32,7 @@ in-block-requires : tie.Need-in-block-requires
 in-block-requires c κs = search needs
 
 returns-3 : tie.Need-returns-3
-returns-3 c = 
+returns-3 c =
     let a = c .before .before .before .before .before .args in
     let b : AllBytes (a .p .now) = λ i. c .before .before .before .before .shared-slice-known .given i .fits in
     c .in-block .ensures ∙ block-lists (a .m) (a .p .now) (omega (arith, c .before .if2 .left, c .before .before .byte-at .ensures)) (c .before .before .before .if1 .left) (position-unused (a .p .now) b (c .before .before .before .before .before .pre .0))

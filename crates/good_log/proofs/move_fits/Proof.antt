@@ -19,7 +19,7 @@ is-position-requires : tie.Need-is-position-requires
 is-position-requires c κs = search needs
 
 returns-2 : tie.Need-returns-2
-returns-2 c = 
+returns-2 c =
     let a = c .before .before .before .before .before .before .args in
     rw (sym (c .before .is-position .ensures) ∙ not-true (c .before .is-position .result) (c .if2 .taken)) (sym (and-false (listsMove (a .p .now) (a .m))))
 
@@ -30,7 +30,7 @@ byte-at-requires-2 : tie.Need-byte-at-requires-2
 byte-at-requires-2 c κs = search needs
 
 returns-3 : tie.Need-returns-3
-returns-3 c = 
+returns-3 c =
     let a = c .before .before .before .before .before .before .before .before .args in
     rw (sym (c .before .before .before .before .before .lists .ensures) ∙ not-false (c .before .before .before .before .before .lists .result) (c .before .before .before .before .if1 .left), sym (c .before .before .before .is-position .ensures) ∙ not-false (c .before .before .before .is-position .result) (c .before .before .if2 .left), side-at (a .p .now), side-at (a .q .now)) (ap₂ (λ (x y : ℕ). not (eqb x y)) (c .before .byte-at .ensures) (c .byte-at2 .ensures))
 

@@ -25,7 +25,7 @@ move-fits-requires : tie.Need-move-fits-requires
 move-fits-requires c κs = (ap isPosition (c .before .at .ensures) ∙ c .before .before .before .before .pre .2, c .before .before .before .before .pre .3)
 
 returns-2 : tie.Need-returns-2
-returns-2 c = 
+returns-2 c =
     let a = c .before .before .before .before .before .args in
     c .move-fits .ensures
     ∙ ap₂ (λ (p q : List ℕ). moveFits p (a .x) q) (c .before .before .at .ensures) (rw (add-one (a .k)) at (c .before .at2 .ensures))

@@ -33,7 +33,7 @@ all-at-most-requires : tie.Need-all-at-most-requires
 all-at-most-requires c κs = search needs
 
 returns-2 : tie.Need-returns-2
-returns-2 c = 
+returns-2 c =
     let a = c .before .before .before .before .before .args in
     c .all-at-most .ensures
     ∙ ap (allAtMost 0) (part-to-end (a .s .now) (movesAt + 2 * a .entries))

@@ -23,7 +23,7 @@ numbers-in-range-requires c κs = search needs
 
 returns-2 : tie.Need-returns-2
 unfolding positionOf
-returns-2 c = 
+returns-2 c =
     let s = c .before .before .before .before .before .args .s .now in
     let e : numbersInRange (take recordSize s) ≡ false = sym (c .before .numbers-in-range .ensures) ∙ not-true _ (c .if2 .taken) in
     sym (not-in-range s 4 (bad-board (positionOf s) e))
@@ -33,7 +33,7 @@ shared-slice-read-if3 c = search needs
 
 returns-3 : tie.Need-returns-3
 unfolding positionOf
-returns-3 c = 
+returns-3 c =
     let s = c .before .before .before .before .before .before .before .args .s .now in
     let e : numbersInRange (take recordSize s) ≡ true = sym (c .before .before .before .numbers-in-range .ensures) ∙ not-false _ (c .before .before .if2 .left) in
     sym (not-in-range s 4 (bad-check (positionOf s) e (omega (arith, c .if3 .taken))))
@@ -48,7 +48,7 @@ is-list-requires : tie.Need-is-list-requires
 is-list-requires c κs = (c .before .before .before .before .before .before .before .if1 .left, omega (arith, c .before .shared-slice-known3 .given lengthAt))
 
 returns-4 : tie.Need-returns-4
-returns-4 c = 
+returns-4 c =
     let s = c .before .before .before .before .before .before .before .before .before .before .args .s .now in
     let b : AllBytes s = λ i. c .before .before .before .before .shared-slice-known2 .given i .fits in
     let board : numbersInRange (take recordSize s) ≡ true = sym (c .before .before .before .before .before .before .numbers-in-range .ensures) ∙ not-false _ (c .before .before .before .before .before .if2 .left) in
@@ -58,7 +58,7 @@ is-short-list-requires : tie.Need-is-short-list-requires
 is-short-list-requires c κs = (c .before .before .before .before .before .before .before .if1 .left, omega (arith, c .if4 .left))
 
 returns-5 : tie.Need-returns-5
-returns-5 c = 
+returns-5 c =
     let s = c .before .before .before .before .before .before .before .before .before .before .args .s .now in
     let b : AllBytes s = λ i. c .before .before .before .before .shared-slice-known2 .given i .fits in
     let board : numbersInRange (take recordSize s) ≡ true = sym (c .before .before .before .before .before .before .numbers-in-range .ensures) ∙ not-false _ (c .before .before .before .before .before .if2 .left) in

@@ -38,7 +38,7 @@ all-at-most-requires : tie.Need-all-at-most-requires
 all-at-most-requires c κs = search needs
 
 returns : tie.Need-returns
-returns c = 
+returns c =
     let a = c .before .before .before .before .args in
     let s = a .s .now in
     let end = movesAt + 2 * a .entries in
@@ -58,7 +58,7 @@ all-at-most-requires-2 : tie.Need-all-at-most-requires-2
 all-at-most-requires-2 c κs = search needs
 
 returns-2 : tie.Need-returns-2
-returns-2 c = 
+returns-2 c =
     let a = c .before .before .before .before .before .before .before .args in
     let s = a .s .now in
     let end = movesAt + 2 * a .entries in
@@ -71,7 +71,7 @@ moves-in-range-requires : tie.Need-moves-in-range-requires
 moves-in-range-requires c κs = search needs
 
 returns-3 : tie.Need-returns-3
-returns-3 c = 
+returns-3 c =
     let a = c .before .before .before .before .before .before .before .before .args in
     let s = a .s .now in
     let end = movesAt + 2 * a .entries in
