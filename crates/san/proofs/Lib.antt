@@ -1,3 +1,9 @@
 pub mod Said
 pub mod Arrivals
 pub mod Counts
+pub mod OnePass
+pub mod UpToThree
+pub mod Shorts
+pub mod Soles
+pub mod Gathers
+pub mod Letters

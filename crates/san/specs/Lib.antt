@@ -1,1 +1,3 @@
 pub mod Fitting
+pub mod Short
+pub mod Gathered

@@ -5,6 +5,7 @@ use san_text::SanText;
 use square::Answer;
 use square::INVALID_SAN_MOVE;
 ghost use mathlib.Core.Path.{_≡_};
+ghost use mathlib.Core.Bool.{cond, _&&_, _||_};
 ghost use Prim.Native.Nat.{_<_, _^_};
 ghost use Rattle.san_text.specs.Resolve.{agrees, captureTest, castlingMove, castle};
 ghost use Rattle.san_text.specs.Form.{resolved};
@@ -28,18 +29,33 @@ fn narrow(x: u16) -> u8
     x as u8
 }
 
-// Whether the man on the entry's source is of the text's kind and stands where the text says.
-fn source_fits(pieces: &[u8; 64], t: San, m: u16) -> bool
+pub(crate) fn both(a: bool, b: bool) -> bool
+    ensures { λ r. ⌜ r ≡ a && b ⌝ }
+{
+    if a { b } else { false }
+}
+
+fn one_of(a: bool, b: bool) -> bool
+    ensures { λ r. ⌜ r ≡ a || b ⌝ }
+{
+    if a { true } else { b }
+}
+
+fn choose(first: bool, a: bool, b: bool) -> bool
+    ensures { λ r. ⌜ r ≡ cond first a b ⌝ }
+{
+    if first { a } else { b }
+}
+
+// Whether the man on the entry's source is of the text's kind and stands where the text says. No branch hangs on the three tests.
+pub(crate) fn source_fits(pieces: &[u8; 64], t: San, m: u16) -> bool
     ensures { λ r. ⌜ r ≡ sourceFits (now (pieces .entry)) t m ⌝ }
 {
     let source = narrow(m % 64);
-    if square::kind_of(pieces[source as usize]) != t.piece {
-        return false;
-    }
-    if !agrees(t.file, source % 8 + 1) {
-        return false;
-    }
-    agrees(t.rank, source / 8 + 1)
+    let kind = square::kind_of(pieces[source as usize]) == t.piece;
+    let file = agrees(t.file, source % 8 + 1);
+    let rank = agrees(t.rank, source / 8 + 1);
+    both(kind, both(file, rank))
 }
 
 // How many entries fit so far, and the first of them.
@@ -82,21 +98,15 @@ fn count_fits(pieces: &[u8; 64], t: San, moves: &[u16]) -> Fitting
 }
 
 // Without `x` the destination is empty; with `x` and without the mark it is occupied; with both it always passes.
-fn capture_test(pieces: &[u8; 64], t: San, m: u16) -> bool
+pub(crate) fn capture_test(pieces: &[u8; 64], t: San, m: u16) -> bool
     ensures { λ r. ⌜ r ≡ captureTest (now (pieces .entry)) t m ⌝ }
 {
     let dest = narrow(m / 64 % 64);
     let code = pieces[dest as usize];
-    if !t.takes {
-        return code == 0;
-    }
-    if t.mark {
-        return true;
-    }
-    code != 0
+    choose(t.takes, one_of(t.mark, code != 0), code == 0)
 }
 
-fn sole_move(pieces: &[u8; 64], t: San, moves: &[u16]) -> Answer
+pub(crate) fn sole_move(pieces: &[u8; 64], t: San, moves: &[u16]) -> Answer
     requires { ⌜ t .dest < 64 ⌝ }
     ensures { λ r. ⌜ r ≡ soleMove (now (pieces .entry)) t (now (moves .entry)) ⌝ }
 {

@@ -24,7 +24,7 @@ fn skip(there: bool, s: &[u8]) -> &[u8]
 }
 
 // 1 to 8 for the eight bytes after `base`.
-fn place_from(base: u8, b: u8) -> u8
+pub(crate) fn place_from(base: u8, b: u8) -> u8
     ensures { λ r. ⌜ r ≡ placeFrom base b ⌝ }
 {
     if b < base {
@@ -35,7 +35,7 @@ fn place_from(base: u8, b: u8) -> u8
 }
 
 // The square of the places of a file and a rank, and 1.
-fn square_at(file: u8, rank: u8) -> u8
+pub(crate) fn square_at(file: u8, rank: u8) -> u8
     requires { ⌜ file ≤ 8 ⌝ }
     requires { ⌜ rank ≤ 8 ⌝ }
     ensures { λ r. ⌜ r ≡ squareAt file rank ⌝ }
@@ -61,10 +61,46 @@ fn promotion_kind(b: u8) -> u8
     }
 }
 
-fn piece_kind(b: u8) -> u8
+// By the letter's place in the alphabet, from a table, since a decision would be a branch that games mispredict.
+pub(crate) fn piece_kind(b: u8) -> u8
     ensures { λ r. ⌜ r ≡ pieceKind b ⌝ }
 {
-    if b == b'K' { 6 } else { promotion_kind(b) }
+    let kinds: [u8; 32] = [
+        0,
+        0,
+        3,
+        0,
+        0,
+        0,
+        0,
+        0,
+        0,
+        0,
+        0,
+        6,
+        0,
+        0,
+        2,
+        0,
+        0,
+        5,
+        4,
+        0,
+        0,
+        0,
+        0,
+        0,
+        0,
+        0,
+        0,
+        0,
+        0,
+        0,
+        0,
+        0,
+    ];
+    let kind = kinds[(b % 32) as usize];
+    if b / 32 == 2 { kind } else { 0 }
 }
 
 fn is_check(b: u8) -> bool

@@ -1,7 +1,8 @@
 use borrow.Author.Needs.{needs}
+use native.Mathlib.Omega.{arith}
 use borrow.Author.Tests.{not-true, not-false}
-use Rattle.san_text.specs.Form.{readAnswer}
-use Rattle.san.proofs.Said.{said-text}
+use Rattle.san_text.specs.Form.{readAnswer, resolved}
+use Rattle.san.proofs.Gathers.{long-list}
 use Rattle.san.proofs.from_san.Statement.{statement}
 use Rattle.san.proofs.from_san.Tie as tie
 
@@ -15,25 +16,32 @@ returns : tie.Need-returns
 unfolding readAnswer
 returns c = simp (← c .before .before .in-range .ensures, not-true (c .before .before .in-range .result) (c .before .if1 .taken), c .refused .ensures)
 
-in-range-requires-2 : tie.Need-in-range-requires-2
-in-range-requires-2 c κs = search needs
-
 refused-requires-2 : tie.Need-refused-requires-2
 refused-requires-2 c κs = search needs
 
 returns-2 : tie.Need-returns-2
 unfolding readAnswer
-returns-2 c = simp (← c .before .before .before .before .in-range .ensures, not-false (c .before .before .before .before .in-range .result) (c .before .before .before .if1 .left), ← c .before .before .in-range2 .ensures, not-true (c .before .before .in-range2 .result) (c .before .if2 .taken), c .refused2 .ensures)
+returns-2 c = simp (← c .before .before .before .in-range .ensures, not-false (c .before .before .before .in-range .result) (c .before .before .if1 .left), long-list (c .before .before .before .before .before .before .args .moves .now) (c .before .if2 .taken), c .refused2 .ensures)
 
-read-text-requires : tie.Need-read-text-requires
-read-text-requires c κs = search needs
+read-short-requires : tie.Need-read-short-requires
+read-short-requires c κs = search needs
 
-resolve-requires : tie.Need-resolve-requires
-resolve-requires c κs = rw (c .read-text .ensures) (said-text (c .before .before .before .before .before .before .before .args .text .now))
+read-long-requires : tie.Need-read-long-requires
+read-long-requires c κs = search needs
 
 returns-3 : tie.Need-returns-3
 unfolding readAnswer
-returns-3 c = simp (← c .before .before .before .before .before .in-range .ensures, not-false (c .before .before .before .before .before .in-range .result) (c .before .before .before .before .if1 .left), ← c .before .before .before .in-range2 .ensures, not-false (c .before .before .before .in-range2 .result) (c .before .before .if2 .left), c .resolve .ensures, c .before .read-text .ensures)
+returns-3 c = simp (← c .before .before .before .before .before .before .in-range .ensures, not-false (c .before .before .before .before .before .before .in-range .result) (c .before .before .before .before .before .if1 .left), c .read-long .ensures)
+
+said-by-requires : tie.Need-said-by-requires
+said-by-requires c κs = search needs
+
+sole-arrival-requires : tie.Need-sole-arrival-requires
+sole-arrival-requires c κs = rw (c .said-by .ensures) (omega (arith, c .before .before .before .before .before .read-short .ensures .on-board))
+
+returns-4 : tie.Need-returns-4
+unfolding readAnswer resolved
+returns-4 c = simp (← c .before .before .before .before .before .before .before .before .before .in-range .ensures, not-false (c .before .before .before .before .before .before .before .before .before .in-range .result) (c .before .before .before .before .before .before .before .before .if1 .left), c .before .before .before .before .before .before .read-short .ensures .said (c .before .before .before .before .if3 .left), c .sole-arrival .ensures, c .before .said-by .ensures)
 
 pub from-san-spec : {M : Type 1} → statement M
 from-san-spec =
@@ -42,9 +50,11 @@ from-san-spec =
     in-range-requires
     refused-requires
     returns
-    in-range-requires-2
     refused-requires-2
     returns-2
-    read-text-requires
-    resolve-requires
-    returns-3)
+    read-short-requires
+    read-long-requires
+    returns-3
+    said-by-requires
+    sole-arrival-requires
+    returns-4)

@@ -1,0 +1,136 @@
+// Reads the commonest texts by their length: a square, with at most two bytes before it and nothing behind it. Such a text needs no reading from left to
+// right, and so few branches; any other is left to text.rt.
+use crate::text::piece_kind;
+use crate::text::place_from;
+use crate::text::square_at;
+ghost use mathlib.Core.Path.{_≡_};
+ghost use mathlib.Core.List.{[], _∷_};
+ghost use Prim.Native.Nat.{_≤_};
+ghost use lib.ListN.{length};
+ghost use Rattle.san_text.specs.Place.{filePlace, rankPlace, squareAt};
+ghost use Rattle.san.specs.Short.{Told};
+
+// What such a text says. Its square counts from 1; 0 tells nothing of the text.
+pub struct Short {
+    pub piece: u8,
+    pub file: u8,
+    pub rank: u8,
+    pub takes: bool,
+    pub square: u8,
+}
+
+fn square_of(a: u8, b: u8) -> u8
+    ensures { λ r. ⌜ r ≡ squareAt (filePlace a) (rankPlace b) ⌝ }
+{
+    square_at(place_from(96, a), place_from(48, b))
+}
+
+fn nothing() -> Short
+    ensures { λ r. ⌜ r .square ≡ 0 ⌝ }
+{
+    Short {
+        piece: 1,
+        file: 0,
+        rank: 0,
+        takes: false,
+        square: 0,
+    }
+}
+
+// A pawn's square, as `e4`.
+fn read_two(a: u8, b: u8) -> Short
+    ensures { λ r. ⌜ Told (a ∷ b ∷ []) r ⌝ }
+{
+    Short {
+        piece: 1,
+        file: 0,
+        rank: 0,
+        takes: false,
+        square: square_of(a, b),
+    }
+}
+
+// A letter and a square, as `Nc3`.
+fn read_three(a: u8, b: u8, c: u8) -> Short
+    ensures { λ r. ⌜ Told (a ∷ b ∷ c ∷ []) r ⌝ }
+{
+    let piece = piece_kind(a);
+    if piece == 0 {
+        return nothing();
+    }
+    Short {
+        piece,
+        file: 0,
+        rank: 0,
+        takes: false,
+        square: square_of(b, c),
+    }
+}
+
+// A pawn's file, `x` and a square, as `exd5`.
+fn pawn_takes(a: u8, b: u8, c: u8, d: u8) -> Short
+    ensures { λ r. ⌜ Told (a ∷ b ∷ c ∷ d ∷ []) r ⌝ }
+{
+    let file = place_from(96, a);
+    if file == 0 {
+        return nothing();
+    }
+    if b != b'x' {
+        return nothing();
+    }
+    Short {
+        piece: 1,
+        file,
+        rank: 0,
+        takes: true,
+        square: square_of(c, d),
+    }
+}
+
+// A letter, then `x`, a file or a rank, and a square, as `Nxc3`, `Nbc3`, `N1c3`.
+fn read_four(a: u8, b: u8, c: u8, d: u8) -> Short
+    ensures { λ r. ⌜ Told (a ∷ b ∷ c ∷ d ∷ []) r ⌝ }
+{
+    let piece = piece_kind(a);
+    if piece == 0 {
+        return pawn_takes(a, b, c, d);
+    }
+    let square = square_of(c, d);
+    if b == b'x' {
+        return Short {
+            piece,
+            file: 0,
+            rank: 0,
+            takes: true,
+            square,
+        };
+    }
+    let file = place_from(96, b);
+    let rank = place_from(48, b);
+    if file + rank == 0 {
+        return nothing();
+    }
+    Short {
+        piece,
+        file,
+        rank,
+        takes: false,
+        square,
+    }
+}
+
+pub(crate) fn read_short(s: &[u8]) -> Short
+    ensures { λ r. ⌜ Told (now (s .entry)) r ⌝ }
+{
+    let n = s.len();
+    if n == 3 {
+        return read_three(s[0], s[1], s[2]);
+    }
+    if n == 4 {
+        return read_four(s[0], s[1], s[2], s[3]);
+    }
+    if n == 2 {
+        return read_two(s[0], s[1]);
+    }
+    nothing()
+}
