@@ -1,13 +1,13 @@
 -- What the pass has gathered, and the answer that it gives for up to three arrivals; and the range of a list by its largest entry.
 -- Assumes nothing.
 use Prim.Native.Nat.{ℕ, _+_, _-_, _≤_, _<_}
-use mathlib.Core.Path.{_≡_, sym, _∙_}
-use mathlib.Core.Bool.{Bool, true, false, cond}
+use mathlib.Core.Path.{subst, _≡_, sym, _∙_}
+use mathlib.Core.Bool.{Bool, true, false, cond, _&&_}
 use mathlib.Core.List.{List}
 use native.Mathlib.Omega.{arith}
-use lib.Dec.{eqb}
+use lib.Dec.{eqb, ltb}
 use lib.ListN.{length}
-use borrow.Author.Tests.{le-leb, lt-leb}
+use borrow.Author.Tests.{le-leb, lt-leb, le-ltb, eq-eqb, ne-eqb}
 use Rattle.square.specs.Numbers.{largest}
 use Rattle.square.proofs.Maxima.{max-none, largest-at-most}
 use Rattle.move_list.specs.MoveList.{listInRange}
@@ -64,6 +64,39 @@ three-answer pieces t l g y hd hp k h e = rw (e, k .count-is, k .sum-is, k .larg
 
     same : Same (sourceFits pieces t) (sources (t .dest) l) (highest 0 (sources (t .dest) l)) (low (sources (t .dest) l)) (others (sources (t .dest) l) - low (sources (t .dest) l))
     same = same-sources (sourceFits pieces t) (sources (t .dest) l) few (sources-most (t .dest) l)
+
+-- of at most two arrivals there is no third source
+pub two-answer : (pieces : List ℕ) (t : San) (l : List ℕ) (g : Gathered) → t .dest < 64 → t .promotion ≡ 0 → Gathers (t .dest) l g → g .count ≤ 2 → soleFrom pieces t (passing (sourceFits pieces t) (g .count) (g .largest) (g .sum - g .largest) 0) (passed (sourceFits pieces t) (g .count) (g .largest) (g .sum - g .largest) 0) ≡ soleMove pieces t l
+two-answer pieces t l g hd hp k h =
+    subst (λ (z : ℕ). soleFrom pieces t (passing (sourceFits pieces t) (g .count) (g .largest) (g .sum - g .largest) z) (passed (sourceFits pieces t) (g .count) (g .largest) (g .sum - g .largest) z) ≡ soleMove pieces t l)
+    (none (g .sum - g .largest))
+    (three-answer pieces t l g (g .sum - g .largest) hd hp k (omega arith) (low-is (t .dest) l g k (g .sum - g .largest) (rw (ne-eqb (g .count) 3 fewer))))
+  where
+    none : (y : ℕ) → y - y ≡ 0
+    none y = omega arith
+
+    fewer : g .count ≡ 3 → ⊥
+    fewer e = omega arith
+
+-- of three the least source is looked up
+pub exact-answer : (pieces : List ℕ) (t : San) (l : List ℕ) (g : Gathered) (y : ℕ) → t .dest < 64 → t .promotion ≡ 0 → Gathers (t .dest) l g → g .count ≡ 3 → y ≡ leastSource (t .dest) 64 l → soleFrom pieces t (passing (sourceFits pieces t) 3 (g .largest) y (g .sum - g .largest - y)) (passed (sourceFits pieces t) 3 (g .largest) y (g .sum - g .largest - y)) ≡ soleMove pieces t l
+exact-answer pieces t l g y hd hp k e ey =
+    subst (λ (n : ℕ). soleFrom pieces t (passing (sourceFits pieces t) n (g .largest) y (g .sum - g .largest - y)) (passed (sourceFits pieces t) n (g .largest) y (g .sum - g .largest - y)) ≡ soleMove pieces t l)
+    e
+    (three-answer pieces t l g y hd hp k (omega arith) (low-is (t .dest) l g k y (rw (eq-eqb (g .count) 3 e) ey)))
+
+pub least-in-others : (want : ℕ) (l : List ℕ) (g : Gathered) → Gathers want l g → (y : ℕ) → g .count ≡ 3 → y ≡ leastSource want 64 l → y ≤ g .sum - g .largest
+least-in-others want l g k y e ey = low-in-others want l g k y (omega arith) (rw (eq-eqb (g .count) 3 e) ey)
+
+-- two sources, and no third
+pub passing-two : (f : ℕ → Bool) (n x y p q : ℕ) → n ≤ 2 → numberIf (ltb 0 n && f x) 1 ≡ p → numberIf (ltb 1 n && f y) 1 ≡ q → passing f n x y 0 ≡ p + q
+passing-two f n x y p q h ep eq = rw (le-ltb 2 n h, ep, eq) (omega arith)
+
+pub passed-two : (f : ℕ → Bool) (n x y p q : ℕ) → n ≤ 2 → numberIf (ltb 0 n && f x) x ≡ p → numberIf (ltb 1 n && f y) y ≡ q → passed f n x y 0 ≡ p + q
+passed-two f n x y p q h ep eq = rw (le-ltb 2 n h, ep, eq) (omega arith)
+
+pub same-sole : (pieces : List ℕ) (t : San) (k s fit source : ℕ) → k ≡ fit → s ≡ source → soleFrom pieces t k s ≡ soleFrom pieces t fit source
+same-sole pieces t k s fit source ek es = rw (ek, es)
 
 -- ---- the range of a list
 

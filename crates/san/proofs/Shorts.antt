@@ -1,18 +1,18 @@
 -- The commonest texts, read from left to right: what stands before a square at the end is what the text says of the source.
 -- Assumes nothing.
-use Prim.Native.Nat.{ℕ, _+_, _-_, _≤_, _<_}
+use Prim.Native.Nat.{ℕ, _+_, _*_, _-_, _≤_, _<_}
 use mathlib.Core.Path.{_≡_, refl, sym, ap, _∙_}
 use mathlib.Core.Bool.{Bool, true, false, cond}
 use mathlib.Core.List.{List, [], _∷_}
 use native.Mathlib.Omega.{arith}
 use lib.Dec.{eqb, leb}
-use borrow.Author.Tests.{ne-eqb, eqb-true, eqb-false, leb-true}
+use borrow.Author.Tests.{ne-eqb, eqb-true, eqb-false, le-leb, leb-true}
 use Rattle.square.specs.Numbers.{same}
 use Rattle.san_text.specs.declared.SanText.{SanText}
 use Rattle.san_text.specs.declared.SanText.the-variants.{Move}
 use Rattle.san_text.specs.Place.{placeFrom, filePlace, rankPlace, squareAt}
 use Rattle.san_text.specs.Text.{promotionKind, pieceKind, isCheck, after, pieceOr, readEnd, readPromotion, readDest, readTakes, readRank, readFile, readPiece, readText}
-use Rattle.san_text.proofs.Places.{place-most, square-most}
+use Rattle.san_text.proofs.Places.{square-of-places, place-most, square-most}
 use Rattle.san.specs.declared.short.Short.{Short}
 use Rattle.san.specs.Short.{Told}
 
@@ -52,6 +52,47 @@ square-rank f r n e = n (rw e (go (eqb f 0)))
 no-square : squareAt (filePlace 0) (rankPlace 0) ≡ 0
 unfolding placeFrom squareAt
 no-square = refl
+
+-- the square of two bytes, each by its range
+place-here : (base b : ℕ) → b ≤ base + 8 → placeFrom base b ≡ b - base
+unfolding placeFrom
+place-here base b h = rw (le-leb (b - base) 8 (omega arith))
+
+place-low : (base b : ℕ) → b ≤ base → placeFrom base b ≡ 0
+unfolding placeFrom
+place-low base b h =
+    let z : b - base ≡ 0 = omega arith in
+    rw z
+
+pub square-here : (a b : ℕ) → 97 ≤ a → a < 105 → 49 ≤ b → b < 57 → (b - 49) * 8 + (a - 97) + 1 ≡ squareAt (filePlace a) (rankPlace b)
+square-here a b ha ka hb kb =
+    let f : a - 96 ≡ a - 97 + 1 = omega arith in
+    let r : b - 48 ≡ b - 49 + 1 = omega arith in
+    rw (place-here 96 a (omega arith), place-here 48 b (omega arith), f, r) (sym (square-of-places (a - 97) (b - 49)))
+
+no-file : (f r : ℕ) → f ≡ 0 → 0 ≡ squareAt f r
+unfolding squareAt
+no-file f r e = rw e
+
+no-rank : (f r : ℕ) → r ≡ 0 → 0 ≡ squareAt f r
+unfolding squareAt
+no-rank f r e = rw e (go (eqb f 0))
+  where
+    go : (t : Bool) → _≡_ {A = ℕ} 0 (cond t 0 0)
+    go true = refl
+    go false = refl
+
+pub file-low : (a b : ℕ) → a < 97 → 0 ≡ squareAt (filePlace a) (rankPlace b)
+file-low a b h = no-file (filePlace a) (rankPlace b) (place-low 96 a (omega arith))
+
+pub file-past : (a b : ℕ) → 105 ≤ a → 0 ≡ squareAt (filePlace a) (rankPlace b)
+file-past a b h = no-file (filePlace a) (rankPlace b) (place-past 96 a (omega arith))
+
+pub rank-low : (a b : ℕ) → b < 49 → 0 ≡ squareAt (filePlace a) (rankPlace b)
+rank-low a b h = no-rank (filePlace a) (rankPlace b) (place-low 48 b (omega arith))
+
+pub rank-past : (a b : ℕ) → 57 ≤ b → 0 ≡ squareAt (filePlace a) (rankPlace b)
+rank-past a b h = no-rank (filePlace a) (rankPlace b) (place-past 48 b (omega arith))
 
 -- no file has a letter's byte
 file-kind : (b : ℕ) → 96 < b → pieceKind b ≡ 0

@@ -6,10 +6,9 @@ use mathlib.Core.Bool.{Bool, true, false, cond}
 use mathlib.Core.List.{List, [], _∷_}
 use native.Mathlib.Omega.{arith}
 use lib.Dec.{eqb}
-use borrow.Author.Tests.{eq-eqb, eqb-true, eqb-false}
+use borrow.Author.Tests.{eqb-true, eqb-false}
 use Rattle.chess_move.specs.Number.{destOf}
 use Rattle.move_list.specs.MoveList.{count, firstOf}
-use Rattle.square.specs.Answer.{accepted}
 use Rattle.san_text.specs.declared.San.{San}
 use Rattle.san_text.specs.Resolve.{fits, captureTest, soleThat}
 use Rattle.san.specs.Fitting.{sourceFits, soleMove}
@@ -96,8 +95,3 @@ module _ (pieces : List ℕ) (t : San) (hd : t .dest < 64) (hp : t .promotion �
           let test = capture-here (firstOf (fits pieces t) l) (first-dest l some) in
           rw (all, e, test, first)
       go false e = rw (all, e)
-
--- the answer where one alone fits and the capture test passes
-pub sole-accepted : (pieces : List ℕ) (t : San) (k s fit source : ℕ) → k ≡ fit → s ≡ source → fit ≡ 1 → captureTest pieces t (t .dest * 64) ≡ true → soleFrom pieces t k s ≡ accepted (t .dest * 64 + source)
-unfolding soleFrom
-sole-accepted pieces t k s fit source ek es one test = rw (ek, es, eq-eqb fit 1 one, test)

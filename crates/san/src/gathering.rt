@@ -1,5 +1,6 @@
 // Which move of a list a short text names. One pass over the list, with no branch on an entry, so that many entries are taken at a time; the board is asked
 // only for the sources of up to three arrivals.
+use crate::resolve;
 use crate::resolve::both;
 use crate::resolve::capture_test;
 use crate::resolve::source_fits;
@@ -94,35 +95,45 @@ fn least_source(moves: &[u16], want: u16) -> u16
     least
 }
 
-// Of three arrivals the least source; of fewer, what the largest leaves of the sum.
-fn low_source(moves: &[u16], want: u16, count: u16, others: u16) -> u16
-    ensures { λ r. ⌜ r ≡ cond (eqb count 3) (leastSource want 64 (now (moves .entry))) others ⌝ }
+// The answer by how many arrivals fit and, where one alone does, its source.
+fn sole_source(pieces: &[u8; 64], t: San, fit: u16, source: u16) -> Answer
+    ensures { λ r. ⌜ r ≡ soleFrom (now (pieces .entry)) t fit source ⌝ }
 {
-    if count == 3 {
-        return least_source(moves, want);
-    }
-    others
-}
-
-// Asks the board for as many of three sources as there are, without a branch, and answers the one that fits alone.
-fn sole_of_three(pieces: &[u8; 64], t: San, n: u16, x: u16, y: u16, z: u16) -> Answer
-    requires { ⌜ t .dest < 64 ⌝ }
-    requires { ⌜ x ≤ 16065 ⌝ }
-    requires { ⌜ y ≤ 16065 ⌝ }
-    requires { ⌜ z ≤ 16065 ⌝ }
-    ensures { λ r. ⌜ r ≡ soleFrom (now (pieces .entry)) t (passing (sourceFits (now (pieces .entry)) t) n x y z) (passed (sourceFits (now (pieces .entry)) t) n x y z) ⌝ }
-{
-    let first = both(0 < n, source_fits(pieces, t, x));
-    let second = both(1 < n, source_fits(pieces, t, y));
-    let third = both(2 < n, source_fits(pieces, t, z));
-    if number_if(first, 1) + number_if(second, 1) + number_if(third, 1) != 1 {
+    if fit != 1 {
         return square::refused(INVALID_SAN_MOVE);
     }
     if !capture_test(pieces, t, t.dest as u16 * 64) {
         return square::refused(INVALID_SAN_MOVE);
     }
-    let source = number_if(first, x) + number_if(second, y) + number_if(third, z);
     square::accepted(t.dest as u64 * 64 + source as u64)
+}
+
+// Asks the board for as many of two sources as there are, without a branch.
+fn sole_of_two(pieces: &[u8; 64], t: San, n: u16, x: u16, y: u16) -> Answer
+    requires { ⌜ n ≤ 2 ⌝ }
+    requires { ⌜ x ≤ 16065 ⌝ }
+    requires { ⌜ y ≤ 16065 ⌝ }
+    ensures { λ r. ⌜ r ≡ soleFrom (now (pieces .entry)) t (passing (sourceFits (now (pieces .entry)) t) n x y 0) (passed (sourceFits (now (pieces .entry)) t) n x y 0) ⌝ }
+{
+    let first = both(0 < n, source_fits(pieces, t, x));
+    let second = both(1 < n, source_fits(pieces, t, y));
+    let fit = number_if(first, 1) + number_if(second, 1);
+    let source = number_if(first, x) + number_if(second, y);
+    sole_source(pieces, t, fit, source)
+}
+
+fn sole_of_three(pieces: &[u8; 64], t: San, x: u16, y: u16, z: u16) -> Answer
+    requires { ⌜ x ≤ 16065 ⌝ }
+    requires { ⌜ y ≤ 16065 ⌝ }
+    requires { ⌜ z ≤ 16065 ⌝ }
+    ensures { λ r. ⌜ r ≡ soleFrom (now (pieces .entry)) t (passing (sourceFits (now (pieces .entry)) t) 3 x y z) (passed (sourceFits (now (pieces .entry)) t) 3 x y z) ⌝ }
+{
+    let first = source_fits(pieces, t, x);
+    let second = source_fits(pieces, t, y);
+    let third = source_fits(pieces, t, z);
+    let fit = number_if(first, 1) + number_if(second, 1) + number_if(third, 1);
+    let source = number_if(first, x) + number_if(second, y) + number_if(third, z);
+    sole_source(pieces, t, fit, source)
 }
 
 // Checks 6, then 4. More than three arrivals are rare and left to the loop of resolve.rt.
@@ -137,10 +148,13 @@ pub(crate) fn sole_arrival(pieces: &[u8; 64], t: San, moves: &[u16]) -> Answer
     if chess_move::LAST_MOVE < g.most as u64 {
         return square::refused(BAD_LIST);
     }
-    if 3 < g.count {
-        return crate::resolve::sole_move(pieces, t, moves);
-    }
     let others = g.sum - g.largest;
-    let low = low_source(moves, want, g.count, others);
-    sole_of_three(pieces, t, g.count, g.largest, low, others - low)
+    if g.count <= 2 {
+        return sole_of_two(pieces, t, g.count, g.largest, others);
+    }
+    if g.count == 3 {
+        let low = least_source(moves, want);
+        return sole_of_three(pieces, t, g.largest, low, others - low);
+    }
+    resolve::sole_move(pieces, t, moves)
 }

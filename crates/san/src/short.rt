@@ -2,7 +2,6 @@
 // right, and so few branches; any other is left to text.rt.
 use crate::text::piece_kind;
 use crate::text::place_from;
-use crate::text::square_at;
 ghost use mathlib.Core.Path.{_≡_};
 ghost use mathlib.Core.List.{[], _∷_};
 ghost use Prim.Native.Nat.{_≤_};
@@ -19,10 +18,17 @@ pub struct Short {
     pub square: u8,
 }
 
+// The square of two bytes, counted from 1, and 0 if they are none.
 fn square_of(a: u8, b: u8) -> u8
     ensures { λ r. ⌜ r ≡ squareAt (filePlace a) (rankPlace b) ⌝ }
 {
-    square_at(place_from(96, a), place_from(48, b))
+    match a {
+        b'a'..=b'h' => match b {
+            b'1'..=b'8' => (b - b'1') * 8 + (a - b'a') + 1,
+            _ => 0,
+        },
+        _ => 0,
+    }
 }
 
 fn nothing() -> Short

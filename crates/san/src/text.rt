@@ -35,7 +35,7 @@ pub(crate) fn place_from(base: u8, b: u8) -> u8
 }
 
 // The square of the places of a file and a rank, and 1.
-pub(crate) fn square_at(file: u8, rank: u8) -> u8
+fn square_at(file: u8, rank: u8) -> u8
     requires { ⌜ file ≤ 8 ⌝ }
     requires { ⌜ rank ≤ 8 ⌝ }
     ensures { λ r. ⌜ r ≡ squareAt file rank ⌝ }
@@ -61,44 +61,16 @@ fn promotion_kind(b: u8) -> u8
     }
 }
 
-// By the letter's place in the alphabet, from a table, since a decision would be a branch that games mispredict.
+// From a table by the letter's place in the alphabet, since a decision would be a branch that games mispredict.
 pub(crate) fn piece_kind(b: u8) -> u8
     ensures { λ r. ⌜ r ≡ pieceKind b ⌝ }
 {
-    let kinds: [u8; 32] = [
-        0,
-        0,
-        3,
-        0,
-        0,
-        0,
-        0,
-        0,
-        0,
-        0,
-        0,
-        6,
-        0,
-        0,
-        2,
-        0,
-        0,
-        5,
-        4,
-        0,
-        0,
-        0,
-        0,
-        0,
-        0,
-        0,
-        0,
-        0,
-        0,
-        0,
-        0,
-        0,
-    ];
+    let mut kinds = [0u8; 32];
+    kinds[(b'N' % 32) as usize] = 2;
+    kinds[(b'B' % 32) as usize] = 3;
+    kinds[(b'R' % 32) as usize] = 4;
+    kinds[(b'Q' % 32) as usize] = 5;
+    kinds[(b'K' % 32) as usize] = 6;
     let kind = kinds[(b % 32) as usize];
     if b / 32 == 2 { kind } else { 0 }
 }

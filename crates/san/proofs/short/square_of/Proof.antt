@@ -1,21 +1,33 @@
 use borrow.Author.Needs.{needs}
-use native.Mathlib.Omega.{arith}
-use Rattle.san_text.proofs.Places.{place-most}
+use Rattle.san.proofs.Shorts.{square-here, file-low, file-past, rank-low, rank-past}
 use Rattle.san.proofs.short.square_of.Statement.{statement}
 use Rattle.san.proofs.short.square_of.Tie as tie
 
-place-from-requires : tie.Need-place-from-requires
-place-from-requires c κs = search needs
+mul-result : tie.Need-mul-result
+mul-result c = search needs
 
-place-from-requires-2 : tie.Need-place-from-requires-2
-place-from-requires-2 c κs = search needs
+add-result : tie.Need-add-result
+add-result c = search needs
 
-square-at-requires : tie.Need-square-at-requires
-square-at-requires c κs = omega (arith, c .before .place-from .ensures, place-most 96 (c .before .before .args .a), c .place-from2 .ensures, place-most 48 (c .before .before .args .b))
+add-result-2 : tie.Need-add-result-2
+add-result-2 c = search needs
 
 returns : tie.Need-returns
-returns c = simp (c .square-at .ensures, c .before .before .place-from .ensures, c .before .place-from2 .ensures)
+returns c = square-here (c .before .before .before .before .args .a) (c .before .before .before .before .args .b) (c .before .before .before .if1 .left) (c .before .before .if2 .taken) (c .before .if3 .left) (c .if4 .taken)
+
+returns-2 : tie.Need-returns-2
+returns-2 c = rank-low (c .before .before .before .args .a) (c .before .before .before .args .b) (c .if3 .taken)
+
+returns-3 : tie.Need-returns-3
+returns-3 c = rank-past (c .before .before .before .before .args .a) (c .before .before .before .before .args .b) (c .if4 .left)
+
+returns-4 : tie.Need-returns-4
+returns-4 c = file-low (c .before .args .a) (c .before .args .b) (c .if1 .taken)
+
+returns-5 : tie.Need-returns-5
+returns-5 c = file-past (c .before .before .args .a) (c .before .before .args .b) (c .if2 .left)
 
 pub square-of-spec : {M : Type 1} → statement M
 square-of-spec =
-    tie.close (tie.spec place-from-requires place-from-requires-2 square-at-requires returns)
+    tie.close
+    (tie.spec mul-result add-result add-result-2 returns returns-2 returns-3 returns-4 returns-5)
