@@ -45,7 +45,7 @@ listsMove s m = eqb (length s) positionSize && among m (positionOf s .moves)
 
 -- entries that are looked at together, whether used or not, where the list is shorter
 abbrev pub block : ℕ
-block = 64
+block = 48
 
 -- whole bytes of a position whose first entries, the list and what is past it, have the move
 unfoldable pub inBlock : List ℕ → ℕ → Bool

@@ -26,7 +26,7 @@ ghost use Rattle.stored_position.specs.Bytes.{block, moveBytes, position
 
 // Entries that are looked at together, whether used or not, where the list is shorter, as nearly every list is: a length that is known to the compiler
 // makes straight code of the loop, and no branch hangs on the list's length.
-pub const BLOCK: usize = 64;
+pub const BLOCK: usize = 48;
 
 // From here on no byte is used by a list that is shorter than a block.
 const BEHIND_BLOCK: usize = MOVES_AT + 2 * (BLOCK - 1);

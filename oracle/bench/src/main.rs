@@ -20,6 +20,7 @@ const POSITIONS: usize = 2_048;
 const ROUNDS: usize = 15;
 const LEAST: Duration = Duration::from_secs(1);
 const GAMES: usize = 12;
+const GAME_ROUNDS: usize = 8;
 const GAME_LENGTH: usize = 300;
 
 /// A position of a game in every shape that is timed.
@@ -157,16 +158,15 @@ fn ask_all(moves: &[ChessMove], log: &mut Log) -> (f64, f64) {
     (theirs, ours)
 }
 
+/// Each game is played some times; the best time of each side counts.
 fn games(random: &mut Random) {
     let mut log = Log::new();
     let (mut theirs, mut ours) = (0.0, 0.0);
     for _ in 0..GAMES {
         let game = long_game(random);
-        // Only the second time counts: then the memory of both is warm.
-        ask_all(&game, &mut log);
-        let (t, o) = ask_all(&game, &mut log);
-        theirs += t;
-        ours += o;
+        let rounds: Vec<(f64, f64)> = (0..GAME_ROUNDS).map(|_| ask_all(&game, &mut log)).collect();
+        theirs += rounds.iter().map(|r| r.0).fold(f64::MAX, f64::min);
+        ours += rounds.iter().map(|r| r.1).fold(f64::MAX, f64::min);
     }
     let asked = 2 * GAMES * GAME_LENGTH;
     row("result and claim after each of 300 moves", asked, theirs / asked as f64, ours / asked as f64, "10");
