@@ -1,5 +1,5 @@
-// Which move of a list a short text names. One pass over the list, with no branch on an entry, so that many entries are taken at a time; the board is asked
-// only for the sources of up to three arrivals.
+// Which move of a list a short text names. One pass over the list, with no branch on an entry, so that many entries are taken at a time; then the board
+// is asked for the sources of up to three arrivals. A list has at most 255 entries and a source is at most 63, so that the sums fit.
 use crate::resolve;
 use crate::resolve::both;
 use crate::resolve::capture_test;
@@ -10,8 +10,7 @@ use square::BAD_LIST;
 use square::INVALID_SAN_MOVE;
 ghost use mathlib.Core.Path.{_≡_};
 ghost use mathlib.Core.Bool.{cond};
-ghost use Prim.Native.Nat.{_+_, _%_, _≤_, _<_, max, min};
-ghost use lib.Dec.{eqb};
+ghost use Prim.Native.Nat.{_*_, _≤_, _<_, max, min};
 ghost use lib.ListN.{length};
 ghost use Rattle.san.specs.Fitting.{sourceFits, soleMove};
 ghost use Rattle.san.specs.Gathered.{numberIf, gather, gathered, nothing, leastSource, passing, passed, soleFrom, overList};
@@ -48,9 +47,10 @@ fn number_or(there: bool, n: u16, other: u16) -> u16
     if there { n } else { other }
 }
 
+// One entry more.
 fn gather_one(g: Gathered, want: u16, m: u16) -> Gathered
     requires { ⌜ g .count < 255 ⌝ }
-    requires { ⌜ g .sum ≤ 16002 ⌝ }
+    requires { ⌜ g .sum ≤ 254 * 63 ⌝ }
     ensures { λ r. ⌜ r ≡ gather want g m ⌝ }
 {
     let here = m / 64 == want;
@@ -82,6 +82,7 @@ fn gather_all(moves: &[u16], want: u16) -> Gathered
     g
 }
 
+// The least source of the arrivals, 64 of none.
 fn least_source(moves: &[u16], want: u16) -> u16
     ensures { λ r. ⌜ r ≡ leastSource want 64 (now (moves .entry)) ⌝ }
 {
@@ -108,11 +109,11 @@ fn sole_source(pieces: &[u8; 64], t: San, fit: u16, source: u16) -> Answer
     square::accepted(t.dest as u64 * 64 + source as u64)
 }
 
-// Asks the board for as many of two sources as there are, without a branch.
+// Asks the board for as many of two sources as there are, with no branch on which of them fits.
 fn sole_of_two(pieces: &[u8; 64], t: San, n: u16, x: u16, y: u16) -> Answer
     requires { ⌜ n ≤ 2 ⌝ }
-    requires { ⌜ x ≤ 16065 ⌝ }
-    requires { ⌜ y ≤ 16065 ⌝ }
+    requires { ⌜ x ≤ 255 * 63 ⌝ }
+    requires { ⌜ y ≤ 255 * 63 ⌝ }
     ensures { λ r. ⌜ r ≡ soleFrom (now (pieces .entry)) t (passing (sourceFits (now (pieces .entry)) t) n x y 0) (passed (sourceFits (now (pieces .entry)) t) n x y 0) ⌝ }
 {
     let first = both(0 < n, source_fits(pieces, t, x));
@@ -123,9 +124,9 @@ fn sole_of_two(pieces: &[u8; 64], t: San, n: u16, x: u16, y: u16) -> Answer
 }
 
 fn sole_of_three(pieces: &[u8; 64], t: San, x: u16, y: u16, z: u16) -> Answer
-    requires { ⌜ x ≤ 16065 ⌝ }
-    requires { ⌜ y ≤ 16065 ⌝ }
-    requires { ⌜ z ≤ 16065 ⌝ }
+    requires { ⌜ x ≤ 255 * 63 ⌝ }
+    requires { ⌜ y ≤ 255 * 63 ⌝ }
+    requires { ⌜ z ≤ 255 * 63 ⌝ }
     ensures { λ r. ⌜ r ≡ soleFrom (now (pieces .entry)) t (passing (sourceFits (now (pieces .entry)) t) 3 x y z) (passed (sourceFits (now (pieces .entry)) t) 3 x y z) ⌝ }
 {
     let first = source_fits(pieces, t, x);

@@ -4,8 +4,6 @@ use crate::text::piece_kind;
 use crate::text::place_from;
 ghost use mathlib.Core.Path.{_≡_};
 ghost use mathlib.Core.List.{[], _∷_};
-ghost use Prim.Native.Nat.{_≤_};
-ghost use lib.ListN.{length};
 ghost use Rattle.san_text.specs.Place.{filePlace, rankPlace, squareAt};
 ghost use Rattle.san.specs.Short.{Told};
 
