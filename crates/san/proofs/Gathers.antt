@@ -1,6 +1,6 @@
 -- What the pass has gathered, and the answer that it gives for up to three arrivals; and the range of a list by its largest entry.
 -- Assumes nothing.
-use Prim.Native.Nat.{ℕ, _+_, _-_, _≤_, _<_}
+use Prim.Native.Nat.{ℕ, _+_, _*_, _-_, _≤_, _<_}
 use mathlib.Core.Path.{subst, _≡_, sym, _∙_}
 use mathlib.Core.Bool.{Bool, true, false, cond, _&&_}
 use mathlib.Core.List.{List}
@@ -10,7 +10,8 @@ use lib.ListN.{length}
 use borrow.Author.Tests.{le-leb, lt-leb, le-ltb, eq-eqb, ne-eqb}
 use Rattle.square.specs.Numbers.{largest}
 use Rattle.square.proofs.Maxima.{max-none, largest-at-most}
-use Rattle.move_list.specs.MoveList.{listInRange}
+use Rattle.chess_move.specs.Number.{lastMove}
+use Rattle.move_list.specs.MoveList.{longestList, listInRange}
 use Rattle.san_text.specs.declared.San.{San}
 use Rattle.san.specs.Fitting.{sourceFits, soleMove}
 use Rattle.san.specs.declared.gathering.Gathered.{Gathered}
@@ -44,7 +45,7 @@ module _ (want : ℕ) (l : List ℕ) (g : Gathered) (k : Gathers want l g) where
   pub largest-in-sum : g .largest ≤ g .sum
   largest-in-sum = rw (k .largest-is, k .sum-is) (omega (arith, highest-total 0 (sources want l)))
 
-  pub sum-most : length l ≤ 255 → g .sum ≤ 16065
+  pub sum-most : length l ≤ longestList → g .sum ≤ longestList * 63
   sum-most h = rw (k .sum-is) (omega (arith, total-most want l))
 
   pub low-is : (y : ℕ) → y ≡ cond (eqb (g .count) 3) (leastSource want 64 l) (g .sum - g .largest) → y ≡ low (sources want l)
@@ -100,14 +101,14 @@ same-sole pieces t k s fit source ek es = rw (ek, es)
 
 -- ---- the range of a list
 
-pub long-list : (l : List ℕ) → 255 < length l → listInRange l ≡ false
+pub long-list : (l : List ℕ) → longestList < length l → listInRange l ≡ false
 unfolding listInRange
-long-list l h = rw (lt-leb (length l) 255 h)
+long-list l h = rw (lt-leb (length l) longestList h)
 
-pub bad-list : (l : List ℕ) → length l ≤ 255 → 28671 < largest l → listInRange l ≡ false
+pub bad-list : (l : List ℕ) → length l ≤ longestList → lastMove < largest l → listInRange l ≡ false
 unfolding listInRange
-bad-list l h k = rw (le-leb (length l) 255 h, ← largest-at-most 28671 l, lt-leb (largest l) 28671 k)
+bad-list l h k = rw (le-leb (length l) longestList h, ← largest-at-most lastMove l, lt-leb (largest l) lastMove k)
 
-pub good-list : (l : List ℕ) → length l ≤ 255 → largest l ≤ 28671 → listInRange l ≡ true
+pub good-list : (l : List ℕ) → length l ≤ longestList → largest l ≤ lastMove → listInRange l ≡ true
 unfolding listInRange
-good-list l h k = rw (le-leb (length l) 255 h, ← largest-at-most 28671 l, le-leb (largest l) 28671 k)
+good-list l h k = rw (le-leb (length l) longestList h, ← largest-at-most lastMove l, le-leb (largest l) lastMove k)

@@ -1,5 +1,5 @@
 // Which move of a list a short text names. One pass over the list, with no branch on an entry, so that many entries are taken at a time; then the board
-// is asked for the sources of up to three arrivals. A list has at most 255 entries and a source is at most 63, so that the sums fit.
+// is asked for the sources of up to three arrivals. A list is short enough and a source small enough that the sums fit.
 use crate::resolve;
 use crate::resolve::both;
 use crate::resolve::capture_test;
@@ -12,6 +12,7 @@ ghost use mathlib.Core.Path.{_≡_};
 ghost use mathlib.Core.Bool.{cond};
 ghost use Prim.Native.Nat.{_*_, _≤_, _<_, max, min};
 ghost use lib.ListN.{length};
+ghost use Rattle.move_list.specs.MoveList.{longestList};
 ghost use Rattle.san.specs.Fitting.{sourceFits, soleMove};
 ghost use Rattle.san.specs.Gathered.{numberIf, gather, gathered, nothing, leastSource, passing, passed, soleFrom, overList};
 
@@ -49,7 +50,7 @@ fn number_or(there: bool, n: u16, other: u16) -> u16
 
 // One entry more.
 fn gather_one(g: Gathered, want: u16, m: u16) -> Gathered
-    requires { ⌜ g .count < 255 ⌝ }
+    requires { ⌜ g .count < longestList ⌝ }
     requires { ⌜ g .sum ≤ 254 * 63 ⌝ }
     ensures { λ r. ⌜ r ≡ gather want g m ⌝ }
 {
@@ -64,7 +65,7 @@ fn gather_one(g: Gathered, want: u16, m: u16) -> Gathered
 }
 
 fn gather_all(moves: &[u16], want: u16) -> Gathered
-    requires { ⌜ length (now moves) ≤ 255 ⌝ }
+    requires { ⌜ length (now moves) ≤ longestList ⌝ }
     ensures { λ r. ⌜ r ≡ gathered want nothing (now (moves .entry)) ⌝ }
 {
     let mut g = Gathered {
@@ -112,8 +113,8 @@ fn sole_source(pieces: &[u8; 64], t: San, fit: u16, source: u16) -> Answer
 // Asks the board for as many of two sources as there are, with no branch on which of them fits.
 fn sole_of_two(pieces: &[u8; 64], t: San, n: u16, x: u16, y: u16) -> Answer
     requires { ⌜ n ≤ 2 ⌝ }
-    requires { ⌜ x ≤ 255 * 63 ⌝ }
-    requires { ⌜ y ≤ 255 * 63 ⌝ }
+    requires { ⌜ x ≤ longestList * 63 ⌝ }
+    requires { ⌜ y ≤ longestList * 63 ⌝ }
     ensures { λ r. ⌜ r ≡ soleFrom (now (pieces .entry)) t (passing (sourceFits (now (pieces .entry)) t) n x y 0) (passed (sourceFits (now (pieces .entry)) t) n x y 0) ⌝ }
 {
     let first = both(0 < n, source_fits(pieces, t, x));
@@ -124,9 +125,9 @@ fn sole_of_two(pieces: &[u8; 64], t: San, n: u16, x: u16, y: u16) -> Answer
 }
 
 fn sole_of_three(pieces: &[u8; 64], t: San, x: u16, y: u16, z: u16) -> Answer
-    requires { ⌜ x ≤ 255 * 63 ⌝ }
-    requires { ⌜ y ≤ 255 * 63 ⌝ }
-    requires { ⌜ z ≤ 255 * 63 ⌝ }
+    requires { ⌜ x ≤ longestList * 63 ⌝ }
+    requires { ⌜ y ≤ longestList * 63 ⌝ }
+    requires { ⌜ z ≤ longestList * 63 ⌝ }
     ensures { λ r. ⌜ r ≡ soleFrom (now (pieces .entry)) t (passing (sourceFits (now (pieces .entry)) t) 3 x y z) (passed (sourceFits (now (pieces .entry)) t) 3 x y z) ⌝ }
 {
     let first = source_fits(pieces, t, x);
@@ -141,7 +142,7 @@ fn sole_of_three(pieces: &[u8; 64], t: San, x: u16, y: u16, z: u16) -> Answer
 pub(crate) fn sole_arrival(pieces: &[u8; 64], t: San, moves: &[u16]) -> Answer
     requires { ⌜ t .dest < 64 ⌝ }
     requires { ⌜ t .promotion ≡ 0 ⌝ }
-    requires { ⌜ length (now moves) ≤ 255 ⌝ }
+    requires { ⌜ length (now moves) ≤ longestList ⌝ }
     ensures { λ r. ⌜ r ≡ overList (now (moves .entry)) (soleMove (now (pieces .entry)) t (now (moves .entry))) ⌝ }
 {
     let want = t.dest as u16;

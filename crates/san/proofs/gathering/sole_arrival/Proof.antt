@@ -3,6 +3,7 @@ use native.Mathlib.Omega.{arith}
 use mathlib.Core.Path.{_∙_}
 use Prim.Native.Nat.{_<_, _≤_}
 use Rattle.square.specs.Numbers.{largest}
+use Rattle.chess_move.specs.Number.{lastMove}
 use Rattle.san.proofs.Gathers.{gathers, largest-in-sum, sum-most, least-in-others, two-answer, exact-answer, bad-list, good-list}
 use Rattle.san.proofs.gathering.sole_arrival.Statement.{statement}
 use Rattle.san.proofs.gathering.sole_arrival.Tie as tie
@@ -22,7 +23,7 @@ refused-requires c κs = search needs
 returns : tie.Need-returns
 returns c =
     let g = gathers (c .before .before .before .before .before .before .args .t .dest) (c .before .before .before .before .before .before .args .moves .now) (c .before .before .before .gather-all .result) (c .before .before .before .gather-all .ensures) in
-    let k : 28671 < largest (c .before .before .before .before .before .before .args .moves .now) = omega (arith, g .most-is, c .before .if1 .taken) in
+    let k : lastMove < largest (c .before .before .before .before .before .before .args .moves .now) = omega (arith, g .most-is, c .before .if1 .taken) in
     simp (bad-list (c .before .before .before .before .before .before .args .moves .now) (c .before .before .before .before .before .before .pre .1 .1) k, c .refused .ensures)
 
 sub-others : tie.Need-sub-others
@@ -40,7 +41,7 @@ sole-of-two-requires c κs =
 returns-2 : tie.Need-returns-2
 returns-2 c =
     let g = gathers (c .before .before .before .before .before .before .before .before .before .args .t .dest) (c .before .before .before .before .before .before .before .before .before .args .moves .now) (c .before .before .before .before .before .before .gather-all .result) (c .before .before .before .before .before .before .gather-all .ensures) in
-    let k : largest (c .before .before .before .before .before .before .before .before .before .args .moves .now) ≤ 28671 = omega (arith, g .most-is, c .before .before .before .before .if1 .left) in
+    let k : largest (c .before .before .before .before .before .before .before .before .before .args .moves .now) ≤ lastMove = omega (arith, g .most-is, c .before .before .before .before .if1 .left) in
     simp (good-list (c .before .before .before .before .before .before .before .before .before .args .moves .now) (c .before .before .before .before .before .before .before .before .before .pre .1 .1) k) (c .sole-of-two .ensures ∙ two-answer (c .before .before .before .before .before .before .before .before .before .args .pieces .now) (c .before .before .before .before .before .before .before .before .before .args .t) (c .before .before .before .before .before .before .before .before .before .args .moves .now) (c .before .before .before .before .before .before .gather-all .result) (c .before .before .before .before .before .before .before .before .before .pre .0) (c .before .before .before .before .before .before .before .before .before .pre .1 .0) g (c .before .if2 .taken))
 
 least-source-requires : tie.Need-least-source-requires
@@ -62,7 +63,7 @@ sole-of-three-requires c κs =
 returns-3 : tie.Need-returns-3
 returns-3 c =
     let g = gathers (c .before .before .before .before .before .before .before .before .before .before .before .before .args .t .dest) (c .before .before .before .before .before .before .before .before .before .before .before .before .args .moves .now) (c .before .before .before .before .before .before .before .before .before .gather-all .result) (c .before .before .before .before .before .before .before .before .before .gather-all .ensures) in
-    let k : largest (c .before .before .before .before .before .before .before .before .before .before .before .before .args .moves .now) ≤ 28671 = omega (arith, g .most-is, c .before .before .before .before .before .before .before .if1 .left) in
+    let k : largest (c .before .before .before .before .before .before .before .before .before .before .before .before .args .moves .now) ≤ lastMove = omega (arith, g .most-is, c .before .before .before .before .before .before .before .if1 .left) in
     simp (good-list (c .before .before .before .before .before .before .before .before .before .before .before .before .args .moves .now) (c .before .before .before .before .before .before .before .before .before .before .before .before .pre .1 .1) k) (c .sole-of-three .ensures ∙ exact-answer (c .before .before .before .before .before .before .before .before .before .before .before .before .args .pieces .now) (c .before .before .before .before .before .before .before .before .before .before .before .before .args .t) (c .before .before .before .before .before .before .before .before .before .before .before .before .args .moves .now) (c .before .before .before .before .before .before .before .before .before .gather-all .result) (c .before .least-source .result) (c .before .before .before .before .before .before .before .before .before .before .before .before .pre .0) (c .before .before .before .before .before .before .before .before .before .before .before .before .pre .1 .0) g (c .before .before .if3 .taken) (c .before .least-source .ensures))
 
 sole-move-requires : tie.Need-sole-move-requires
@@ -71,7 +72,7 @@ sole-move-requires c κs = search needs
 returns-4 : tie.Need-returns-4
 returns-4 c =
     let g = gathers (c .before .before .before .before .before .before .before .before .before .before .before .args .t .dest) (c .before .before .before .before .before .before .before .before .before .before .before .args .moves .now) (c .before .before .before .before .before .before .before .before .gather-all .result) (c .before .before .before .before .before .before .before .before .gather-all .ensures) in
-    let k : largest (c .before .before .before .before .before .before .before .before .before .before .before .args .moves .now) ≤ 28671 = omega (arith, g .most-is, c .before .before .before .before .before .before .if1 .left) in
+    let k : largest (c .before .before .before .before .before .before .before .before .before .before .before .args .moves .now) ≤ lastMove = omega (arith, g .most-is, c .before .before .before .before .before .before .if1 .left) in
     simp (good-list (c .before .before .before .before .before .before .before .before .before .before .before .args .moves .now) (c .before .before .before .before .before .before .before .before .before .before .before .pre .1 .1) k, c .sole-move .ensures)
 
 pub sole-arrival-spec : {M : Type 1} → statement M
