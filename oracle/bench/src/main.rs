@@ -111,6 +111,9 @@ fn san(places: &[Place]) {
     let (making, again) = times(&all, |(p, i)| ChessMove::from_san(&p.board, &p.names[*i]), read);
     row("SAN read over legal lists, all at hand", all.len(), theirs, ours, "3");
     row("SAN read over legal lists, the crate makes its", all.len(), making, again, "");
+    let checks: Vec<(&Place, String)> = all.iter().map(|(p, i)| (*p, format!("{}+", p.names[*i]))).collect();
+    let (theirs, ours) = times(&checks, |(p, t)| sanlist::read(&p.at_hand, t), |(p, t)| abi::san_read(p.record, &p.list, t.as_bytes()));
+    row("the same at hand, a check sign behind each", checks.len(), theirs, ours, "");
     let mut room = [0; 11];
     let (reading, naming) = times(&all, read, |(p, i)| abi::san_name(p.record, &p.list, p.list[*i] as u64, &mut room));
     row("naming (ours), against a SAN read (ours)", all.len(), reading, naming, "");
