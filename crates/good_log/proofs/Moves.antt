@@ -12,13 +12,15 @@ use Rattle.square.specs.Numbers.{among}
 use Rattle.square.specs.Parts.{item}
 use Rattle.square.proofs.Numbers.{both-left, both-right}
 use Rattle.chess_move.specs.Number.{lastMove}
+use Rattle.action.specs.declared.Action.the-variants.{MakeMove, OfferDraw, AcceptDraw, DeclareDraw, Resign}
 use Rattle.action.specs.declared.Stored.{Stored}
-use Rattle.actions.specs.Part.{moveAt, lastAction}
+use Rattle.action.specs.declared.Stored.the-variants.{Holds, Nothing}
+use Rattle.actions.specs.Part.{actionAt, moveHeld, moveAt, lastAction}
 use Rattle.position.specs.Layout.{Position, positionSize, side, positionOf, positionAt}
 use Rattle.stored_position.specs.Bytes.{isPosition, listsMove}
 use Rattle.ending.specs.Ending.{whiteCheckmates, blackCheckmates, stalemate, resultWithoutMoves, resultOfAction, resultOf, resultAt}
 use Rattle.game_rules.specs.Limits.{limits}
-use Rattle.good_log.specs.Steps.{moveFits, notSound, moveStep, otherFits, step, movesAfter}
+use Rattle.good_log.specs.Steps.{moveFits, notSound, moveStep, otherFits, otherSound, step}
 
 -- with no move left, a game has ended
 ended-without : (mover check : ℕ) → resultWithoutMoves mover check ≡ 0 → ⊥
@@ -45,6 +47,19 @@ module _ (p : Position) (last : Stored) where
       go true e f = ended-empty (eqb-true _ _ e) f
       go false e f = n (sym (by-action (eqb-false _ _ e)) ∙ f)
 
+-- a move leaves the game going on, if the list after it is not empty
+pub move-goes-on : (acts : List ℕ) (i : ℕ) → moveAt acts i ≤ lastMove → resultOfAction (lastAction acts (suc i)) ≡ 0
+unfolding lastAction
+move-goes-on acts i = go (actionAt acts i)
+  where
+    go : (s : Stored) → moveHeld s ≤ lastMove → resultOfAction s ≡ 0
+    go (Holds (MakeMove x)) h = refl
+    go (Holds (OfferDraw c)) h = refl
+    go (Holds AcceptDraw) h = absurd (omega arith)
+    go (Holds DeclareDraw) h = absurd (omega arith)
+    go (Holds (Resign c)) h = absurd (omega arith)
+    go Nothing h = refl
+
 -- an empty list has no move
 empty-lists : (s : List ℕ) (x : ℕ) → length (positionOf s .moves) ≡ 0 → listsMove s x ≡ false
 unfolding listsMove among
@@ -53,6 +68,10 @@ empty-lists s x e = go (positionOf s .moves) e
     go : (l : List ℕ) → length l ≡ 0 → eqb (length s) positionSize && among x l ≡ false
     go [] f = and-false (eqb (length s) positionSize)
     go (y ∷ l) f = absurd (omega arith)
+
+-- the moves after a sound action i, k of them before it
+abbrev pub movesAfter : List ℕ → ℕ → ℕ → ℕ
+movesAfter acts i k = cond (leb (moveAt acts i) lastMove) (suc k) k
 
 -- what a sound step leaves: the count of moves, which is within those in all, and a position
 pub record Left (acts ps : List ℕ) (m i k : ℕ) : Type 0 where
@@ -106,11 +125,13 @@ module _ (acts ps : List ℕ) (m i k : ℕ) where
       go false f =
           sym (step-of-move x read h (by-action (positionAt ps k) (lastAction acts i) (eqb-false _ _ f) ∙ e))
 
-  pub other-sound-by : (x : ℕ) → x ≡ moveAt acts i → lastMove < x → k ≤ limits .most-moves → resultAt acts ps i k ≡ 0
-      → ltb (step acts ps m i k) notSound ≡ otherFits acts ps i k (lastAction acts (suc i))
+  pub other-sound-by : (x : ℕ) → x ≡ moveAt acts i → lastMove < x → k ≤ limits .most-moves → ltb (step acts ps m i k) notSound ≡ otherSound acts ps i k
   unfolding step
-  other-sound-by x read h some e =
-      rw (eq-eqb _ _ e, ← read, lt-leb x lastMove h) (sound-by (otherFits acts ps i k (lastAction acts (suc i))) k (omega arith))
+  other-sound-by x read h some = rw (← read, lt-leb x lastMove h) (go (eqb (resultAt acts ps i k) 0) (otherFits acts ps i k (lastAction acts (suc i))))
+    where
+      go : (on fits : Bool) → ltb (cond on (cond fits k notSound) notSound) notSound ≡ on && fits
+      go true fits = sound-by fits k (omega arith)
+      go false fits = refl
 
   pub unsound : step acts ps m i k ≡ notSound → ltb (step acts ps m i k) notSound ≡ false
   unsound e = rw e

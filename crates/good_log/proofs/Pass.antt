@@ -1,25 +1,26 @@
 -- The pass over the log, action by action: it ends early exactly where the log is not good.
 -- Assumes nothing.
-use mathlib.Core.Path.{_≡_, refl, sym, _∙_}
-use mathlib.Core.Bool.{Bool, true, false, cond, not, _&&_, and-true, and-false, false≢true}
+use mathlib.Core.Path.{_≡_, refl, ap, sym, _∙_}
+use mathlib.Core.Bool.{Bool, true, false, cond, not, _&&_, _||_, and-true, and-false, false≢true}
 use mathlib.Core.List.{List}
 use Prim.Native.Nat.{ℕ, zero, suc, _+_, _-_, _<_, _≤_}
 use native.Mathlib.Numerals.{add-one}
 use native.Mathlib.Omega.{arith}
 use lib.Dec.{eqb, leb, ltb}
 use lib.ListN.{length, getD}
-use borrow.Author.Tests.{eq-eqb, ne-eqb, eqb-true, eqb-false, leb-true, leb-false, ltb-false}
+use borrow.Author.Tests.{eq-eqb, ne-eqb, eqb-true, eqb-false, le-leb, lt-leb, leb-true, leb-false, ltb-false}
 use Rattle.square.proofs.Numbers.{both-left, both-right, most-each}
 use Rattle.square.specs.Parts.{item}
 use Rattle.chess_move.specs.Number.{lastMove}
-use Rattle.actions.specs.Part.{moveAt, movesIn}
+use Rattle.actions.specs.Part.{moveAt, movesIn, lastAction}
 use Rattle.position.specs.Layout.{positionSize}
 use Rattle.stored_position.specs.Bytes.{isPosition}
+use Rattle.ending.specs.Ending.{resultOfAction}
 use Rattle.game_rules.specs.Limits.{Limits, limits, actionsLength, positionsLength}
 use Rattle.game_rules.specs.Good.{nextSound, sound, isGood}
-use Rattle.good_log.specs.Steps.{notSound, step, movesAfter}
+use Rattle.good_log.specs.Steps.{notSound, moveStep, otherSound, otherMayStand, step}
 use Rattle.good_log.proofs.Steps.{stepTo, step-is}
-use Rattle.good_log.proofs.Moves.{Left, sound-leaves}
+use Rattle.good_log.proofs.Moves.{Left, movesAfter, move-goes-on, sound-leaves, step-of-listed, step-after-end, other-sound-by, unsound}
 
 module _ (acts : List ℕ) where
   moves-step : (i : ℕ) → movesIn acts i ≤ movesIn acts (suc i)
@@ -137,3 +138,65 @@ module _ (acts ps : List ℕ) (n m i k : ℕ) (g : Given acts ps n m) (at : Goin
         ok = sound-turn acts ps n m i r (here ∙ going-step) less (at .ok) fits;
         stands = rw here (left .stands);
       }
+
+-- the pass at the head of its loop: no action before one that is left has ended the game
+pub record Passing (acts ps : List ℕ) (n m i k : ℕ) : Type 0 where
+  pub going : Going acts ps n m i k
+  pub goes-on : i < n → resultOfAction (lastAction acts i) ≡ 0
+
+-- action i, of which x is read: by a move, and by another action
+module _
+    (acts ps : List ℕ) (n m i k : ℕ) (g : Given acts ps n m) (at : Passing acts ps n m i k) (before : i < n) (bytes : (j : ℕ) → getD acts j 0 < 256)
+    (x : ℕ) (read : x ≡ moveAt acts i)
+  where
+    module _ (move : x ≤ lastMove) where
+      move-step : ltb (step acts ps m i k) notSound ≡ ltb (moveStep ps m k x) notSound
+      move-step = ap (λ (r : ℕ). ltb r notSound) (sym (step-of-listed acts ps m i k x read move (at .goes-on before)))
+
+      pub move-out : ltb (moveStep ps m k x) notSound ≡ false → isGood limits acts ps n m ≡ false
+      move-out e = going-out acts ps n m i k g (at .going) before bytes (move-step ∙ e)
+
+      pub move-on : ltb (moveStep ps m k x) notSound ≡ true → Passing acts ps n m (i + 1) (k + 1)
+      move-on e =
+          let counts : k + 1 ≡ movesAfter acts i k = rw (← read, le-leb x lastMove move) (add-one k) in
+          record {
+            going = going-on acts ps n m i k g (at .going) before bytes (k + 1) counts (move-step ∙ e);
+            goes-on = λ more. rw (add-one i) (move-goes-on acts i (rw (← read) move));
+          }
+
+    module _ (other : lastMove < x) where
+      other-step : ltb (step acts ps m i k) notSound ≡ otherSound acts ps i k
+      other-step = other-sound-by acts ps m i k x read other (omega (arith, at .going .within, g .some))
+
+      other-going : otherSound acts ps i k ≡ true → Going acts ps n m (i + 1) k
+      other-going e =
+          let counts : k ≡ movesAfter acts i k = rw (← read, lt-leb x lastMove other) in
+          going-on acts ps n m i k g (at .going) before bytes k counts (other-step ∙ e)
+
+      -- an action after one that ended the game is not sound
+      pub other-out : otherMayStand acts ps n i k ≡ false → isGood limits acts ps n m ≡ false
+      other-out = go (otherSound acts ps i k) refl (eqb (suc i) n) refl (eqb (resultOfAction (lastAction acts (suc i))) 0) refl
+        where
+          go : (s : Bool) → otherSound acts ps i k ≡ s → (l : Bool) → eqb (suc i) n ≡ l → (o : Bool) → eqb (resultOfAction (lastAction acts (suc i))) 0 ≡ o
+              → s && (l || o) ≡ false → isGood limits acts ps n m ≡ false
+          go false e l f o h w = going-out acts ps n m i k g (at .going) before bytes (other-step ∙ e)
+          go true e true f o h w = absurd (false≢true (sym w))
+          go true e false f true h w = absurd (false≢true (sym w))
+          go true e false f false h w =
+              let more : suc i < n = omega (arith, eqb-false (suc i) n f) in
+              let next : Going acts ps n m (suc i) k = rw (add-one i) at (other-going e) in
+              going-out acts ps n m (suc i) k g next more bytes
+              (unsound acts ps m (suc i) k (step-after-end acts ps m (suc i) k (eqb-false _ _ h)))
+
+      pub other-on : otherMayStand acts ps n i k ≡ true → Passing acts ps n m (i + 1) k
+      other-on e =
+          record {
+            going = other-going (both-left (otherSound acts ps i k) _ e);
+            goes-on = λ more. rw (add-one i) (go (eqb (suc i) n) refl (eqb (resultOfAction (lastAction acts (suc i))) 0) refl (rw (add-one i) at more) (both-right (otherSound acts ps i k) _ e));
+          }
+        where
+          go : (l : Bool) → eqb (suc i) n ≡ l → (o : Bool) → eqb (resultOfAction (lastAction acts (suc i))) 0 ≡ o → suc i < n → l || o ≡ true
+              → resultOfAction (lastAction acts (suc i)) ≡ 0
+          go true f o h more w = absurd (omega (arith, eqb-true (suc i) n f))
+          go false f true h more w = eqb-true _ _ h
+          go false f false h more w = absurd (false≢true w)

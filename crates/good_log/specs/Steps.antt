@@ -1,6 +1,6 @@
--- One step of the pass that tests a log, read off its bytes: the checks of a call at a place in the log, and the count of moves after a sound action.
+-- One step of the pass that tests a log, read off its bytes: the checks of a call at a place in the log.
 -- Assumes nothing.
-use mathlib.Core.Bool.{Bool, false, cond, not, _&&_}
+use mathlib.Core.Bool.{Bool, false, cond, not, _&&_, _||_}
 use mathlib.Core.List.{List}
 use Prim.Native.Nat.{ℕ, suc, _+_}
 use lib.Dec.{eqb, leb}
@@ -15,7 +15,7 @@ use Rattle.action.specs.Layout.{colourCheck}
 use Rattle.actions.specs.Part.{moveAt, lastAction}
 use Rattle.position.specs.Layout.{positionSize, side, positionOf}
 use Rattle.stored_position.specs.Bytes.{isPosition, listsMove}
-use Rattle.ending.specs.Ending.{resultAt, offerAt}
+use Rattle.ending.specs.Ending.{resultOfAction, resultAt, offerAt}
 use Rattle.claim.specs.Claim.{claimAt}
 use Rattle.game_rules.specs.Limits.{limits}
 use Rattle.game_rules.specs.Rules.{unless}
@@ -31,6 +31,14 @@ otherCheck acts ps n m (Resign c) = colourCheck c
 abbrev pub otherFits : List ℕ → List ℕ → ℕ → ℕ → Stored → Bool
 otherFits acts ps n m (Holds a) = eqb (otherCheck acts ps n m a) 0
 otherFits acts ps n m Nothing = false
+
+-- action i, which is no move, was accepted with k moves made before it
+abbrev pub otherSound : List ℕ → List ℕ → ℕ → ℕ → Bool
+otherSound acts ps i k = eqb (resultAt acts ps i k) 0 && otherFits acts ps i k (lastAction acts (suc i))
+
+-- the same of one of n actions: if it ended the game, it is the last
+abbrev pub otherMayStand : List ℕ → List ℕ → ℕ → ℕ → ℕ → Bool
+otherMayStand acts ps n i k = otherSound acts ps i k && (eqb (suc i) n || eqb (resultOfAction (lastAction acts (suc i))) 0)
 
 -- a move from the position with bytes p to that with bytes q was accepted, and q is as it was written
 abbrev pub moveFits : List ℕ → ℕ → List ℕ → Bool
@@ -52,7 +60,3 @@ step acts ps m i k =
     cond (eqb (resultAt acts ps i k) 0)
     (cond (leb (moveAt acts i) lastMove) (moveStep ps m k (moveAt acts i)) (otherStep acts ps i k))
     notSound
-
--- the moves after a sound action i, k of them before it
-abbrev pub movesAfter : List ℕ → ℕ → ℕ → ℕ
-movesAfter acts i k = cond (leb (moveAt acts i) lastMove) (suc k) k

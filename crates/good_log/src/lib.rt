@@ -31,7 +31,7 @@ ghost use Rattle.game_rules.specs.Limits.{limits, actionsLength, positionsLengt
 ghost use Rattle.game_rules.specs.Rules.{unless};
 ghost use Rattle.game_rules.specs.Good.{isGood};
 ghost use Rattle.game_rules.specs.Calls.{logCheck};
-ghost use Rattle.good_log.specs.Steps.{otherCheck, otherFits, moveFits, notSound, moveStep, step, movesAfter};
+ghost use Rattle.good_log.specs.Steps.{otherCheck, otherFits, otherSound, otherMayStand, moveFits, notSound, moveStep};
 
 fn number_unless(ok: bool, number: u64) -> u64
     ensures { λ r. ⌜ r ≡ unless ok number ⌝ }
@@ -94,8 +94,8 @@ fn move_fits(p: &[u8], m: u64, q: &[u8]) -> bool
     square::byte_at(q, SIDE_AT) != square::byte_at(p, SIDE_AT)
 }
 
-// Whether move `x` was accepted as the next one, with `k` made before it and `m` in all. By `<=` and not `==`, so that the compiler sees that the position
-// after it lies in the part.
+// Whether move `x` was accepted as the next one, with `k` made before it and `m` in all. Whether the list before it was empty is not asked: no such list
+// has it. By `<=` and not `==`, so that the compiler sees that the position after it lies in the part.
 fn move_is_sound(ps: &[u8], m: usize, k: usize, x: u64) -> bool
     requires { ⌜ (k ≤ m) × (m ≤ limits .most-moves) × (isPosition (item positionSize (now ps) k) ≡ true) × (x ≤ lastMove) ⌝ }
     ensures { λ r. ⌜ r ≡ ltb (moveStep (now (ps .entry)) m k x) notSound ⌝ }
@@ -106,34 +106,29 @@ fn move_is_sound(ps: &[u8], m: usize, k: usize, x: u64) -> bool
     move_fits(position::at(ps, k), x, position::at(ps, k + 1))
 }
 
-// Whether action `i` was accepted, with `k` moves made before it and `m` in all. Whether the list before it was empty is not asked for a move: no such
-// list has it.
-fn is_sound(acts: &[u8], ps: &[u8], m: usize, i: usize, k: usize) -> bool
-    requires { ⌜ (k ≤ m) × (m ≤ limits .most-moves) × (i < limits .most-actions) × (isPosition (item positionSize (now ps) k) ≡ true) ⌝ }
-    ensures { λ r. ⌜ r ≡ ltb (step (now (acts .entry)) (now (ps .entry)) m i k) notSound ⌝ }
+// Whether action `i`, which is no move, was accepted with `k` moves made before it.
+fn other_is_sound(acts: &[u8], ps: &[u8], i: usize, k: usize) -> bool
+    requires { ⌜ i < limits .most-actions ⌝ }
+    ensures { λ r. ⌜ r ≡ otherSound (now (acts .entry)) (now (ps .entry)) i k ⌝ }
 {
-    if ending::by_last_action(acts, i) != GOES_ON {
-        return false;
-    }
-    let x = actions::move_at(acts, i);
-    if x <= LAST_MOVE {
-        return move_is_sound(ps, m, k, x);
-    }
     if ending::result(acts, ps, i, k) != GOES_ON {
         return false;
     }
     other_fits(acts, ps, i, k, actions::last(acts, i + 1))
 }
 
-fn moves_after(acts: &[u8], i: usize, k: usize) -> usize
-    requires { ⌜ k ≤ limits .most-moves ⌝ }
-    ensures { λ r. ⌜ r ≡ movesAfter (now (acts .entry)) i k ⌝ }
+// The same of one of `n` actions: if it ends the game, it must be the last. Asked here, so that no move has to look back at the action before it.
+fn other_may_stand(acts: &[u8], ps: &[u8], n: usize, i: usize, k: usize) -> bool
+    requires { ⌜ i < limits .most-actions ⌝ }
+    ensures { λ r. ⌜ r ≡ otherMayStand (now (acts .entry)) (now (ps .entry)) n i k ⌝ }
 {
-    if actions::move_at(acts, i) <= LAST_MOVE {
-        k + 1
-    } else {
-        k
+    if !other_is_sound(acts, ps, i, k) {
+        return false;
     }
+    if i + 1 == n {
+        return true;
+    }
+    ending::by_last_action(acts, i + 1) == GOES_ON
 }
 
 // Whether some sequence of accepted calls from a start makes the log.
@@ -147,10 +142,15 @@ fn is_good(acts: &[u8], ps: &[u8], n: usize, m: usize) -> bool
     let mut k: usize = 0;
     let mut i: usize = 0;
     while i < n {
-        if !is_sound(acts, ps, m, i, k) {
+        let x = actions::move_at(acts, i);
+        if x <= LAST_MOVE {
+            if !move_is_sound(ps, m, k, x) {
+                return false;
+            }
+            k += 1;
+        } else if !other_may_stand(acts, ps, n, i, k) {
             return false;
         }
-        k = moves_after(acts, i, k);
         i += 1;
     }
     k == m
