@@ -47,7 +47,7 @@ module _ (p : Position) (last : Stored) where
       go true e f = ended-empty (eqb-true _ _ e) f
       go false e f = n (sym (by-action (eqb-false _ _ e)) ∙ f)
 
--- a move leaves the game going on, if the list after it is not empty
+-- no game ends by its last action if that is a move
 pub move-goes-on : (acts : List ℕ) (i : ℕ) → moveAt acts i ≤ lastMove → resultOfAction (lastAction acts (suc i)) ≡ 0
 unfolding lastAction
 move-goes-on acts i = go (actionAt acts i)
@@ -101,7 +101,7 @@ module _ (ps : List ℕ) (m k : ℕ) where
       rw (ne-eqb _ _ other) (sound-by (moveFits (item positionSize ps k) x (item positionSize ps (suc k))) (suc k) (omega arith))
 
 module _ (acts ps : List ℕ) (m i k : ℕ) where
-  pub step-ended : (resultAt acts ps i k ≡ 0 → ⊥) → step acts ps m i k ≡ notSound
+  step-ended : (resultAt acts ps i k ≡ 0 → ⊥) → step acts ps m i k ≡ notSound
   unfolding step
   step-ended n = rw (ne-eqb _ _ n)
 

@@ -1,4 +1,5 @@
 // Whether a log is good, in one pass over its used part, after the checks that stand before it.
+use action::ACTION_SIZE;
 use action::Action;
 use action::Stored;
 use board_builder::SIDE_AT;
@@ -131,7 +132,8 @@ fn other_may_stand(acts: &[u8], ps: &[u8], n: usize, i: usize, k: usize) -> bool
     ending::by_last_action(acts, i + 1) == GOES_ON
 }
 
-// Whether some sequence of accepted calls from a start makes the log.
+// Whether some sequence of accepted calls from a start makes the log. No turn finds its action past the part: it is tested so that the compiler sees that
+// the action's bytes are there.
 fn is_good(acts: &[u8], ps: &[u8], n: usize, m: usize) -> bool
     requires { ⌜ (n ≤ limits .most-actions) × (m ≤ limits .most-moves) × (actionsLength limits ≤ length (now acts)) × (positionsLength limits ≤ length (now ps)) ⌝ }
     ensures { λ r. ⌜ r ≡ isGood limits (now (acts .entry)) (now (ps .entry)) n m ⌝ }
@@ -142,6 +144,9 @@ fn is_good(acts: &[u8], ps: &[u8], n: usize, m: usize) -> bool
     let mut k: usize = 0;
     let mut i: usize = 0;
     while i < n {
+        if acts.len() / ACTION_SIZE <= i {
+            return false;
+        }
         let x = actions::move_at(acts, i);
         if x <= LAST_MOVE {
             if !move_is_sound(ps, m, k, x) {
