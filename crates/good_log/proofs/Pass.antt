@@ -3,24 +3,24 @@
 use mathlib.Core.Path.{_≡_, refl, ap, sym, _∙_}
 use mathlib.Core.Bool.{Bool, true, false, cond, not, _&&_, _||_, and-true, and-false, false≢true}
 use mathlib.Core.List.{List}
-use Prim.Native.Nat.{ℕ, zero, suc, _+_, _-_, _<_, _≤_}
+use Prim.Native.Nat.{ℕ, zero, suc, _+_, _-_, _<_, _≤_, zero-le}
 use native.Mathlib.Numerals.{add-one}
 use native.Mathlib.Omega.{arith}
 use lib.Dec.{eqb, leb, ltb}
 use lib.ListN.{length, getD}
-use borrow.Author.Tests.{eq-eqb, ne-eqb, eqb-true, eqb-false, le-leb, lt-leb, leb-true, leb-false, ltb-false}
+use borrow.Author.Tests.{ne-eqb, eqb-true, eqb-false, le-leb, lt-leb, leb-true, leb-false, ltb-true, ltb-false}
 use Rattle.square.proofs.Numbers.{both-left, both-right, most-each}
 use Rattle.square.specs.Parts.{item}
 use Rattle.chess_move.specs.Number.{lastMove}
 use Rattle.actions.specs.Part.{moveAt, movesIn, lastAction}
-use Rattle.position.specs.Layout.{positionSize}
-use Rattle.stored_position.specs.Bytes.{isPosition}
+use Rattle.position.specs.Layout.{positionSize, side, positionOf}
+use Rattle.stored_position.specs.Bytes.{isPosition, listsMove, isPositionWith}
 use Rattle.ending.specs.Ending.{resultOfAction}
 use Rattle.game_rules.specs.Limits.{Limits, limits, actionsLength, positionsLength}
 use Rattle.game_rules.specs.Good.{nextSound, sound, isGood}
-use Rattle.good_log.specs.Steps.{notSound, moveStep, otherSound, otherMayStand, step}
+use Rattle.good_log.specs.Steps.{notSound, moveLeads, moveMayStand, moveStep, otherSound, otherMayStand, step}
 use Rattle.good_log.proofs.Steps.{stepTo, step-is}
-use Rattle.good_log.proofs.Moves.{Left, movesAfter, move-goes-on, sound-leaves, step-of-listed, step-after-end, other-sound-by, unsound}
+use Rattle.good_log.proofs.Moves.{Left, movesAfter, move-goes-on, move-unsound, move-sound-by, sound-leaves, step-of-listed, step-after-end, other-sound-by, unsound}
 
 module _ (acts : List ℕ) where
   moves-step : (i : ℕ) → movesIn acts i ≤ movesIn acts (suc i)
@@ -85,22 +85,26 @@ module _ (acts ps : List ℕ) (n m i k : ℕ) (here : k ≡ stepTo acts ps m i) 
   unfolding sound
   sound-turn was fits = rw (add-one i, was, turn-on fits .1)
 
--- the start, and the end
-pub not-begun : (acts ps : List ℕ) (n m : ℕ) → sound limits acts ps 0 ≡ false → isGood limits acts ps n m ≡ false
-unfolding isGood sound
-not-begun acts ps n m e = rw (spoiled n, and-false (eqb m (movesIn acts n)))
-  where
-    spoiled : (j : ℕ) → sound limits acts ps j ≡ false
-    spoiled zero = e
-    spoiled (suc j) = rw (spoiled j)
+  -- a step that does not pass, of an action within the moves in all
+  turn-off : m < k → movesIn acts (suc i) ≤ m → nextSound limits acts ps i ≡ false
+  turn-off over fits = go (nextSound limits acts ps i) refl
+    where
+      go : (t : Bool) → nextSound limits acts ps i ≡ t → t ≡ false
+      go true e =
+          let s : stepTo acts ps m i ≡ movesIn acts (suc i) = rw (e, le-leb (movesIn acts (suc i)) m fits) in
+          absurd (omega (arith, here ∙ s))
+      go false e = refl
 
-pub pass-end : (acts ps : List ℕ) (n m k : ℕ) → k ≡ movesIn acts n → sound limits acts ps n ≡ true → eqb k m ≡ isGood limits acts ps n m
-unfolding isGood
-pass-end acts ps n m k here was = rw (was, and-true (eqb m (movesIn acts n)), ← here) (go (eqb k m) refl)
+-- what is not sound spoils every longer log
+pub spoiled : (acts ps : List ℕ) (n m i : ℕ) → i ≤ n → sound limits acts ps i ≡ false → isGood limits acts ps n m ≡ false
+unfolding isGood sound
+spoiled acts ps n m i h e =
+    let whole : i + (n - i) ≡ n = omega arith in
+    rw (ap (sound limits acts ps) (sym whole) ∙ longer (n - i), and-false (eqb m (movesIn acts n)))
   where
-    go : (t : Bool) → eqb k m ≡ t → t ≡ eqb m k
-    go true e = sym (eq-eqb m k (sym (eqb-true k m e)))
-    go false e = sym (ne-eqb m k (λ x. eqb-false k m e (sym x)))
+    longer : (d : ℕ) → sound limits acts ps (i + d) ≡ false
+    longer zero = let f : i + 0 ≡ i = omega arith in rw f e
+    longer (suc d) = let f : i + suc d ≡ suc (i + d) = omega arith in rw (f, longer d)
 
 -- the log as the pass is given it, and where the pass stands: after the first i actions, k of them moves
 pub record Given (acts ps : List ℕ) (n m : ℕ) : Type 0 where
@@ -144,6 +148,17 @@ pub record Passing (acts ps : List ℕ) (n m i k : ℕ) : Type 0 where
   pub going : Going acts ps n m i k
   pub goes-on : i < n → resultOfAction (lastAction acts i) ≡ 0
 
+-- an action that is no move and may stand has not ended the game, or is the last
+other-goes-on : (acts ps : List ℕ) (n i k : ℕ) → otherMayStand acts ps n i k ≡ true → i + 1 < n → resultOfAction (lastAction acts (i + 1)) ≡ 0
+other-goes-on acts ps n i k e more =
+    rw (add-one i) (go (eqb (suc i) n) refl (eqb (resultOfAction (lastAction acts (suc i))) 0) refl (rw (add-one i) at more) (both-right (otherSound acts ps i k) _ e))
+  where
+    go : (l : Bool) → eqb (suc i) n ≡ l → (o : Bool) → eqb (resultOfAction (lastAction acts (suc i))) 0 ≡ o → suc i < n → l || o ≡ true
+        → resultOfAction (lastAction acts (suc i)) ≡ 0
+    go true f o h more w = absurd (omega (arith, eqb-true (suc i) n f))
+    go false f true h more w = eqb-true _ _ h
+    go false f false h more w = absurd (false≢true w)
+
 -- action i, of which x is read: by a move, and by another action
 module _
     (acts ps : List ℕ) (n m i k : ℕ) (g : Given acts ps n m) (at : Passing acts ps n m i k) (before : i < n) (bytes : (j : ℕ) → getD acts j 0 < 256)
@@ -153,10 +168,16 @@ module _
       move-step : ltb (step acts ps m i k) notSound ≡ ltb (moveStep ps m k x) notSound
       move-step = ap (λ (r : ℕ). ltb r notSound) (sym (step-of-listed acts ps m i k x read move (at .goes-on before)))
 
-      pub move-out : ltb (moveStep ps m k x) notSound ≡ false → isGood limits acts ps n m ≡ false
+      move-out : ltb (moveStep ps m k x) notSound ≡ false → isGood limits acts ps n m ≡ false
       move-out e = going-out acts ps n m i k g (at .going) before bytes (move-step ∙ e)
 
-      pub move-on : ltb (moveStep ps m k x) notSound ≡ true → Passing acts ps n m (i + 1) (k + 1)
+      -- a move that leaves no position
+      move-off : ltb (moveStep ps m k x) notSound ≡ false → movesIn acts (suc i) ≤ m → nextSound limits acts ps i ≡ false
+      move-off e =
+          turn-off acts ps n m i (step acts ps m i k) (going-step acts ps n m i k g (at .going) before bytes) (omega (arith, g .some))
+          (omega (arith, g .some, ltb-false (step acts ps m i k) notSound (move-step ∙ e)))
+
+      move-on : ltb (moveStep ps m k x) notSound ≡ true → Passing acts ps n m (i + 1) (k + 1)
       move-on e =
           let counts : k + 1 ≡ movesAfter acts i k = rw (← read, le-leb x lastMove move) (add-one k) in
           record {
@@ -174,7 +195,7 @@ module _
           going-on acts ps n m i k g (at .going) before bytes k counts (other-step ∙ e)
 
       -- an action after one that ended the game is not sound
-      pub other-out : otherMayStand acts ps n i k ≡ false → isGood limits acts ps n m ≡ false
+      other-out : otherMayStand acts ps n i k ≡ false → isGood limits acts ps n m ≡ false
       other-out = go (otherSound acts ps i k) refl (eqb (suc i) n) refl (eqb (resultOfAction (lastAction acts (suc i))) 0) refl
         where
           go : (s : Bool) → otherSound acts ps i k ≡ s → (l : Bool) → eqb (suc i) n ≡ l → (o : Bool) → eqb (resultOfAction (lastAction acts (suc i))) 0 ≡ o
@@ -188,15 +209,122 @@ module _
               going-out acts ps n m (suc i) k g next more bytes
               (unsound acts ps m (suc i) k (step-after-end acts ps m (suc i) k (eqb-false _ _ h)))
 
-      pub other-on : otherMayStand acts ps n i k ≡ true → Passing acts ps n m (i + 1) k
-      other-on e =
-          record {
-            going = other-going (both-left (otherSound acts ps i k) _ e);
-            goes-on = λ more. rw (add-one i) (go (eqb (suc i) n) refl (eqb (resultOfAction (lastAction acts (suc i))) 0) refl (rw (add-one i) at more) (both-right (otherSound acts ps i k) _ e));
-          }
+      other-on : otherMayStand acts ps n i k ≡ true → Passing acts ps n m (i + 1) k
+      other-on e = record { going = other-going (both-left (otherSound acts ps i k) _ e); goes-on = other-goes-on acts ps n i k e }
+
+-- The pass looks at a position when it is left: at the head of its loop the log is sound exactly if what stands on the board is a position.
+pub record Reaching (acts ps : List ℕ) (n m i k : ℕ) : Type 0 where
+  pub far : i ≤ n
+  pub counted : k ≡ movesIn acts i
+  pub within : k ≤ m
+  pub ok : sound limits acts ps i ≡ isPosition (item positionSize ps k)
+  pub goes-on : i < n → resultOfAction (lastAction acts i) ≡ 0
+
+reached : (acts ps : List ℕ) (n m i k : ℕ) → Passing acts ps n m i k → Reaching acts ps n m i k
+reached acts ps n m i k p =
+    record { far = p .going .far; counted = p .going .counted; within = p .going .within; ok = p .going .ok ∙ sym (p .going .stands); goes-on = p .goes-on }
+
+passing : (acts ps : List ℕ) (n m i k : ℕ) → Reaching acts ps n m i k → isPosition (item positionSize ps k) ≡ true → Passing acts ps n m i k
+passing acts ps n m i k r e =
+    record { going = record { far = r .far; counted = r .counted; within = r .within; ok = r .ok ∙ e; stands = e }; goes-on = r .goes-on }
+
+-- the start, and the end
+pub pass-start : (acts ps : List ℕ) (n m : ℕ) → Reaching acts ps n m 0 0
+unfolding sound movesIn lastAction
+pass-start acts ps n m = record { far = zero-le; counted = refl; within = zero-le; ok = refl; goes-on = λ more. refl }
+
+pub pass-end : (acts ps : List ℕ) (n m i k : ℕ) → n ≤ i → Reaching acts ps n m i k → eqb m k && isPosition (item positionSize ps k) ≡ isGood limits acts ps n m
+unfolding isGood
+pass-end acts ps n m i k over r =
+    let e : n ≡ i = omega (arith, r .far) in
+    rw (e, ← r .counted, r .ok)
+
+-- action i, of which x is read
+module _
+    (acts ps : List ℕ) (n m i k : ℕ) (g : Given acts ps n m) (at : Reaching acts ps n m i k) (before : i < n) (bytes : (j : ℕ) → getD acts j 0 < 256)
+    (x : ℕ) (read : x ≡ moveAt acts i)
+  where
+    out-of-position : isPosition (item positionSize ps k) ≡ false → isGood limits acts ps n m ≡ false
+    out-of-position e = spoiled acts ps n m i (at .far) (at .ok ∙ e)
+
+    module _ (move : x ≤ lastMove) where
+      abbrev p : List ℕ
+      p = item positionSize ps k
+
+      abbrev q : List ℕ
+      q = item positionSize ps (suc k)
+
+      abbrev turned : Bool
+      turned = not (eqb (side (positionOf q)) (side (positionOf p)))
+
+      moves-here : movesIn acts (suc i) ≡ suc k
+      unfolding movesIn
+      moves-here = rw (← read, le-leb x lastMove move, ← at .counted)
+
+      -- with a position on the board, the step passes exactly if the move leads to another
+      leads-by : k < m → listsMove p x ≡ true → turned ≡ true → ltb (moveStep ps m k x) notSound ≡ isPosition q
+      leads-by less l t = move-sound-by ps m k x less (g .some) ∙ rw (l, t) (and-true (isPosition q))
+
+      no-step : moveMayStand ps m k x ≡ false → isPosition p ≡ true → ltb (moveStep ps m k x) notSound ≡ false
+      unfolding isPositionWith
+      no-step e here = go (ltb k m) refl (listsMove p x) refl turned refl (simp here at e)
         where
-          go : (l : Bool) → eqb (suc i) n ≡ l → (o : Bool) → eqb (resultOfAction (lastAction acts (suc i))) 0 ≡ o → suc i < n → l || o ≡ true
-              → resultOfAction (lastAction acts (suc i)) ≡ 0
-          go true f o h more w = absurd (omega (arith, eqb-true (suc i) n f))
-          go false f true h more w = eqb-true _ _ h
-          go false f false h more w = absurd (false≢true w)
+          go : (a : Bool) → ltb k m ≡ a → (b : Bool) → listsMove p x ≡ b → (t : Bool) → turned ≡ t → a && (b && t) ≡ false → ltb (moveStep ps m k x) notSound ≡ false
+          go false e b f t h w = move-unsound ps m k (ltb-false k m e) (at .within) x
+          go true e false f t h w = move-sound-by ps m k x (ltb-true k m e) (g .some) ∙ rw f
+          go true e true f false h w = move-sound-by ps m k x (ltb-true k m e) (g .some) ∙ rw (f, h) (and-false (isPosition q))
+          go true e true f true h w = absurd (false≢true (sym w))
+
+      pub leave-out : moveMayStand ps m k x ≡ false → isGood limits acts ps n m ≡ false
+      leave-out e = go (isPosition p) refl
+        where
+          go : (t : Bool) → isPosition p ≡ t → isGood limits acts ps n m ≡ false
+          go false f = out-of-position f
+          go true f = move-out acts ps n m i k g (passing acts ps n m i k at f) before bytes x read move (no-step e f)
+
+      left-behind : (here : isPosition p ≡ true) → k < m → ltb (moveStep ps m k x) notSound ≡ isPosition q → Reaching acts ps n m (i + 1) (k + 1)
+      unfolding sound
+      left-behind here less by = go (isPosition q) refl
+        where
+          go : (t : Bool) → isPosition q ≡ t → Reaching acts ps n m (i + 1) (k + 1)
+          go true f = reached acts ps n m (i + 1) (k + 1) (move-on acts ps n m i k g (passing acts ps n m i k at here) before bytes x read move (by ∙ f))
+          go false f =
+              let next : nextSound limits acts ps i ≡ false = move-off acts ps n m i k g (passing acts ps n m i k at here) before bytes x read move (by ∙ f) (omega (arith, moves-here)) in
+              record {
+                far = omega arith;
+                counted = rw (add-one i, add-one k) (sym moves-here);
+                within = omega arith;
+                ok = rw (add-one i, add-one k, next, f) (and-false (sound limits acts ps i));
+                goes-on = λ more. rw (add-one i) (move-goes-on acts i (rw (← read) move));
+              }
+
+      pub leave-on : moveMayStand ps m k x ≡ true → Reaching acts ps n m (i + 1) (k + 1)
+      unfolding isPositionWith
+      leave-on e =
+          let leads : moveLeads p x q ≡ true = both-right (ltb k m) _ e in
+          let with : isPositionWith p x ≡ true = both-left (isPositionWith p x) turned leads in
+          let here : isPosition p ≡ true = both-left (isPosition p) (listsMove p x) with in
+          let less : k < m = ltb-true k m (both-left (ltb k m) _ e) in
+          left-behind here less (leads-by less (both-right (isPosition p) (listsMove p x) with) (both-right (isPositionWith p x) turned leads))
+
+    module _ (other : lastMove < x) where
+      pub stay-out : otherMayStand acts ps n i k ≡ false → isGood limits acts ps n m ≡ false
+      stay-out e = go (isPosition (item positionSize ps k)) refl
+        where
+          go : (t : Bool) → isPosition (item positionSize ps k) ≡ t → isGood limits acts ps n m ≡ false
+          go false f = out-of-position f
+          go true f = other-out acts ps n m i k g (passing acts ps n m i k at f) before bytes x read other e
+
+      pub stay-on : otherMayStand acts ps n i k ≡ true → Reaching acts ps n m (i + 1) k
+      unfolding sound movesIn
+      stay-on e = go (isPosition (item positionSize ps k)) refl
+        where
+          go : (t : Bool) → isPosition (item positionSize ps k) ≡ t → Reaching acts ps n m (i + 1) k
+          go true f = reached acts ps n m (i + 1) k (other-on acts ps n m i k g (passing acts ps n m i k at f) before bytes x read other e)
+          go false f = record {
+            far = omega arith;
+            counted = rw (add-one i, ← read, lt-leb x lastMove other) (at .counted);
+            within = at .within;
+            ok = rw (add-one i, at .ok, f);
+            goes-on = other-goes-on acts ps n i k e;
+          }

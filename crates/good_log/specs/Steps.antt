@@ -3,7 +3,7 @@
 use mathlib.Core.Bool.{Bool, false, cond, not, _&&_, _||_}
 use mathlib.Core.List.{List}
 use Prim.Native.Nat.{ℕ, suc, _+_}
-use lib.Dec.{eqb, leb}
+use lib.Dec.{eqb, leb, ltb}
 use Rattle.square.specs.Answer.{notListed, noOffer, noClaim}
 use Rattle.square.specs.Parts.{item}
 use Rattle.chess_move.specs.Number.{lastMove}
@@ -14,7 +14,7 @@ use Rattle.action.specs.declared.Stored.the-variants.{Holds, Nothing}
 use Rattle.action.specs.Layout.{colourCheck}
 use Rattle.actions.specs.Part.{moveAt, lastAction}
 use Rattle.position.specs.Layout.{positionSize, side, positionOf}
-use Rattle.stored_position.specs.Bytes.{isPosition, listsMove}
+use Rattle.stored_position.specs.Bytes.{isPosition, listsMove, isPositionWith}
 use Rattle.ending.specs.Ending.{resultOfAction, resultAt, offerAt}
 use Rattle.claim.specs.Claim.{claimAt}
 use Rattle.game_rules.specs.Limits.{limits}
@@ -43,6 +43,14 @@ otherMayStand acts ps n i k = otherSound acts ps i k && (eqb (suc i) n || eqb (r
 -- a move from the position with bytes p to that with bytes q was accepted, and q is as it was written
 abbrev pub moveFits : List ℕ → ℕ → List ℕ → Bool
 moveFits p m q = listsMove p m && (isPosition q && not (eqb (side (positionOf q)) (side (positionOf p))))
+
+-- the position with bytes p lists move m, and at q, after it, the other side is to move
+abbrev pub moveLeads : List ℕ → ℕ → List ℕ → Bool
+moveLeads p m q = isPositionWith p m && not (eqb (side (positionOf q)) (side (positionOf p)))
+
+-- move x was the next one, with k made before it and m in all, if what it left is a position
+abbrev pub moveMayStand : List ℕ → ℕ → ℕ → ℕ → Bool
+moveMayStand ps m k x = ltb k m && moveLeads (item positionSize ps k) x (item positionSize ps (suc k))
 
 -- more moves than a log may have: what a step gives for an action that is not sound
 abbrev pub notSound : ℕ

@@ -9,7 +9,6 @@ use game_rules::ACTIONS_LENGTH;
 use game_rules::MAX_ACTIONS;
 use game_rules::MAX_MOVES;
 use game_rules::POSITIONS_LENGTH;
-use position::LENGTH_AT;
 use square::ACCEPTED;
 use square::NO_CLAIM;
 use square::NO_OFFER;
@@ -17,22 +16,16 @@ use square::NOT_GOOD;
 use square::NOT_LISTED;
 use square::OUT_OF_RANGE;
 use square::PART_TOO_SHORT;
-use stored_position::BLOCK;
 ghost use mathlib.Core.Path.{_≡_};
-ghost use mathlib.Core.Bool.{true};
-ghost use Prim.Native.Nat.{_+_, _≤_, _<_};
-ghost use lib.Dec.{ltb};
+ghost use Prim.Native.Nat.{_≤_, _<_};
 ghost use lib.ListN.{length};
-ghost use Rattle.square.specs.Parts.{item};
 ghost use Rattle.chess_move.specs.Number.{lastMove};
 ghost use Rattle.action.specs.Layout.{colourCheck};
-ghost use Rattle.position.specs.Layout.{positionSize};
-ghost use Rattle.stored_position.specs.Bytes.{isPosition, listsMove};
 ghost use Rattle.game_rules.specs.Limits.{limits, actionsLength, positionsLength};
 ghost use Rattle.game_rules.specs.Rules.{unless};
 ghost use Rattle.game_rules.specs.Good.{isGood};
 ghost use Rattle.game_rules.specs.Calls.{logCheck};
-ghost use Rattle.good_log.specs.Steps.{otherCheck, otherFits, otherSound, otherMayStand, moveFits, notSound, moveStep};
+ghost use Rattle.good_log.specs.Steps.{otherCheck, otherFits, otherSound, otherMayStand, moveLeads, moveMayStand};
 
 fn number_unless(ok: bool, number: u64) -> u64
     ensures { λ r. ⌜ r ≡ unless ok number ⌝ }
@@ -68,28 +61,12 @@ fn other_fits(acts: &[u8], ps: &[u8], i: usize, k: usize, stored: Stored) -> boo
     }
 }
 
-// Whether a position lists a move. Its bytes past the list are 0, so that all of a block may be looked at for any move but 0.
-fn lists(p: &[u8], m: u64) -> bool
-    requires { ⌜ (isPosition (now p) ≡ true) × (m ≤ lastMove) ⌝ }
-    ensures { λ r. ⌜ r ≡ listsMove (now (p .entry)) m ⌝ }
+// Whether a position lists a move, and the side to move is another one after it. That what stands after it is a position is asked when it is left.
+fn move_leads(p: &[u8], m: u64, q: &[u8]) -> bool
+    requires { ⌜ m ≤ lastMove ⌝ }
+    ensures { λ r. ⌜ r ≡ moveLeads (now (p .entry)) m (now (q .entry)) ⌝ }
 {
-    if m == 0 {
-        return stored_position::lists(p, m);
-    }
-    if BLOCK <= square::byte_at(p, LENGTH_AT) as usize {
-        return stored_position::lists(p, m);
-    }
-    stored_position::in_block(p, m as u16)
-}
-
-fn move_fits(p: &[u8], m: u64, q: &[u8]) -> bool
-    requires { ⌜ (isPosition (now p) ≡ true) × (m ≤ lastMove) ⌝ }
-    ensures { λ r. ⌜ r ≡ moveFits (now (p .entry)) m (now (q .entry)) ⌝ }
-{
-    if !lists(p, m) {
-        return false;
-    }
-    if !stored_position::is_position(q) {
+    if !stored_position::is_position_with(p, m as u16) {
         return false;
     }
     square::byte_at(q, SIDE_AT) != square::byte_at(p, SIDE_AT)
@@ -97,14 +74,14 @@ fn move_fits(p: &[u8], m: u64, q: &[u8]) -> bool
 
 // Whether move `x` was accepted as the next one, with `k` made before it and `m` in all. Whether the list before it was empty is not asked: no such list
 // has it. By `<=` and not `==`, so that the compiler sees that the position after it lies in the part.
-fn move_is_sound(ps: &[u8], m: usize, k: usize, x: u64) -> bool
-    requires { ⌜ (k ≤ m) × (m ≤ limits .most-moves) × (isPosition (item positionSize (now ps) k) ≡ true) × (x ≤ lastMove) ⌝ }
-    ensures { λ r. ⌜ r ≡ ltb (moveStep (now (ps .entry)) m k x) notSound ⌝ }
+fn move_may_stand(ps: &[u8], m: usize, k: usize, x: u64) -> bool
+    requires { ⌜ (m ≤ limits .most-moves) × (x ≤ lastMove) ⌝ }
+    ensures { λ r. ⌜ r ≡ moveMayStand (now (ps .entry)) m k x ⌝ }
 {
     if m <= k {
         return false;
     }
-    move_fits(position::at(ps, k), x, position::at(ps, k + 1))
+    move_leads(position::at(ps, k), x, position::at(ps, k + 1))
 }
 
 // Whether action `i`, which is no move, was accepted with `k` moves made before it.
@@ -132,15 +109,13 @@ fn other_may_stand(acts: &[u8], ps: &[u8], n: usize, i: usize, k: usize) -> bool
     ending::by_last_action(acts, i + 1) == GOES_ON
 }
 
-// Whether some sequence of accepted calls from a start makes the log. No turn finds its action past the part: it is tested so that the compiler sees that
+// Whether some sequence of accepted calls from a start makes the log. Each position is looked at when a move leaves it, with its list, and the last one at
+// the end. No turn finds its action past the part: it is tested so that the compiler sees that
 // the action's bytes are there.
 fn is_good(acts: &[u8], ps: &[u8], n: usize, m: usize) -> bool
     requires { ⌜ (n ≤ limits .most-actions) × (m ≤ limits .most-moves) × (actionsLength limits ≤ length (now acts)) × (positionsLength limits ≤ length (now ps)) ⌝ }
     ensures { λ r. ⌜ r ≡ isGood limits (now (acts .entry)) (now (ps .entry)) n m ⌝ }
 {
-    if !stored_position::is_position(position::at(ps, 0)) {
-        return false;
-    }
     let mut k: usize = 0;
     let mut i: usize = 0;
     while i < n {
@@ -149,7 +124,7 @@ fn is_good(acts: &[u8], ps: &[u8], n: usize, m: usize) -> bool
         }
         let x = actions::move_at(acts, i);
         if x <= LAST_MOVE {
-            if !move_is_sound(ps, m, k, x) {
+            if !move_may_stand(ps, m, k, x) {
                 return false;
             }
             k += 1;
@@ -158,7 +133,10 @@ fn is_good(acts: &[u8], ps: &[u8], n: usize, m: usize) -> bool
         }
         i += 1;
     }
-    k == m
+    if k != m {
+        return false;
+    }
+    stored_position::is_position(position::at(ps, m))
 }
 
 // The checks that stand before each call's and query's own: 16, then 9.

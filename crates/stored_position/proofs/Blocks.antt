@@ -9,17 +9,18 @@ use lib.Bits.{bitOr}
 use lib.Dec.{eqb, leb}
 use lib.ListN.{length, take, drop, getD, length-drop}
 use lib.Seq.{getD-drop, take-all}
-use borrow.Author.Tests.{eq-eqb, ne-eqb, le-leb}
+use borrow.Author.Tests.{ne-eqb, le-leb}
 use Rattle.square.specs.Numbers.{allAtMost, among}
+use Rattle.square.proofs.Numbers.{both-left}
 use Rattle.square.proofs.Bounds.{gather, bound-at, bound-parts, bound-overlap}
 use Rattle.chess_move.specs.Number.{lastMove, ofBytes}
-use Rattle.position.specs.Layout.{lengthAt, movesAt, positionSize, movesFrom, positionOf}
-use Rattle.stored_position.specs.Bytes.{block, listFits, listsMove, inBlock}
+use Rattle.position.specs.Layout.{movesAt, movesFrom}
+use Rattle.stored_position.specs.Bytes.{listFits, listFitsWith}
 use Rattle.stored_position.proofs.Listing.{movesLeft, moveHere, one-less, lists-end}
 
 -- from where on a list that is shorter than a block uses no byte
-abbrev pub behindBlock : ℕ
-behindBlock = movesAt + 2 * (block - 1)
+abbrev pub behind : ℕ → ℕ
+behind block = movesAt + 2 * (block - 1)
 
 -- the start of the loop over the first k entries, a turn, and its end
 pub range-start : (n : ℕ) (s : List ℕ) (k : ℕ) → allAtMost n (movesLeft s k 0) ≡ allAtMost n (movesFrom s movesAt k)
@@ -60,12 +61,21 @@ module _ (s : List ℕ) (entries : ℕ) where
   by-past e = rw e (and-true (allAtMost 0 past))
 
   -- a short list's zeros, in two parts that overlap
-  pub not-near : allAtMost 0 (take (2 * block) (drop (movesAt + 2 * entries) s)) ≡ false → listFits s entries ≡ false
-  not-near e = not-past (bound-parts 0 s (movesAt + 2 * entries) (2 * block) ∙ ap (λ (t : Bool). t && allAtMost 0 (drop (movesAt + 2 * entries + 2 * block) s)) e)
+  pub not-near : (block : ℕ) → allAtMost 0 (take (2 * block) (drop (movesAt + 2 * entries) s)) ≡ false → listFits s entries ≡ false
+  not-near block e = not-past (bound-parts 0 s (movesAt + 2 * entries) (2 * block) ∙ ap (λ (t : Bool). t && allAtMost 0 (drop (movesAt + 2 * entries + 2 * block) s)) e)
 
-  pub far : entries < block → allAtMost 0 (take (2 * block) (drop (movesAt + 2 * entries) s)) ≡ true
-      → allAtMost 0 (drop behindBlock s) ≡ allAtMost 0 (drop (movesAt + 2 * entries) s)
-  far short e = bound-overlap 0 s (movesAt + 2 * entries) behindBlock (2 * block) (omega arith) (omega arith) e
+  pub far : (block : ℕ) → entries < block → allAtMost 0 (take (2 * block) (drop (movesAt + 2 * entries) s)) ≡ true
+      → allAtMost 0 (drop (behind block) s) ≡ allAtMost 0 (drop (movesAt + 2 * entries) s)
+  far block short e = bound-overlap 0 s (movesAt + 2 * entries) (behind block) (2 * block) (omega arith) (omega arith) e
+
+  -- a list with a move
+  pub not-list : (m : ℕ) → listFits s entries ≡ false → listFitsWith s entries m ≡ false
+  unfolding listFitsWith
+  not-list m e = rw e
+
+  pub by-among : (m : ℕ) → listFits s entries ≡ true → among m (movesFrom s movesAt entries) ≡ listFitsWith s entries m
+  unfolding listFitsWith
+  by-among m e = rw e
 
 -- from a place on all bytes are 0
 abbrev pub ZerosFrom : List ℕ → ℕ → Type 0
@@ -94,9 +104,9 @@ block-from n s at (suc k) j z =
     let e : suc k + j ≡ suc (k + j) = omega arith in
     rw e (ap (λ (t : Bool). leb (ofBytes (getD s at 0) (getD s (at + 1) 0)) n && t) (block-from n s (at + 2) k j (λ i h. z i (omega arith))))
 
-pub block-range : (n : ℕ) (s : List ℕ) (k : ℕ) → k ≤ block → allAtMost 0 (drop (movesAt + 2 * k) s) ≡ true
+pub block-range : (n : ℕ) (s : List ℕ) (k block : ℕ) → k ≤ block → allAtMost 0 (drop (movesAt + 2 * k) s) ≡ true
     → allAtMost n (movesFrom s movesAt block) ≡ allAtMost n (movesFrom s movesAt k)
-block-range n s k h z =
+block-range n s k block h z =
     let e : k + (block - k) ≡ block = omega arith in
     ap (λ (x : ℕ). allAtMost n (movesFrom s movesAt x)) (sym e) ∙ block-from n s movesAt k (block - k) (zeros-from s (movesAt + 2 * k) z)
 
@@ -117,30 +127,26 @@ among-from m s at (suc k) j n z =
     let e : suc k + j ≡ suc (k + j) = omega arith in
     rw e (ap (λ (t : Bool). eqb (ofBytes (getD s at 0) (getD s (at + 1) 0)) m || t) (among-from m s (at + 2) k j n (λ i h. z i (omega arith))))
 
-block-among : (m : ℕ) (s : List ℕ) (k : ℕ) → k ≤ block → (m ≡ 0 → ⊥) → allAtMost 0 (drop (movesAt + 2 * k) s) ≡ true
+block-among : (m : ℕ) (s : List ℕ) (k block : ℕ) → k ≤ block → (m ≡ 0 → ⊥) → allAtMost 0 (drop (movesAt + 2 * k) s) ≡ true
     → among m (movesFrom s movesAt block) ≡ among m (movesFrom s movesAt k)
-block-among m s k h n z =
+block-among m s k block h n z =
     let e : k + (block - k) ≡ block = omega arith in
     ap (λ (x : ℕ). among m (movesFrom s movesAt x)) (sym e) ∙ among-from m s movesAt k (block - k) n (zeros-from s (movesAt + 2 * k) z)
 
--- so the block of a position has another move than 0 exactly if the list, which is shorter, has it
-pub block-lists : (m : ℕ) (s : List ℕ) → getD s lengthAt 0 ≤ block → (m ≡ 0 → ⊥) → allAtMost 0 (drop (movesAt + 2 * getD s lengthAt 0) s) ≡ true → inBlock s m ≡ listsMove s m
-unfolding inBlock listsMove positionOf
-block-lists m s h n z = ap (λ (t : Bool). eqb (length s) positionSize && t) (block-among m s (getD s lengthAt 0) h n z)
+-- so a block has another move than 0 exactly if the list, which is shorter, has it
+pub block-lists : (m : ℕ) (s : List ℕ) (k block : ℕ) → k ≤ block → (m ≡ 0 → ⊥) → listFits s k ≡ true → among m (movesFrom s movesAt block) ≡ listFitsWith s k m
+unfolding listFits
+block-lists m s k block h n fits =
+    block-among m s k block h n (both-left (allAtMost 0 (drop (movesAt + 2 * k) s)) _ fits) ∙ by-among s k m fits
 
--- the start of the loop over a block, a turn, and its end
-pub look-start : (s : List ℕ) (m : ℕ) → length s ≡ positionSize → among m (movesFrom s movesAt block) ≡ inBlock s m
-unfolding inBlock
-look-start s m h = rw (eq-eqb _ _ h)
+-- the start of the loop that looks for a move among the first k entries, a turn, and its end
+pub look-start : (s : List ℕ) (m k : ℕ) → among m (movesLeft s k 0) ≡ among m (movesFrom s movesAt k)
+look-start s m k = let e : k - 0 ≡ k = omega arith in rw e
 
-pub look-turn : (s : List ℕ) (m i : ℕ) (found : Bool) → i < block
-    → (found || eqb (moveHere s i) m) || among m (movesLeft s block (i + 1)) ≡ found || among m (movesLeft s block i)
+pub look-turn : (s : List ℕ) (m k i : ℕ) (found : Bool) → i < k
+    → (found || eqb (moveHere s i) m) || among m (movesLeft s k (i + 1)) ≡ found || among m (movesLeft s k i)
 unfolding among
-look-turn s m i found h = rw (one-less s block i h) (or-assoc found (eqb (moveHere s i) m) (among m (movesLeft s block (i + 1))))
+look-turn s m k i found h = rw (one-less s k i h) (or-assoc found (eqb (moveHere s i) m) (among m (movesLeft s k (i + 1))))
 
-pub look-end : (s : List ℕ) (m i : ℕ) (found : Bool) → block ≤ i → found || among m (movesLeft s block i) ≡ found
-look-end s m i found h = rw (lists-end s m block i h) (or-false found)
-
-pub look-short : (s : List ℕ) (m : ℕ) → (length s ≡ positionSize → ⊥) → inBlock s m ≡ false
-unfolding inBlock
-look-short s m h = rw (ne-eqb _ _ h)
+pub look-end : (s : List ℕ) (m k i : ℕ) (found : Bool) → k ≤ i → found || among m (movesLeft s k i) ≡ found
+look-end s m k i found h = rw (lists-end s m k i h) (or-false found)

@@ -10,5 +10,5 @@ stored-position-determined = record {
   to-bytes-bytes = λ p out. determined;
   is-position = λ s. determined;
   lists = λ s m. determined;
-  in-block = λ s m. determined;
+  is-position-with = λ s m. determined;
 }

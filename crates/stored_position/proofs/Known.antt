@@ -8,18 +8,18 @@ use native.Mathlib.Omega.{arith}
 use lib.Dec.{eqb, leb, eqb·suc-zero, leb·suc-zero}
 use lib.ListN.{length, take, drop, getD, replicate, length-drop, take-append-drop}
 use lib.Seq.{drop-cons, drop-drop}
-use borrow.Author.Tests.{eq-eqb, eqb-true, eqb-false, le-leb}
-use Rattle.square.specs.Numbers.{allAtMost, same}
-use Rattle.square.proofs.Numbers.{both-right}
+use borrow.Author.Tests.{eq-eqb, eqb-true, eqb-false, le-leb, leb-true, leb-false}
+use Rattle.square.specs.Numbers.{allAtMost, same, among}
+use Rattle.square.proofs.Numbers.{both-left, both-right}
 use Rattle.square.proofs.Same.{same-lengths}
 use Rattle.board_builder.specs.BoardBuilder.{recordSize, numbersInRange}
 use Rattle.chess_move.specs.Number.{lastMove}
 use Rattle.move_list.specs.MoveList.{longestList, listInRange}
 use Rattle.position.specs.Layout.{checkAt, lengthAt, movesAt, positionSize, movesFrom, positionOf}
 use Rattle.position.proofs.Moves.{AllBytes, length-moves, take-two}
-use Rattle.stored_position.specs.Bytes.{moveBytes, positionBytes, positionCheck, isPosition, listFits}
+use Rattle.stored_position.specs.Bytes.{moveBytes, positionBytes, positionCheck, isPosition, frontFits, listFits, listFitsWith, listsMove, isPositionWith}
 use Rattle.stored_position.proofs.Bytes.{length-position}
-use Rattle.stored_position.proofs.Checks.{position-fits, by-list}
+use Rattle.stored_position.proofs.Checks.{position-fits, bad-board, bad-check, by-list}
 
 -- a list that is read from bytes is short enough: its range is that of its moves
 pub read-list : (s : List ℕ) → AllBytes s → listInRange (positionOf s .moves) ≡ allAtMost lastMove (movesFrom s movesAt (getD s lengthAt 0))
@@ -110,14 +110,38 @@ other-size s n = go (eqb (positionCheck (positionOf s)) 0) refl
         same-lengths s (positionBytes (positionOf s)) (λ h. n (h ∙ length-position (positionOf s) (p .wide) (p .short)))
     go false e = refl
 
--- so a position is whole, and past its list all is 0
-pub position-whole : (s : List ℕ) → isPosition s ≡ true → length s ≡ positionSize
-position-whole s e = go (eqb (length s) positionSize) refl
-  where
-    go : (t : Bool) → eqb (length s) positionSize ≡ t → length s ≡ positionSize
-    go true f = eqb-true _ _ f
-    go false f = absurd (false≢true (sym (other-size s (eqb-false _ _ f)) ∙ e))
+-- the front of a position: without it there is none, with it the list is left to look at
+module _ (s : List ℕ) where
+  pub front-whole : frontFits s ≡ true → length s ≡ positionSize
+  unfolding frontFits
+  front-whole e = eqb-true _ _ (both-left (eqb (length s) positionSize) _ e)
 
-pub position-unused : (s : List ℕ) (b : AllBytes s) (e : isPosition s ≡ true) → allAtMost 0 (past s b (position-whole s e)) ≡ true
-position-unused s b e =
-    both-right (eqb (positionCheck (positionOf s)) 0) (allAtMost 0 (past s b (position-whole s e))) (sym (known s b (position-whole s e)) ∙ e)
+  front-board : frontFits s ≡ true → numbersInRange (take recordSize s) ≡ true
+  unfolding frontFits
+  front-board e = both-left (numbersInRange (take recordSize s)) _ (both-right (eqb (length s) positionSize) _ e)
+
+  front-check : frontFits s ≡ true → getD s checkAt 0 ≤ 1
+  unfolding frontFits
+  front-check e = leb-true _ _ (both-right (numbersInRange (take recordSize s)) _ (both-right (eqb (length s) positionSize) _ e))
+
+  pub not-front : frontFits s ≡ false → isPosition s ≡ false
+  unfolding frontFits positionOf
+  not-front = go (eqb (length s) positionSize) refl (numbersInRange (take recordSize s)) refl (leb (getD s checkAt 0) 1) refl
+    where
+      go : (a : Bool) → eqb (length s) positionSize ≡ a → (b : Bool) → numbersInRange (take recordSize s) ≡ b → (t : Bool) → leb (getD s checkAt 0) 1 ≡ t
+          → a && (b && t) ≡ false → isPosition s ≡ false
+      go false e b f t g h = other-size s (eqb-false _ _ e)
+      go true e false f t g h = not-in-range s 4 (bad-board (positionOf s) f)
+      go true e true f false g h = not-in-range s 4 (bad-check (positionOf s) f (leb-false _ _ g))
+      go true e true f true g h = absurd (false≢true (sym h))
+
+  pub by-front : AllBytes s → frontFits s ≡ true → isPosition s ≡ listFits s (getD s lengthAt 0)
+  by-front b e = by-its-list s b (front-whole e) (front-board e) (front-check e)
+
+  pub not-front-with : (m : ℕ) → frontFits s ≡ false → isPositionWith s m ≡ false
+  unfolding isPositionWith
+  not-front-with m e = rw (not-front e)
+
+  pub by-front-with : (m : ℕ) → AllBytes s → frontFits s ≡ true → isPositionWith s m ≡ listFitsWith s (getD s lengthAt 0) m
+  unfolding isPositionWith listFitsWith listsMove positionOf
+  by-front-with m b e = ap₂ _&&_ (by-front b e) (ap (λ (t : Bool). t && among m (movesFrom s movesAt (getD s lengthAt 0))) (eq-eqb _ _ (front-whole e)))

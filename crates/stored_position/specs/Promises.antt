@@ -8,7 +8,7 @@ use lib.ListN.{length, take}
 use Rattle.square.specs.Answer.{writeAnswer, writeBytes}
 use Rattle.square.specs.Determined.{Determined, Is}
 use Rattle.position.specs.Layout.{Position, positionSize, positionOf}
-use Rattle.stored_position.specs.Bytes.{positionBytes, positionCheck, isPosition, listsMove, inBlock}
+use Rattle.stored_position.specs.Bytes.{positionBytes, positionCheck, isPosition, listsMove, isPositionWith}
 
 -- a position in range has 580 bytes
 abbrev pub OneSize : Type 0
@@ -33,4 +33,4 @@ pub record StoredPositionDetermined : Type 0 where
   pub to-bytes-bytes : (p : Position) (out : List ℕ) → Determined (Is (writeBytes (positionCheck p) (positionBytes p) out))
   pub is-position : (s : List ℕ) → Determined (Is (isPosition s))
   pub lists : (s : List ℕ) (m : ℕ) → Determined (Is (listsMove s m))
-  pub in-block : (s : List ℕ) (m : ℕ) → Determined (Is (inBlock s m))
+  pub is-position-with : (s : List ℕ) (m : ℕ) → Determined (Is (isPositionWith s m))

@@ -16,20 +16,20 @@ ghost use mathlib.Core.Path.{_≡_};
 ghost use Prim.Native.Nat.{_+_, _*_, _-_, _≤_, _<_};
 ghost use lib.ListN.{length, replicate};
 ghost use Rattle.square.specs.Answer.{writeAnswer, writeBytes};
-ghost use Rattle.square.specs.Numbers.{allAtMost};
+ghost use Rattle.square.specs.Numbers.{allAtMost, among};
 ghost use Rattle.square.specs.Parts.{written};
 ghost use Rattle.board_builder.specs.BoardBuilder.{recordSize, numbers};
 ghost use Rattle.move_list.specs.MoveList.{longestList};
 ghost use Rattle.chess_move.specs.Number.{lastMove, ofBytes};
 ghost use Rattle.position.specs.Layout.{movesAt, positionSize, movesFrom};
-ghost use Rattle.stored_position.specs.Bytes.{block, moveBytes, positionBytes, positionCheck, positionGiven, isPosition, listFits, listsMove, inBlock};
+ghost use Rattle.stored_position.specs.Bytes.{moveBytes, positionBytes, positionCheck, positionGiven, isPosition, frontFits, listFits, listFitsWith, listsMove, isPositionWith};
 
 // Entries that are looked at together, whether used or not, where the list is shorter, as nearly every list is: a length that is known to the compiler
-// makes straight code of the loop, and no branch hangs on the list's length.
-pub const BLOCK: usize = 48;
+// makes straight code of the loops, and no branch hangs on the list's length. The large block is for the few lists that the small one does not hold.
 
-// From here on no byte is used by a list that is shorter than a block.
-const BEHIND_BLOCK: usize = MOVES_AT + 2 * (BLOCK - 1);
+const SMALL_BLOCK: usize = 48;
+
+const LARGE_BLOCK: usize = 64;
 
 // What is wrong with a position: 5 for the board or the in-check byte, 6 for the list, or 0.
 pub fn check(b: BoardBuilder, in_check: u8, list: &[u16]) -> u64
@@ -151,23 +151,49 @@ fn moves_in_range(s: &[u8], entries: usize) -> bool
     above == 0
 }
 
+// Whether a move is one of so many entries, the first ones: with no branch, as above.
+fn has_move(s: &[u8], entries: usize, m: u16) -> bool
+    requires { ⌜ (length (now s) ≡ positionSize) × (entries ≤ longestList) ⌝ }
+    ensures { λ r. ⌜ r ≡ among m (movesFrom (now (s .entry)) movesAt entries) ⌝ }
+{
+    let mut found = false;
+    let mut i: usize = 0;
+    while i < entries {
+        let at = MOVES_AT + 2 * i;
+        found = square::either(found, s[at] as u16 + 256 * (s[at + 1] as u16) == m);
+        i += 1;
+    }
+    found
+}
+
 // Whether a list that is shorter than a block is of moves, with zeros past it. The zeros are looked at in two parts that overlap, each of one length; after
 // that the whole block may be looked at for moves.
-fn is_short_list(s: &[u8], entries: usize) -> bool
-    requires { ⌜ (length (now s) ≡ positionSize) × (entries < block) ⌝ }
+fn is_short_list(s: &[u8], entries: usize, block: usize) -> bool
+    requires { ⌜ (length (now s) ≡ positionSize) × (entries < block) × (2 * block ≤ longestList) ⌝ }
     ensures { λ r. ⌜ r ≡ listFits (now (s .entry)) entries ⌝ }
 {
     let end = MOVES_AT + 2 * entries;
-    if !square::all_at_most(&s[end..end + 2 * BLOCK], 0) {
+    if !square::all_at_most(&s[end..end + 2 * block], 0) {
         return false;
     }
-    if !square::all_at_most(&s[BEHIND_BLOCK..], 0) {
+    let behind = MOVES_AT + 2 * (block - 1);
+    if !square::all_at_most(&s[behind..], 0) {
         return false;
     }
-    moves_in_range(s, BLOCK)
+    moves_in_range(s, block)
 }
 
-// The same of any list. The zeros come last, so that the compiler does not join the ends of the two functions.
+// Whether such a list has a move too. The bytes past it are 0, so that all of the block may be looked at for any move but 0.
+fn is_short_list_with(s: &[u8], entries: usize, block: usize, m: u16) -> bool
+    requires { ⌜ (length (now s) ≡ positionSize) × (entries < block) × (2 * block ≤ longestList) × (m ≡ 0 → ⊥) ⌝ }
+    ensures { λ r. ⌜ r ≡ listFitsWith (now (s .entry)) entries m ⌝ }
+{
+    if !is_short_list(s, entries, block) {
+        return false;
+    }
+    has_move(s, block, m)
+}
+
 fn is_list(s: &[u8], entries: usize) -> bool
     requires { ⌜ (length (now s) ≡ positionSize) × (entries ≤ longestList) ⌝ }
     ensures { λ r. ⌜ r ≡ listFits (now (s .entry)) entries ⌝ }
@@ -179,9 +205,19 @@ fn is_list(s: &[u8], entries: usize) -> bool
     square::all_at_most(&s[end..], 0)
 }
 
-// Whether bytes are exactly those of a position in range.
-pub fn is_position(s: &[u8]) -> bool
-    ensures { λ r. ⌜ r ≡ isPosition (now (s .entry)) ⌝ }
+fn is_list_with(s: &[u8], entries: usize, m: u16) -> bool
+    requires { ⌜ (length (now s) ≡ positionSize) × (entries ≤ longestList) ⌝ }
+    ensures { λ r. ⌜ r ≡ listFitsWith (now (s .entry)) entries m ⌝ }
+{
+    if !is_list(s, entries) {
+        return false;
+    }
+    has_move(s, entries, m)
+}
+
+// All but the list.
+fn is_front(s: &[u8]) -> bool
+    ensures { λ r. ⌜ r ≡ frontFits (now (s .entry)) ⌝ }
 {
     if s.len() != POSITION_SIZE {
         return false;
@@ -189,14 +225,37 @@ pub fn is_position(s: &[u8]) -> bool
     if !board_builder::numbers_in_range(&s[..RECORD_SIZE]) {
         return false;
     }
-    if 1 < s[CHECK_AT] {
+    s[CHECK_AT] <= 1
+}
+
+// Whether bytes are exactly those of a position in range.
+pub fn is_position(s: &[u8]) -> bool
+    ensures { λ r. ⌜ r ≡ isPosition (now (s .entry)) ⌝ }
+{
+    if !is_front(s) {
+        return false;
+    }
+    is_list(s, s[LENGTH_AT] as usize)
+}
+
+// Whether they are, and the position lists a move.
+pub fn is_position_with(s: &[u8], m: u16) -> bool
+    ensures { λ r. ⌜ r ≡ isPositionWith (now (s .entry)) m ⌝ }
+{
+    if !is_front(s) {
         return false;
     }
     let entries = s[LENGTH_AT] as usize;
-    if BLOCK <= entries {
-        return is_list(s, entries);
+    if m == 0 {
+        return is_list_with(s, entries, m);
     }
-    is_short_list(s, entries)
+    if entries < SMALL_BLOCK {
+        return is_short_list_with(s, entries, SMALL_BLOCK, m);
+    }
+    if entries < LARGE_BLOCK {
+        return is_short_list_with(s, entries, LARGE_BLOCK, m);
+    }
+    is_list_with(s, entries, m)
 }
 
 fn number_of(low: u8, high: u8) -> u64
@@ -222,22 +281,4 @@ pub fn lists(s: &[u8], m: u64) -> bool
         i += 1;
     }
     false
-}
-
-// Whether a move stands in the first block of entries, in the list or past it: with no branch, so that the entries are taken many at a time. Bytes that are
-// not as long as a position have none.
-pub fn in_block(s: &[u8], m: u16) -> bool
-    ensures { λ r. ⌜ r ≡ inBlock (now (s .entry)) m ⌝ }
-{
-    if s.len() != POSITION_SIZE {
-        return false;
-    }
-    let mut found = false;
-    let mut i: usize = 0;
-    while i < BLOCK {
-        let at = MOVES_AT + 2 * i;
-        found = square::either(found, s[at] as u16 + 256 * (s[at + 1] as u16) == m);
-        i += 1;
-    }
-    found
 }

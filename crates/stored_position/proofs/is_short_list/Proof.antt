@@ -8,8 +8,7 @@ use borrow.Author.Tests.{not-true, not-false}
 use Rattle.square.specs.Numbers.{allAtMost}
 use Rattle.chess_move.specs.Number.{lastMove}
 use Rattle.position.specs.Layout.{movesAt}
-use Rattle.stored_position.specs.Bytes.{block}
-use Rattle.stored_position.proofs.Blocks.{behindBlock, part-to-end, not-near, far, not-past, by-moves, block-range}
+use Rattle.stored_position.proofs.Blocks.{behind, part-to-end, not-near, far, not-past, by-moves, block-range}
 use Rattle.stored_position.proofs.is_short_list.Statement.{statement}
 use Rattle.stored_position.proofs.is_short_list.Tie as tie
 
@@ -41,9 +40,19 @@ returns : tie.Need-returns
 returns c =
     let a = c .before .before .before .before .args in
     let s = a .s .now in
+    let block = a .block in
     let end = movesAt + 2 * a .entries in
     let e : end + 2 * block - end ≡ 2 * block = omega arith in
-    sym (not-near s (a .entries) (ap (λ (n : ℕ). allAtMost 0 (take n (drop end s))) (sym e) ∙ sym (c .before .all-at-most .ensures) ∙ not-true (c .before .all-at-most .result) (c .if1 .taken)))
+    sym (not-near s (a .entries) block (ap (λ (n : ℕ). allAtMost 0 (take n (drop end s))) (sym e) ∙ sym (c .before .all-at-most .ensures) ∙ not-true (c .before .all-at-most .result) (c .if1 .taken)))
+
+sub-behind : tie.Need-sub-behind
+sub-behind c = search needs
+
+mul-behind : tie.Need-mul-behind
+mul-behind c = search needs
+
+add-behind : tie.Need-add-behind
+add-behind c = search needs
 
 sub-all-at-most-2 : tie.Need-sub-all-at-most-2
 sub-all-at-most-2 c = search needs
@@ -61,10 +70,11 @@ returns-2 : tie.Need-returns-2
 returns-2 c =
     let a = c .before .before .before .before .before .before .before .args in
     let s = a .s .now in
+    let block = a .block in
     let end = movesAt + 2 * a .entries in
     let e : end + 2 * block - end ≡ 2 * block = omega arith in
     let near : allAtMost 0 (take (2 * block) (drop end s)) ≡ true = ap (λ (n : ℕ). allAtMost 0 (take n (drop end s))) (sym e) ∙ sym (c .before .before .before .before .all-at-most .ensures) ∙ not-false (c .before .before .before .before .all-at-most .result) (c .before .before .before .if1 .left) in
-    let whole : c .before .all-at-most2 .result ≡ allAtMost 0 (drop end s) = c .before .all-at-most2 .ensures ∙ ap (allAtMost 0) (part-to-end s behindBlock) ∙ far s (a .entries) (c .before .before .before .before .before .before .before .pre .1) near in
+    let whole : c .before .all-at-most2 .result ≡ allAtMost 0 (drop end s) = c .before .all-at-most2 .ensures ∙ ap (allAtMost 0) (part-to-end s (behind block)) ∙ far s (a .entries) block (c .before .before .before .before .before .before .before .pre .1) near in
     sym (not-past s (a .entries) (sym whole ∙ not-true (c .before .all-at-most2 .result) (c .if2 .taken)))
 
 moves-in-range-requires : tie.Need-moves-in-range-requires
@@ -74,12 +84,13 @@ returns-3 : tie.Need-returns-3
 returns-3 c =
     let a = c .before .before .before .before .before .before .before .before .args in
     let s = a .s .now in
+    let block = a .block in
     let end = movesAt + 2 * a .entries in
     let e : end + 2 * block - end ≡ 2 * block = omega arith in
     let near : allAtMost 0 (take (2 * block) (drop end s)) ≡ true = ap (λ (n : ℕ). allAtMost 0 (take n (drop end s))) (sym e) ∙ sym (c .before .before .before .before .before .all-at-most .ensures) ∙ not-false (c .before .before .before .before .before .all-at-most .result) (c .before .before .before .before .if1 .left) in
-    let whole : c .before .before .all-at-most2 .result ≡ allAtMost 0 (drop end s) = c .before .before .all-at-most2 .ensures ∙ ap (allAtMost 0) (part-to-end s behindBlock) ∙ far s (a .entries) (c .before .before .before .before .before .before .before .before .pre .1) near in
+    let whole : c .before .before .all-at-most2 .result ≡ allAtMost 0 (drop end s) = c .before .before .all-at-most2 .ensures ∙ ap (allAtMost 0) (part-to-end s (behind block)) ∙ far s (a .entries) block (c .before .before .before .before .before .before .before .before .pre .1) near in
     let z : allAtMost 0 (drop end s) ≡ true = sym whole ∙ not-false (c .before .before .all-at-most2 .result) (c .before .if2 .left) in
-    c .moves-in-range .ensures ∙ block-range lastMove s (a .entries) (omega (arith, c .before .before .before .before .before .before .before .before .pre .1)) z ∙ sym (by-moves s (a .entries) z)
+    c .moves-in-range .ensures ∙ block-range lastMove s (a .entries) block (omega (arith, c .before .before .before .before .before .before .before .before .pre .1)) z ∙ sym (by-moves s (a .entries) z)
 
 pub is-short-list-spec : {M : Type 1} → statement M
 is-short-list-spec =
@@ -94,6 +105,9 @@ is-short-list-spec =
     part-all-at-most-end
     all-at-most-requires
     returns
+    sub-behind
+    mul-behind
+    add-behind
     sub-all-at-most-2
     part-all-at-most-start-2
     part-all-at-most-end-2

@@ -4,24 +4,20 @@ use mathlib.Core.Bool.{Bool, _||_}
 use native.Mathlib.Omega.{arith}
 use Prim.Native.Nat.{_+_, _*_, _-_, _≤_, zero-le}
 use Rattle.square.specs.Numbers.{among}
-use Rattle.position.specs.Layout.{movesAt}
-use Rattle.stored_position.specs.Bytes.{block, inBlock}
+use Rattle.position.specs.Layout.{movesAt, movesFrom}
 use Rattle.stored_position.proofs.Listing.{movesLeft}
-use Rattle.stored_position.proofs.Blocks.{look-start, look-turn, look-end, look-short}
-use Rattle.stored_position.proofs.in_block.Statement.{statement}
-use Rattle.stored_position.proofs.in_block.Tie as tie
+use Rattle.stored_position.proofs.Blocks.{look-start, look-turn, look-end}
+use Rattle.stored_position.proofs.has_move.Statement.{statement}
+use Rattle.stored_position.proofs.has_move.Tie as tie
 
 abbrev Inv-loop : tie.InvT-loop
-Inv-loop s m found₀ i₀ found i = (i ≤ block) × (found || among m (movesLeft s block i) ≡ inBlock s m)
+Inv-loop s entries m found₀ i₀ found i = (i ≤ entries) × (found || among m (movesLeft s entries i) ≡ among m (movesFrom s movesAt entries))
 
 abbrev μ-loop : tie.MeasureT-loop
-μ-loop s m found₀ i₀ found i = block - i
-
-returns : tie.Need-returns Inv-loop μ-loop
-returns c = sym (look-short (c .before .before .args .s .now) (c .before .before .args .m) (c .if1 .taken))
+μ-loop s entries m found₀ i₀ found i = entries - i
 
 loop-holds : tie.Need-loop-holds Inv-loop μ-loop
-loop-holds c = (zero-le, look-start (c .before .before .args .s .now) (c .before .before .args .m) (c .if1 .left))
+loop-holds c = (zero-le, look-start (c .before .args .s .now) (c .before .args .m) (c .before .args .entries))
 
 mul-at : tie.Need-mul-at Inv-loop μ-loop
 mul-at c = search needs
@@ -61,22 +57,21 @@ loop-less c = search needs
 
 loop-again : tie.Need-loop-again Inv-loop μ-loop
 loop-again c =
-    let a = c .before .before .before .before .before .before .before .args in
+    let a = c .before .before .before .before .before .before .args in
     let s = a .s .now in
     let i = c .before .before .before .before .loop .i in
-    let left = among (a .m) (movesLeft s block (i + 1)) in
-    (omega (arith, c .before .before .before .loop-test .taken), ap (λ (t : Bool). t || left) (c .either .ensures) ∙ look-turn s (a .m) i (c .before .before .before .before .loop .found) (c .before .before .before .loop-test .taken) ∙ c .before .before .before .before .loop .inv .1)
+    let left = among (a .m) (movesLeft s (a .entries) (i + 1)) in
+    (omega (arith, c .before .before .before .loop-test .taken), ap (λ (t : Bool). t || left) (c .either .ensures) ∙ look-turn s (a .m) (a .entries) i (c .before .before .before .before .loop .found) (c .before .before .before .loop-test .taken) ∙ c .before .before .before .before .loop .inv .1)
 
-returns-2 : tie.Need-returns-2 Inv-loop μ-loop
-returns-2 c = sym (look-end (c .before .before .before .before .args .s .now) (c .before .before .before .before .args .m) (c .before .loop .i) (c .before .loop .found) (c .loop-test .left)) ∙ c .before .loop .inv .1
+returns : tie.Need-returns Inv-loop μ-loop
+returns c = sym (look-end (c .before .before .before .args .s .now) (c .before .before .before .args .m) (c .before .before .before .args .entries) (c .before .loop .i) (c .before .loop .found) (c .loop-test .left)) ∙ c .before .loop .inv .1
 
-pub in-block-spec : {M : Type 1} → statement M
-in-block-spec =
+pub has-move-spec : {M : Type 1} → statement M
+has-move-spec =
     tie.close
     (tie.spec
     Inv-loop
     μ-loop
-    returns
     loop-holds
     mul-at
     add-at
@@ -91,4 +86,4 @@ in-block-spec =
     add-i
     loop-less
     loop-again
-    returns-2)
+    returns)
