@@ -106,12 +106,6 @@ fn both(a: bool, b: bool) -> bool
     if a { b } else { false }
 }
 
-fn either(a: bool, b: bool) -> bool
-    ensures { λ r. ⌜ r ≡ a || b ⌝ }
-{
-    if a { true } else { b }
-}
-
 fn narrow(x: u16) -> u8
     requires { ⌜ x < 64 ⌝ }
     ensures { λ r. ⌜ r ≡ x ⌝ }
@@ -138,7 +132,7 @@ pub fn write_san(board: BoardBuilder, m: u16, file: bool, rank: bool, out: &mut 
         source,
         file,
         rank,
-        either(!is_empty, changes_files),
+        square::either(!is_empty, changes_files),
     );
     let all = end(
         &mut bytes,

@@ -2,6 +2,7 @@ use borrow.Author.Needs.{needs}
 use mathlib.Core.Path.{ap, sym, _∙_}
 use Prim.Native.Nat.{ℕ, suc}
 use native.Mathlib.Numerals.{add-one}
+use native.Mathlib.Omega.{arith}
 use lib.Dec.{eqb}
 use borrow.Author.Tests.{eq-eqb, ne-eqb, not-true, not-false}
 use Rattle.good_log.proofs.other_may_stand.Statement.{statement}
@@ -19,7 +20,7 @@ add-if2 c = search needs
 returns-2 : tie.Need-returns-2
 returns-2 c =
     let a = c .before .before .before .before .before .args in
-    rw (sym (c .before .before .other-is-sound .ensures) ∙ not-false (c .before .before .other-is-sound .result) (c .before .if1 .left), eq-eqb (suc (a .i)) (a .n) (sym (add-one (a .i)) ∙ c .if2 .taken))
+    rw (sym (c .before .before .other-is-sound .ensures) ∙ not-false (c .before .before .other-is-sound .result) (c .before .if1 .left), eq-eqb (suc (a .i)) (a .n) (omega (arith, c .if2 .taken)))
 
 add-by-last-action : tie.Need-add-by-last-action
 add-by-last-action c = search needs
@@ -30,7 +31,7 @@ by-last-action-requires c κs = search needs
 returns-3 : tie.Need-returns-3
 returns-3 c =
     let a = c .before .before .before .before .before .before .args in
-    rw (sym (c .before .before .before .other-is-sound .ensures) ∙ not-false (c .before .before .before .other-is-sound .result) (c .before .before .if1 .left), ne-eqb (suc (a .i)) (a .n) (λ e. c .before .if2 .left (add-one (a .i) ∙ e)))
+    rw (sym (c .before .before .before .other-is-sound .ensures) ∙ not-false (c .before .before .before .other-is-sound .result) (c .before .before .if1 .left), ne-eqb (suc (a .i)) (a .n) (λ e. omega (arith, c .before .if2 .left)))
     (ap (λ (r : ℕ). eqb r 0) (rw (add-one (a .i)) at (c .by-last-action .ensures)))
 
 pub other-may-stand-spec : {M : Type 1} → statement M
