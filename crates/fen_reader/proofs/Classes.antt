@@ -1,6 +1,6 @@
 -- What a byte's class says: a slash, a digit, a piece's letter, or none of a placement. And the table that the reader fills: it holds each byte's class.
 -- Assumes nothing.
-use mathlib.Core.Path.{_≡_, refl, subst, _∙_}
+use mathlib.Core.Path.{_≡_, refl, _∙_}
 use mathlib.Core.Bool.{Bool, true, false}
 use Prim.Native.Nat.{ℕ, _+_, _-_, _≤_, _<_}
 use native.Mathlib.Decide.{decLe}
@@ -12,7 +12,7 @@ use Rattle.square.specs.Ascii.{ascii}
 use Rattle.square.specs.Square.{between}
 use Rattle.square.specs.Piece.{pieceOf}
 use Rattle.square.proofs.Below.{below}
-use Rattle.fen_reader.specs.Class.{classOf, noteAll, signs}
+use Rattle.fen_reader.specs.Class.{refused, classOf, noteAll, signs}
 
 -- what a byte is
 pub data Kind (b : ℕ) : Type 0 where
@@ -56,26 +56,22 @@ class-digit b l h =
 pub digit-small : (b : ℕ) → b < 57 → 16 + (b - 48) < 256
 digit-small b h = omega arith
 
-pub class-letter : (b : ℕ) → eqb b 47 ≡ false → between 49 56 b ≡ false → classOf b ≡ pieceOf b
+pub class-letter : (b : ℕ) → eqb b 47 ≡ false → between 49 56 b ≡ false → eqb (pieceOf b) 0 ≡ false → classOf b ≡ pieceOf b
 unfolding classOf
-class-letter b e f = rw (e, f)
+class-letter b e f g = rw (e, f, g)
 
--- a byte of a placement is no space
-pub no-space : (b : ℕ) → (classOf b ≡ 0 → ⊥) → b ≡ 32 → ⊥
-unfolding classOf pieceOf
-no-space b h e = h (subst (λ (x : ℕ). classOf x ≡ 0) (e⁻ e) refl)
-  where
-    e⁻ : b ≡ 32 → 32 ≡ b
-    e⁻ q = mathlib.Core.Path.sym q
+pub class-other : (b : ℕ) → eqb b 47 ≡ false → between 49 56 b ≡ false → eqb (pieceOf b) 0 ≡ true → classOf b ≡ refused
+unfolding classOf
+class-other b e f g = rw (e, f, g)
 
 -- 256 bytes, each computed
 right : ℕ → Bool
-right b = eqb (getD (noteAll signs (replicate 256 0)) b 0) (classOf b)
+right b = eqb (getD (noteAll signs (replicate 256 refused)) b 0) (classOf b)
 
-pub class-at : (b : ℕ) → b < 256 → getD (noteAll signs (replicate 256 0)) b 0 ≡ classOf b
+pub class-at : (b : ℕ) → b < 256 → getD (noteAll signs (replicate 256 refused)) b 0 ≡ classOf b
 unfolding right noteAll ascii classOf pieceOf
-class-at b h = eqb→eq (getD (noteAll signs (replicate 256 0)) b 0) (classOf b) (below right 256 tt b h)
+class-at b h = eqb→eq (getD (noteAll signs (replicate 256 refused)) b 0) (classOf b) (below right 256 tt b h)
 
-pub table-long : length (noteAll signs (replicate 256 0)) ≡ 256
+pub table-long : length (noteAll signs (replicate 256 refused)) ≡ 256
 unfolding noteAll ascii
 table-long = refl

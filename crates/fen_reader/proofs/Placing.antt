@@ -1,26 +1,27 @@
--- The placement in one pass: a byte's class says what `placeByte` does, and a byte that is none of a placement spoils the text for good.
+-- The placement in one pass: a byte's class says what `placeByte` does, and the classes put together whether every byte was one of a placement.
 -- Assumes nothing.
 use mathlib.Core.Path.{_≡_, refl, sym, ap, _∙_}
-use mathlib.Core.Bool.{true, false}
-use mathlib.Core.List.{List, [], _∷_, _++_}
-use Prim.Native.Nat.{ℕ, suc, _+_, _-_, _%_, _≤_, _<_}
+use mathlib.Core.Bool.{Bool, true, false, _&&_, and-true, and-false}
+use mathlib.Core.List.{List, [], _∷_}
+use Prim.Native.Nat.{ℕ, _+_, _-_, _%_, _≤_, _<_}
 use native.Mathlib.Numerals.{add-one}
 use native.Mathlib.Omega.{arith}
-use lib.Dec.{eqb, lit<}
-use borrow.Author.Tests.{eq-eqb, ne-eqb, lt-ltb, le-ltb, le-leb, eqb-true}
-use lib.ListN.{length, take, drop, getD, set, replicate}
-use lib.Seq.{set-getD, take-suc, take-add, drop-cons}
-use Rattle.square.specs.Square.{squareOf, between}
+use lib.Bits.{bitOr, or-lt, or-add-and, and-le-l, and-le-r}
+use lib.Dec.{eqb, ltb, lit<}
+use borrow.Author.Tests.{eq-eqb, ne-eqb, lt-ltb, le-ltb, le-leb, ltb-true, ltb-false}
+use lib.ListN.{length, take, getD, set, replicate}
+use lib.Seq.{set-getD, take-suc}
+use Rattle.square.specs.Square.{squareOf}
 use Rattle.square.specs.Piece.{pieceOf}
 use Rattle.board_builder.specs.BoardBuilder.{board}
-use Rattle.fen_text.specs.Token.{placeAfter, placeOf}
-use Rattle.fen_text.specs.Placement.{Placement, start, down, skip, fill, spoil, placeCode, placeByte, placeAll}
+use Rattle.fen_text.specs.Token.{placeOf}
+use Rattle.fen_text.specs.Placement.{Placement, placement, start, placeByte, placeAll}
 use Rattle.fen_text.specs.Read.{rightsOf, enPassantOf, noFen, fenOf, assembled, ofTokens, readFen}
 use Rattle.fen_text.proofs.Cases.{cond-both}
-use Rattle.fen_text.proofs.Placed.{at, place-append}
+use Rattle.fen_text.proofs.Placed.{place-append}
 use Rattle.fen_text.proofs.Keys.{piece-most}
-use Rattle.fen_reader.specs.Class.{classOf, pieceAfter, stepOf, fileAfter, rankAfter, placed}
-use Rattle.fen_reader.proofs.Classes.{Kind, slash, digit, letter, other, kind, class-slash, class-digit, class-letter}
+use Rattle.fen_reader.specs.Class.{refused, classOf, pieceAfter, stepOf, fileAfter, rankAfter, placed}
+use Rattle.fen_reader.proofs.Classes.{Kind, slash, digit, letter, other, kind, class-slash, class-digit, class-letter, class-other}
 use Rattle.fen_reader.proofs.Reading.{first}
 
 -- the square to fill next stays on the board
@@ -31,61 +32,53 @@ pub rank-small : (rank c : ℕ) → rank < 8 → rankAfter rank c < 8
 rank-small rank c h = cond-both (λ (x : ℕ). x < 8) (eqb c 32) {x = (rank + 7) % 8} {y = rank} (omega arith) h
 
 -- the placement after a byte of this class
-abbrev pub after : List ℕ → ℕ → ℕ → ℕ → Placement
-after pieces rank file c = at (rankAfter rank c) (fileAfter file c) (set pieces (squareOf rank file) (pieceAfter c (getD pieces (squareOf rank file) 0)))
+abbrev pub after : List ℕ → ℕ → ℕ → Bool → ℕ → Placement
+after pieces rank file good c =
+    placement (set pieces (squareOf rank file) (pieceAfter c (getD pieces (squareOf rank file) 0))) (rankAfter rank c) (fileAfter file c) (good && ltb c refused)
 
-is-at : (l k : List ℕ) (r s f g : ℕ) → l ≡ k → r ≡ s → f ≡ g → at r f l ≡ at s g k
-is-at l k r s f g e p q = rw (e, p, q)
+is-same : (l k : List ℕ) (r f g : ℕ) (t u : Bool) → l ≡ k → f ≡ g → t ≡ u → placement l r f t ≡ placement k r g u
+is-same l k r f g t u e p q = rw (e, p, q)
 
--- one byte of a placement
-pub next : (pieces : List ℕ) (rank file b : ℕ) → (classOf b ≡ 0 → ⊥) → placeByte (at rank file pieces) b ≡ after pieces rank file (classOf b)
+-- one byte
+pub next : (pieces : List ℕ) (rank file : ℕ) (good : Bool) (b : ℕ) → file < 8 → placeByte (placement pieces rank file good) b ≡ after pieces rank file good (classOf b)
 unfolding placeByte
-next pieces rank file b k = by (kind b)
+next pieces rank file good b small = by (kind b)
   where
-    by : Kind b → placeByte (at rank file pieces) b ≡ after pieces rank file (classOf b)
-    by (slash e) = rw (class-slash b e) (simp (eq-eqb _ _ e) (is-at _ _ _ _ _ _ (sym (set-getD pieces (squareOf rank file) 0)) refl refl))
+    stays : pieces ≡ set pieces (squareOf rank file) (getD pieces (squareOf rank file) 0)
+    stays = sym (set-getD pieces (squareOf rank file) 0)
+
+    by : Kind b → placeByte (placement pieces rank file good) b ≡ after pieces rank file good (classOf b)
+    by (slash e) = rw (class-slash b e) (simp (eq-eqb _ _ e) (is-same _ _ _ _ _ _ _ stays refl (sym (and-true good))))
     by (digit l m) =
         let n : b ≡ 47 → ⊥ = λ e. omega arith in
         let c : b - 32 ≡ 32 → ⊥ = λ e. omega arith in
         let far : 16 ≤ b - 32 = omega arith in
+        let low : b - 32 < refused = omega arith in
         let less : b - 48 ≡ b - 32 - 16 = omega arith in
         rw (class-digit b l m)
-        (simp (ne-eqb _ _ n, le-leb _ _ l, le-leb _ _ m, ne-eqb _ _ c, le-ltb _ _ far)
-        (is-at _ _ _ _ _ _ (sym (set-getD pieces (squareOf rank file) 0)) refl (ap (λ (m : ℕ). (file + m) % 8) less)))
+        (simp (ne-eqb _ _ n, le-leb _ _ l, le-leb _ _ m, ne-eqb _ _ c, le-ltb _ _ far, lt-ltb _ _ low)
+        (is-same _ _ _ _ _ _ _ stays (ap (λ (m : ℕ). (file + m) % 8) less) (sym (and-true good))))
     by (letter e f g) =
-        let small : pieceOf b < 16 = omega (arith, piece-most b) in
+        let few : pieceOf b < 16 = omega (arith, piece-most b) in
+        let low : pieceOf b < refused = omega (arith, piece-most b) in
         let c : pieceOf b ≡ 32 → ⊥ = λ q. omega (arith, piece-most b) in
-        rw (class-letter b e f) (simp (e, f, g, ne-eqb _ _ c, lt-ltb _ _ small))
-    by (other e f g) = absurd (k (class-letter b e f ∙ eqb-true _ _ g))
+        rw (class-letter b e f g) (simp (e, f, g, ne-eqb _ _ c, lt-ltb _ _ few, lt-ltb _ _ low) (is-same _ _ _ _ _ _ _ refl refl (sym (and-true good))))
+    by (other e f g) =
+        rw (class-other b e f g) (simp (e, f, g) (is-same _ _ _ _ _ _ _ stays (omega arith) (sym (and-false good))))
 
--- the same, as the code has it: the class as it was looked up, and what the three functions gave
-pub stored : (pieces : List ℕ) (rank file c d x r f : ℕ) → c ≡ d → x ≡ pieceAfter c (getD pieces (squareOf rank file) 0) → r ≡ rankAfter rank c → f ≡ fileAfter file c
-    → after pieces rank file d ≡ at r f (set pieces (squareOf rank file) x)
-stored pieces rank file c d x r f e g h k = rw (g, h, k, e)
-
--- any other byte but a space spoils it
-pub spoils : (p : Placement) (b : ℕ) → classOf b ≡ 0 → placeByte p b .good ≡ false
-unfolding placeByte
-spoils p b h = by (kind b)
+-- the classes put together have the bit exactly if one of them has it
+low-both : (a c : ℕ) → ltb a refused && ltb c refused ≡ ltb (bitOr a c) refused
+low-both a c = go (ltb a refused) refl (ltb c refused) refl
   where
-    by : Kind b → placeByte p b .good ≡ false
-    by (slash e) = let z = class-slash b e in absurd (omega arith)
-    by (digit l m) = let z = class-digit b l m in absurd (omega arith)
-    by (letter e f g) = let z : eqb (pieceOf b) 0 ≡ true = eq-eqb _ _ (sym (class-letter b e f) ∙ h) in absurd (mathlib.Core.Bool.true≢false (sym z ∙ g))
-    by (other e f g) = simp (e, f, g)
+    go : (t : Bool) → ltb a refused ≡ t → (u : Bool) → ltb c refused ≡ u → t && u ≡ ltb (bitOr a c) refused
+    go true e true f = sym (lt-ltb (bitOr a c) refused (or-lt 6 a c (ltb-true a refused e) (ltb-true c refused f)))
+    go true e false f = sym (le-ltb (bitOr a c) refused (omega (arith, ltb-false c refused f, or-add-and a c, and-le-l a c)))
+    go false e u f = sym (le-ltb (bitOr a c) refused (omega (arith, ltb-false a refused e, or-add-and a c, and-le-r a c)))
 
--- and for good
-byte-keeps : (p : Placement) (b : ℕ) → p .good ≡ false → placeByte p b .good ≡ false
-unfolding placeByte
-byte-keeps p b e =
-    cond-both (λ (q : Placement). q .good ≡ false) (eqb b 47) {x = down p} e
-    (cond-both (λ (q : Placement). q .good ≡ false) (between 49 56 b) {x = skip (b - 48) p} {y = placeCode (pieceOf b) p} e
-    (cond-both (λ (q : Placement). q .good ≡ false) (eqb (pieceOf b) 0) {x = spoil p} {y = fill (pieceOf b) p} refl e))
-
-stays-bad : (p : Placement) (s : List ℕ) → p .good ≡ false → placeAll p s .good ≡ false
-unfolding placeAll
-stays-bad p [] e = e
-stays-bad p (b ∷ s) e = stays-bad (placeByte p b) s (byte-keeps p b e)
+-- the same, as the code has it: the class as it was looked up, what the three functions gave, and the classes so far
+pub stored : (pieces : List ℕ) (rank file a c d x r f : ℕ) → c ≡ d → x ≡ pieceAfter c (getD pieces (squareOf rank file) 0) → r ≡ rankAfter rank c → f ≡ fileAfter file c
+    → after pieces rank file (ltb a refused) d ≡ placement (set pieces (squareOf rank file) x) r f (ltb (bitOr a c) refused)
+stored pieces rank file a c d x r f e g h k = rw (g, h, k, ← low-both a c, e)
 
 -- one byte more
 pub turn : (s : List ℕ) (i : ℕ) {p q : Placement} → i < length s → placeAll start (take i s) ≡ p → placeByte p (getD s i 0) ≡ q → placeAll start (take (i + 1) s) ≡ q
@@ -105,29 +98,11 @@ pub bad-token : (s : List ℕ) → placeAll start (take (placeOf 32 s) s) .good 
 unfolding readFen
 bad-token s e = rw (first s .1) (bad-first (take (placeOf 32 s) s) (first s .0) e)
 
-past : (s : List ℕ) (i k : ℕ) → i < length s → take (i + suc k) s ≡ take i s ++ (getD s i 0 ∷ take k (drop (suc i) s))
-past s i k h = take-add i (suc k) s ∙ ap (λ (l : List ℕ). take i s ++ take (suc k) l) (drop-cons s i 0 h)
-
-place-past : (s : List ℕ) (i : ℕ) → i < length s → (getD s i 0 ≡ 32 → ⊥) → placeOf 32 (drop i s) ≡ suc (placeOf 32 (drop (suc i) s))
-unfolding placeOf placeAfter
-place-past s i h n = simp (drop-cons s i 0 h, ne-eqb _ _ n)
-
-pub stopped-bad : (s : List ℕ) (i : ℕ) → i < length s → placeOf 32 s ≡ i + placeOf 32 (drop i s) → (getD s i 0 ≡ 32 → ⊥) → classOf (getD s i 0) ≡ 0 → readFen s ≡ noFen
-unfolding placeAll
-stopped-bad s i h e n k =
-    let rest : List ℕ = take (placeOf 32 (drop (suc i) s)) (drop (suc i) s) in
-    let p : Placement = placeAll start (take i s) in
-    let whole : take (placeOf 32 s) s ≡ take i s ++ (getD s i 0 ∷ rest) =
-    ap (λ (m : ℕ). take m s) (e ∙ ap (λ (m : ℕ). i + m) (place-past s i h n)) ∙ past s i (placeOf 32 (drop (suc i) s)) h in
-    bad-token s
-    (rw (whole, place-append start (take i s) (getD s i 0 ∷ rest))
-    (stays-bad (placeByte p (getD s i 0)) rest (spoils p (getD s i 0) k)))
-
 pub same-assembled : (p q : Placement) (side : ℕ) (castling ep : List ℕ) → p .pieces ≡ q .pieces → p .good ≡ q .good → assembled p side castling ep ≡ assembled q side castling ep
 unfolding assembled
 same-assembled p q side castling ep e g = rw (e, g)
 
-pub at-start : placeAll start [] ≡ at 7 0 (replicate 64 0)
+pub at-start : placeAll start [] ≡ placement (replicate 64 0) 7 0 true
 unfolding placeAll
 at-start = refl
 

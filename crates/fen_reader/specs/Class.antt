@@ -1,12 +1,12 @@
 -- How the reader walks a placement: a class for each byte, and what a class does to the square to fill next. For its inner functions; the public
 -- contract does not speak of this.
 -- Assumes nothing.
-use Prim.Native.Nat.{ℕ, _+_, _-_, _%_, _≤_, _<_}
+use Prim.Native.Nat.{ℕ, _+_, _-_, _%_}
 use mathlib.Core.Path.{_≡_}
 use mathlib.Core.Bool.{true, cond}
 use mathlib.Core.List.{List, [], _∷_}
 use lib.Dec.{eqb, ltb}
-use lib.ListN.{length, getD, take, drop, set}
+use lib.ListN.{take, set}
 use Rattle.square.specs.Ascii.{ascii}
 use Rattle.square.specs.Square.{between}
 use Rattle.square.specs.Piece.{pieceOf}
@@ -16,9 +16,13 @@ use Rattle.fen_text.specs.Read.{rightsOf}
 use Rattle.fen_reader.specs.declared.placement.Walked.{Walked}
 use Rattle.fen_reader.specs.declared.token.Sides.{Sides}
 
--- 32 for a slash, 16 more than a digit's number, a piece's code, 0 for any other byte
+-- what is no class of a byte of a placement
+abbrev pub refused : ℕ
+refused = 64
+
+-- 32 for a slash, 16 more than a digit's number, a piece's code, refused for any other byte
 unfoldable pub classOf : ℕ → ℕ
-classOf b = cond (eqb b 47) 32 (cond (between 49 56 b) (b - 32) (pieceOf b))
+classOf b = cond (eqb b 47) 32 (cond (between 49 56 b) (b - 32) (cond (eqb (pieceOf b) 0) refused (pieceOf b)))
 
 -- the bytes that have a class, and a table in which the classes of some bytes are noted
 abbrev pub signs : List ℕ
@@ -45,13 +49,11 @@ rankAfter rank class = cond (eqb class 32) ((rank + 7) % 8) rank
 abbrev pub placed : List ℕ → Placement
 placed pieces = placement pieces 0 0 true
 
--- the bytes before the end are a placement of these pieces with no space in it, and the byte at the end, if there is one, is none of a placement
-pub record Stopped (s : List ℕ) (r : Walked) : Type 0 where
-  pub within : r .end ≤ length s
-  pub space : placeOf 32 s ≡ r .end + placeOf 32 (drop (r .end) s)
+-- the walk over a text: it ends at the first space or with the text, with the pieces of the first token, and tells whether that is a placement
+pub record Walk (s : List ℕ) (r : Walked) : Type 0 where
+  pub place : r .end ≡ placeOf 32 s
   pub pieces : placeAll start (take (r .end) s) .pieces ≡ r .pieces
-  pub good : placeAll start (take (r .end) s) .good ≡ true
-  pub stop : r .end < length s → classOf (getD s (r .end) 0) ≡ 0
+  pub good : placeAll start (take (r .end) s) .good ≡ ltb (r .seen) refused
 
 -- both sides' rights
 abbrev pub sidesOf : List ℕ → Sides

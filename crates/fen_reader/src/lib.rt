@@ -4,6 +4,7 @@ mod token;
 
 use board_builder::BoardBuilder;
 use fen_text::Fen;
+use placement::REFUSED;
 use square::ACCEPTED;
 use square::INVALID_FEN;
 ghost use mathlib.Core.Path.{_≡_};
@@ -44,16 +45,16 @@ fn assemble(pieces: [u8; 64], side: &[u8], castling: &[u8], ep: &[u8]) -> Fen
     }
 }
 
-// Reads a FEN text. The placement's walk stops at its first byte that is none of a placement: that must be the space after it.
+// Reads a FEN text.
 pub fn read_fen(text: &[u8]) -> Fen
     ensures { λ r. ⌜ r ≡ readFen (now (text .entry)) ⌝ }
 {
     let walked = placement::place(text);
-    let end = walked.end;
-    if text.len() <= end {
+    if REFUSED <= walked.seen {
         return no_fen();
     }
-    if text[end] != b' ' {
+    let end = walked.end;
+    if text.len() <= end {
         return no_fen();
     }
     let from_side = token::after(text, end);

@@ -2,14 +2,14 @@
 ghost use mathlib.Core.Path.{_≡_};
 ghost use Prim.Native.Nat.{_<_};
 ghost use lib.ListN.{set};
-ghost use Rattle.fen_reader.specs.Class.{classOf, noteAll, signs, pieceAfter, stepOf, fileAfter, rankAfter, Stopped};
+ghost use Rattle.fen_reader.specs.Class.{classOf, noteAll, signs, pieceAfter, stepOf, fileAfter, rankAfter, Walk};
 
-// A byte's class: a piece's code, DIGIT and how many files it adds, SLASH, or REFUSED.
-const REFUSED: u8 = 0;
-
+// A byte's class: a piece's code, DIGIT and how many files it adds, SLASH, or REFUSED, a bit that no other class has and that leaves the board as it is.
 const DIGIT: u8 = 16;
 
 const SLASH: u8 = 32;
+
+pub(crate) const REFUSED: u8 = 64;
 
 fn class_of(b: u8) -> u8
     ensures { λ r. ⌜ r ≡ classOf b ⌝ }
@@ -99,31 +99,44 @@ fn rank_after(rank: usize, class: u8) -> usize
     if class == SLASH { (rank + 7) % 8 } else { rank }
 }
 
-// The pieces placed before the first byte that is none of a placement, and that byte's place.
+// The pieces that a text's first token places, where the token ends, and the classes of its bytes put together: by `|`, so that no branch hangs on a byte
+// but the token's end.
 pub struct Walked {
     pub pieces: [u8; 64],
     pub end: usize,
+    pub seen: u8,
 }
 
 pub(crate) fn place(text: &[u8]) -> Walked
-    ensures { λ r. ⌜ Stopped (now (text .entry)) r ⌝ }
+    ensures { λ r. ⌜ Walk (now (text .entry)) r ⌝ }
 {
-    let mut classes = [0u8; 256];
+    let mut classes = [REFUSED; 256];
     note_all(&mut classes);
     let mut pieces = [0u8; 64];
     let mut rank: usize = 7;
     let mut file: usize = 0;
+    let mut seen: u8 = 0;
     let mut i: usize = 0;
     while i < text.len() {
-        let class = classes[wide(text[i])];
-        if class == REFUSED {
-            return Walked { pieces, end: i };
+        let b = text[i];
+        if b == b' ' {
+            return Walked {
+                pieces,
+                end: i,
+                seen,
+            };
         }
+        let class = classes[wide(b)];
         let at = rank * 8 + file;
         pieces[at] = piece_after(class, pieces[at]);
         file = file_after(file, class);
         rank = rank_after(rank, class);
+        seen = seen | class;
         i += 1;
     }
-    Walked { pieces, end: i }
+    Walked {
+        pieces,
+        end: i,
+        seen,
+    }
 }

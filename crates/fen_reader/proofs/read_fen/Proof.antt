@@ -1,10 +1,12 @@
 use borrow.Author.Needs.{needs}
-use mathlib.Core.Path.{refl, sym, _∙_}
+use mathlib.Core.Path.{_≡_, refl, sym, ap, _∙_}
+use Prim.Native.Nat.{ℕ}
+use lib.Dec.{ltb}
 use lib.ListN.{take}
+use borrow.Author.Tests.{le-ltb, lt-ltb}
 use Rattle.fen_text.specs.Placement.{start, placeAll}
-use Rattle.fen_text.proofs.Tokens.{place-hit, place-end}
-use Rattle.fen_reader.specs.Class.{placed}
-use Rattle.fen_reader.proofs.Placing.{stopped-bad, same-assembled}
+use Rattle.fen_reader.specs.Class.{refused, placed}
+use Rattle.fen_reader.proofs.Placing.{bad-token, same-assembled}
 use Rattle.fen_reader.proofs.Reading.{one-token, two-tokens, three-tokens, four-tokens}
 use Rattle.fen_reader.proofs.read_fen.Statement.{statement}
 use Rattle.fen_reader.proofs.read_fen.Tie as tie
@@ -16,16 +18,13 @@ no-fen-requires : tie.Need-no-fen-requires
 no-fen-requires c κs = search needs
 
 returns : tie.Need-returns
-returns c = c .no-fen .ensures ∙ sym (one-token (record { place = sym (c .before .before .place .ensures .space ∙ place-end 32 (c .before .before .before .before .args .text .now) (c .before .before .place .result .end) (c .before .if1 .taken)); none = c .before .if1 .taken }))
-
-shared-slice-read-if2 : tie.Need-shared-slice-read-if2
-shared-slice-read-if2 c = search needs
+returns c = c .no-fen .ensures ∙ sym (bad-token (c .before .before .before .before .before .args .text .now) (ap (λ (n : ℕ). placeAll start (take n (c .before .before .before .before .before .args .text .now)) .good) (sym (c .before .before .before .place .ensures .place)) ∙ c .before .before .before .place .ensures .good ∙ le-ltb (c .before .before .before .place .result .seen) refused (c .before .if1 .taken)))
 
 no-fen-requires-2 : tie.Need-no-fen-requires-2
 no-fen-requires-2 c κs = search needs
 
 returns-2 : tie.Need-returns-2
-returns-2 c = c .no-fen2 .ensures ∙ sym (stopped-bad (c .before .before .before .before .before .before .args .text .now) (c .before .before .before .before .place .result .end) (c .before .before .before .if1 .left) (c .before .before .before .before .place .ensures .space) (c .before .if2 .taken) (c .before .before .before .before .place .ensures .stop (c .before .before .before .if1 .left)))
+returns-2 c = c .no-fen2 .ensures ∙ sym (one-token (record { place = c .before .before .before .before .place .ensures .place; none = c .before .if2 .taken }))
 
 after-requires : tie.Need-after-requires
 after-requires c κs = search needs
@@ -37,12 +36,7 @@ no-fen-requires-3 : tie.Need-no-fen-requires-3
 no-fen-requires-3 c κs = search needs
 
 returns-3 : tie.Need-returns-3
-returns-3 c =
-    c .no-fen3 .ensures
-    ∙ sym
-    (two-tokens
-    (record { place = sym (c .before .before .before .before .before .before .before .place .ensures .space ∙ place-hit 32 (c .before .before .before .before .before .before .before .before .before .args .text .now) (c .before .before .before .before .before .before .before .place .result .end) (c .before .before .before .before .before .before .if1 .left) (c .before .before .before .before .if2 .left)); within = c .before .before .before .before .before .before .if1 .left; rest = c .before .before .before .after .ensures })
-    (record { place = c .before .before .find .ensures; none = c .before .if3 .taken }))
+returns-3 c = c .no-fen3 .ensures ∙ sym (two-tokens (record { place = c .before .before .before .before .before .before .before .place .ensures .place; within = c .before .before .before .before .if2 .left; rest = c .before .before .before .after .ensures }) (record { place = c .before .before .find .ensures; none = c .before .if3 .taken }))
 
 after-requires-2 : tie.Need-after-requires-2
 after-requires-2 c κs = search needs
@@ -54,13 +48,7 @@ no-fen-requires-4 : tie.Need-no-fen-requires-4
 no-fen-requires-4 c κs = search needs
 
 returns-4 : tie.Need-returns-4
-returns-4 c =
-    c .no-fen4 .ensures
-    ∙ sym
-    (three-tokens
-    (record { place = sym (c .before .before .before .before .before .before .before .before .before .before .place .ensures .space ∙ place-hit 32 (c .before .before .before .before .before .before .before .before .before .before .before .before .args .text .now) (c .before .before .before .before .before .before .before .before .before .before .place .result .end) (c .before .before .before .before .before .before .before .before .before .if1 .left) (c .before .before .before .before .before .before .before .if2 .left)); within = c .before .before .before .before .before .before .before .before .before .if1 .left; rest = c .before .before .before .before .before .before .after .ensures })
-    (record { place = c .before .before .before .before .before .find .ensures; within = c .before .before .before .before .if3 .left; rest = c .before .before .before .after2 .ensures })
-    (record { place = c .before .before .find2 .ensures; none = c .before .if4 .taken }))
+returns-4 c = c .no-fen4 .ensures ∙ sym (three-tokens (record { place = c .before .before .before .before .before .before .before .before .before .before .place .ensures .place; within = c .before .before .before .before .before .before .before .if2 .left; rest = c .before .before .before .before .before .before .after .ensures }) (record { place = c .before .before .before .before .before .find .ensures; within = c .before .before .before .before .if3 .left; rest = c .before .before .before .after2 .ensures }) (record { place = c .before .before .find2 .ensures; none = c .before .if4 .taken }))
 
 after-requires-3 : tie.Need-after-requires-3
 after-requires-3 c κs = search needs
@@ -82,11 +70,12 @@ assemble-requires c κs = search needs
 
 returns-5 : tie.Need-returns-5
 returns-5 c =
+    let good : ltb (c .before .before .before .before .before .before .before .before .before .before .before .before .before .before .before .before .place .result .seen) refused ≡ mathlib.Core.Bool.true = lt-ltb (c .before .before .before .before .before .before .before .before .before .before .before .before .before .before .before .before .place .result .seen) refused (c .before .before .before .before .before .before .before .before .before .before .before .before .before .before .if1 .left) in
     c .assemble .ensures
-    ∙ same-assembled (placed (c .before .before .before .before .before .before .before .before .before .before .before .before .before .before .before .before .place .result .pieces)) (placeAll start (take (c .before .before .before .before .before .before .before .before .before .before .before .before .before .before .before .before .place .result .end) (c .before .before .before .before .before .before .before .before .before .before .before .before .before .before .before .before .before .before .args .text .now))) _ _ _ (sym (c .before .before .before .before .before .before .before .before .before .before .before .before .before .before .before .before .place .ensures .pieces)) (sym (c .before .before .before .before .before .before .before .before .before .before .before .before .before .before .before .before .place .ensures .good))
+    ∙ same-assembled (placed (c .before .before .before .before .before .before .before .before .before .before .before .before .before .before .before .before .place .result .pieces)) (placeAll start (take (c .before .before .before .before .before .before .before .before .before .before .before .before .before .before .before .before .place .result .end) (c .before .before .before .before .before .before .before .before .before .before .before .before .before .before .before .before .before .before .args .text .now))) _ _ _ (sym (c .before .before .before .before .before .before .before .before .before .before .before .before .before .before .before .before .place .ensures .pieces)) (sym (c .before .before .before .before .before .before .before .before .before .before .before .before .before .before .before .before .place .ensures .good ∙ good))
     ∙ sym
     (four-tokens
-    (record { place = sym (c .before .before .before .before .before .before .before .before .before .before .before .before .before .before .before .before .place .ensures .space ∙ place-hit 32 (c .before .before .before .before .before .before .before .before .before .before .before .before .before .before .before .before .before .before .args .text .now) (c .before .before .before .before .before .before .before .before .before .before .before .before .before .before .before .before .place .result .end) (c .before .before .before .before .before .before .before .before .before .before .before .before .before .before .before .if1 .left) (c .before .before .before .before .before .before .before .before .before .before .before .before .before .if2 .left)); within = c .before .before .before .before .before .before .before .before .before .before .before .before .before .before .before .if1 .left; rest = c .before .before .before .before .before .before .before .before .before .before .before .before .after .ensures })
+    (record { place = c .before .before .before .before .before .before .before .before .before .before .before .before .before .before .before .before .place .ensures .place; within = c .before .before .before .before .before .before .before .before .before .before .before .before .before .if2 .left; rest = c .before .before .before .before .before .before .before .before .before .before .before .before .after .ensures })
     (record { place = c .before .before .before .before .before .before .before .before .before .before .before .find .ensures; within = c .before .before .before .before .before .before .before .before .before .before .if3 .left; rest = c .before .before .before .before .before .before .before .before .before .after2 .ensures })
     (record { place = c .before .before .before .before .before .before .before .before .find2 .ensures; within = c .before .before .before .before .before .before .before .if4 .left; rest = c .before .before .before .before .before .before .after3 .ensures })
     (c .before .before .before .before .before .find3 .ensures)
@@ -102,7 +91,6 @@ read-fen-spec =
     place-requires
     no-fen-requires
     returns
-    shared-slice-read-if2
     no-fen-requires-2
     returns-2
     after-requires

@@ -3,23 +3,22 @@ use mathlib.Core.Path.{_≡_, refl, sym, ap, subst, _∙_}
 use native.Mathlib.Omega.{arith}
 use mathlib.Core.List.{List}
 use Prim.Native.Nat.{ℕ, _+_, _-_, _≤_, _<_, zero-le}
-use lib.Dec.{lit<}
+use lib.Dec.{ltb, lit<}
 use lib.ListN.{length, take, drop, getD, length-set}
 use Rattle.fen_text.specs.Token.{placeOf}
-use Rattle.fen_text.specs.Placement.{Placement, start, placeAll}
-use Rattle.fen_text.proofs.Placed.{at}
-use Rattle.fen_text.proofs.Tokens.{place-miss, place-start}
-use Rattle.fen_reader.specs.Class.{classOf}
-use Rattle.fen_reader.proofs.Classes.{no-space, class-at, table-long}
+use Rattle.fen_text.specs.Placement.{Placement, placement, start, placeAll}
+use Rattle.fen_text.proofs.Tokens.{place-miss, place-start, place-hit, place-end}
+use Rattle.fen_reader.specs.Class.{refused, classOf}
+use Rattle.fen_reader.proofs.Classes.{class-at, table-long}
 use Rattle.fen_reader.proofs.Placing.{next, stored, turn, file-small, rank-small, at-start}
 use Rattle.fen_reader.proofs.placement.place.Statement.{statement}
 use Rattle.fen_reader.proofs.placement.place.Tie as tie
 
 abbrev Inv-loop : tie.InvT-loop
-Inv-loop text classes pieces₀ rank₀ file₀ i₀ pieces rank file i = (i ≤ length text) × (rank < 8) × (file < 8) × (length pieces ≡ 64) × (placeAll start (take i text) ≡ at rank file pieces) × (placeOf 32 text ≡ i + placeOf 32 (drop i text))
+Inv-loop text classes pieces₀ rank₀ file₀ seen₀ i₀ pieces rank file seen i = (i ≤ length text) × (rank < 8) × (file < 8) × (length pieces ≡ 64) × (placeAll start (take i text) ≡ placement pieces rank file (ltb seen refused)) × (placeOf 32 text ≡ i + placeOf 32 (drop i text))
 
 abbrev μ-loop : tie.MeasureT-loop
-μ-loop text classes pieces₀ rank₀ file₀ i₀ pieces rank file i = length text - i
+μ-loop text classes pieces₀ rank₀ file₀ seen₀ i₀ pieces rank file seen i = length text - i
 
 note-all-requires : tie.Need-note-all-requires Inv-loop μ-loop
 note-all-requires c κs = search needs
@@ -27,34 +26,28 @@ note-all-requires c κs = search needs
 loop-holds : tie.Need-loop-holds Inv-loop μ-loop
 loop-holds c = (zero-le, lit< tt, lit< tt, refl, at-start, place-start 32 _)
 
-shared-slice-read-wide : tie.Need-shared-slice-read-wide Inv-loop μ-loop
-shared-slice-read-wide c = search needs
+shared-slice-read-b : tie.Need-shared-slice-read-b Inv-loop μ-loop
+shared-slice-read-b c = search needs
+
+returns : tie.Need-returns Inv-loop μ-loop
+returns c = record {
+  place = sym (c .before .before .before .loop .inv .5 ∙ place-hit 32 (c .before .before .before .before .before .before .before .args .text .now) (c .before .before .before .loop .i) (c .before .before .loop-test .taken) (c .if1 .taken));
+  pieces = ap (λ (p : Placement). p .pieces) (c .before .before .before .loop .inv .4);
+  good = ap (λ (p : Placement). p .good) (c .before .before .before .loop .inv .4);
+}
 
 wide-requires : tie.Need-wide-requires Inv-loop μ-loop
 wide-requires c κs = search needs
 
 array-read-class : tie.Need-array-read-class Inv-loop μ-loop
 array-read-class c =
-    let b : ℕ = getD (c .before .before .before .before .before .before .before .args .text .now) (c .before .before .before .loop .i) 0 in
-    let byte : b < 256 = omega (arith, c .before .shared-slice-known2 .given (c .before .before .before .loop .i)) in
-    let place : c .wide .result ≡ b = c .wide .ensures in
-    let long : length (c .before .before .before .before .note-all .last .0) ≡ 256 = ap length (c .before .before .before .before .note-all .ensures) ∙ table-long in
-    omega arith
-
-returns : tie.Need-returns Inv-loop μ-loop
-returns c =
     let s : List ℕ = c .before .before .before .before .before .before .before .before .args .text .now in
     let i : ℕ = c .before .before .before .before .loop .i in
     let b : ℕ = getD s i 0 in
     let byte : b < 256 = omega (arith, c .before .before .shared-slice-known2 .given i) in
-    let class : getD (c .before .before .before .before .before .note-all .last .0) (c .before .wide .result) 0 ≡ classOf b = ap (λ (k : ℕ). getD (c .before .before .before .before .before .note-all .last .0) k 0) (c .before .wide .ensures) ∙ ap (λ (t : List ℕ). getD t b 0) (c .before .before .before .before .before .note-all .ensures) ∙ class-at b byte in
-    record {
-      within = c .before .before .before .before .loop .inv .0;
-      space = c .before .before .before .before .loop .inv .5;
-      pieces = ap (λ (p : Placement). p .pieces) (c .before .before .before .before .loop .inv .4);
-      good = ap (λ (p : Placement). p .good) (c .before .before .before .before .loop .inv .4);
-      stop = λ _. sym class ∙ c .if1 .taken;
-    }
+    let place : c .wide .result ≡ b = c .wide .ensures in
+    let long : length (c .before .before .before .before .before .note-all .last .0) ≡ 256 = ap length (c .before .before .before .before .before .note-all .ensures) ∙ table-long in
+    omega arith
 
 mul-at : tie.Need-mul-at Inv-loop μ-loop
 mul-at c = search needs
@@ -89,28 +82,25 @@ loop-again c =
     let i : ℕ = c .before .before .before .before .before .before .before .loop .i in
     let b : ℕ = getD s i 0 in
     let byte : b < 256 = omega (arith, c .before .before .before .before .before .shared-slice-known2 .given i) in
-    let class : getD (c .before .before .before .before .before .before .before .before .note-all .last .0) (c .before .before .before .before .wide .result) 0 ≡ classOf b = ap (λ (k : ℕ). getD (c .before .before .before .before .before .before .before .before .note-all .last .0) k 0) (c .before .before .before .before .wide .ensures) ∙ ap (λ (t : List ℕ). getD t b 0) (c .before .before .before .before .before .before .before .before .note-all .ensures) ∙ class-at b byte in
     let h : i < length s = c .before .before .before .before .before .before .loop-test .taken in
-    let some : classOf b ≡ 0 → ⊥ = λ e. c .before .before .before .if1 .left (class ∙ e) in
     let r = c .before .before .before .before .before .before .before .loop .rank in
     let f = c .before .before .before .before .before .before .before .loop .file in
     let p = c .before .before .before .before .before .before .before .loop .pieces in
-    let k = getD (c .before .before .before .before .before .before .before .before .note-all .last .0) (c .before .before .before .before .wide .result) 0 in (
+    let k = getD (c .before .before .before .before .before .before .before .before .note-all .last .0) (c .before .before .before .wide .result) 0 in
+    let class : k ≡ classOf b = ap (λ (k : ℕ). getD (c .before .before .before .before .before .before .before .before .note-all .last .0) k 0) (c .before .before .before .wide .ensures) ∙ ap (λ (t : List ℕ). getD t b 0) (c .before .before .before .before .before .before .before .before .note-all .ensures) ∙ class-at b byte in (
       omega arith,
       subst (λ (n : ℕ). n < 8) (sym (c .rank-after .ensures)) (rank-small r k (c .before .before .before .before .before .before .before .loop .inv .1)),
       subst (λ (n : ℕ). n < 8) (sym (c .before .file-after .ensures)) (file-small f k),
       simp length-set (c .before .before .before .before .before .before .before .loop .inv .3),
-      turn s i h (c .before .before .before .before .before .before .before .loop .inv .4) (next p r f b some ∙ stored p r f k (classOf b) (c .before .before .piece-after .result) (c .rank-after .result) (c .before .file-after .result) class (c .before .before .piece-after .ensures) (c .rank-after .ensures) (c .before .file-after .ensures)),
-      c .before .before .before .before .before .before .before .loop .inv .5 ∙ place-miss 32 s i h (no-space b some),
+      turn s i h (c .before .before .before .before .before .before .before .loop .inv .4) (next p r f (ltb (c .before .before .before .before .before .before .before .loop .seen) refused) b (c .before .before .before .before .before .before .before .loop .inv .2) ∙ stored p r f (c .before .before .before .before .before .before .before .loop .seen) k (classOf b) (c .before .before .piece-after .result) (c .rank-after .result) (c .before .file-after .result) class (c .before .before .piece-after .ensures) (c .rank-after .ensures) (c .before .file-after .ensures)),
+      c .before .before .before .before .before .before .before .loop .inv .5 ∙ place-miss 32 s i h (c .before .before .before .before .if1 .left),
     )
 
 returns-2 : tie.Need-returns-2 Inv-loop μ-loop
 returns-2 c = record {
-  within = c .before .loop .inv .0;
-  space = c .before .loop .inv .5;
+  place = sym (c .before .loop .inv .5 ∙ place-end 32 (c .before .before .before .before .before .args .text .now) (c .before .loop .i) (c .loop-test .left));
   pieces = ap (λ (p : Placement). p .pieces) (c .before .loop .inv .4);
   good = ap (λ (p : Placement). p .good) (c .before .loop .inv .4);
-  stop = λ h. absurd (omega (arith, h, c .loop-test .left));
 }
 
 pub place-spec : {M : Type 1} → statement M
@@ -121,10 +111,10 @@ place-spec =
     μ-loop
     note-all-requires
     loop-holds
-    shared-slice-read-wide
+    shared-slice-read-b
+    returns
     wide-requires
     array-read-class
-    returns
     mul-at
     add-at
     array-read-piece-after
