@@ -175,21 +175,46 @@ fn games(random: &mut Random) {
     row("result and claim after each of 300 moves", asked, theirs / asked as f64, ours / asked as f64, "10");
 }
 
-fn main() {
-    let mut random = Random::new(1, "bench");
-    let places: Vec<Place> = different_positions(POSITIONS, &mut random).iter().map(place_of).collect();
-    println!("{} different positions of games; nanoseconds an input, best of {} rounds or more", places.len(), ROUNDS);
-    println!("{:<48} {:>8} {:>12} {:>12} {:>9} {:>6}", "what", "inputs", "crate", "ours", "ratio", "asked");
-    fen(&places);
-    coordinates(&places);
-    san(&places);
-    games(&mut random);
+/// `keys` and the same program over the crate, on a file of the positions' texts.
+fn lines(places: &[Place]) {
     let texts: Vec<&str> = places.iter().map(|p| p.fen.as_str()).collect();
     match keys::times(&texts) {
         Ok((lines, theirs, ours)) => row("keys, a line of a file", lines, theirs, ours, "3"),
         Err(why) => {
             eprintln!("bench: keys: {}", why);
             std::process::exit(1);
+        }
+    }
+}
+
+const PARTS: [&str; 5] = ["fen", "coordinates", "san", "log", "keys"];
+
+/// The parts that were named, or all.
+fn parts() -> Vec<String> {
+    let named: Vec<String> = std::env::args().skip(1).collect();
+    if let Some(other) = named.iter().find(|n| !PARTS.contains(&n.as_str())) {
+        eprintln!("bench: there is no part {}\nusage: bench [PART..], with the parts {}; without one, all", other, PARTS.join(", "));
+        std::process::exit(2);
+    }
+    match named.is_empty() {
+        true => PARTS.iter().map(|p| p.to_string()).collect(),
+        false => named,
+    }
+}
+
+fn main() {
+    let parts = parts();
+    let mut random = Random::new(1, "bench");
+    let places: Vec<Place> = different_positions(POSITIONS, &mut random).iter().map(place_of).collect();
+    println!("{} different positions of games; nanoseconds an input, best of {} rounds or more", places.len(), ROUNDS);
+    println!("{:<48} {:>8} {:>12} {:>12} {:>9} {:>6}", "what", "inputs", "crate", "ours", "ratio", "asked");
+    for part in parts {
+        match part.as_str() {
+            "fen" => fen(&places),
+            "coordinates" => coordinates(&places),
+            "san" => san(&places),
+            "log" => games(&mut random),
+            _ => lines(&places),
         }
     }
 }
