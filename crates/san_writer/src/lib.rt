@@ -2,7 +2,7 @@
 use board_builder::BoardBuilder;
 use square::Answer;
 ghost use mathlib.Core.Path.{_≡_};
-ghost use mathlib.Core.Bool.{not, _&&_, _||_};
+ghost use mathlib.Core.Bool.{not};
 ghost use mathlib.Core.List.{[], _∷_, _++_};
 ghost use Prim.Native.Nat.{_≤_, _<_};
 ghost use lib.Dec.{eqb};
@@ -100,12 +100,6 @@ fn end(bytes: &mut [u8; 12], at: usize, dest: u8, promotion: u8, mark: bool) -> 
     push_mark(bytes, c, mark)
 }
 
-fn both(a: bool, b: bool) -> bool
-    ensures { λ r. ⌜ r ≡ a && b ⌝ }
-{
-    if a { b } else { false }
-}
-
 fn narrow(x: u16) -> u8
     requires { ⌜ x < 64 ⌝ }
     ensures { λ r. ⌜ r ≡ x ⌝ }
@@ -124,7 +118,7 @@ pub fn write_san(board: BoardBuilder, m: u16, file: bool, rank: bool, out: &mut 
     let promotion = (m / 4096) as u8;
     let kind = square::kind_of(board.pieces[source as usize]);
     let is_empty = board.pieces[dest as usize] == 0;
-    let changes_files = both(kind == 1, source % 8 != dest % 8);
+    let changes_files = square::both(kind == 1, source % 8 != dest % 8);
     let mut bytes = [0u8; 12];
     let n = head(
         &mut bytes,
@@ -139,7 +133,7 @@ pub fn write_san(board: BoardBuilder, m: u16, file: bool, rank: bool, out: &mut 
         n,
         dest,
         promotion,
-        both(changes_files, is_empty),
+        square::both(changes_files, is_empty),
     );
     square::write_text(&bytes[..all], out)
 }

@@ -28,5 +28,6 @@ square-determined = record {
   kind-of = λ code. determined;
   byte-at = λ s i. determined;
   either-is = λ a b. determined;
+  both-is = λ a b. determined;
   all-at-most = λ s most. determined;
 }

@@ -32,6 +32,9 @@ unfoldable pub among : ℕ → List ℕ → Bool
 among n [] = false
 among n (x ∷ xs) = eqb x n || among n xs
 
--- one of two tests holds
+-- one of two tests holds, or both do
 abbrev pub either : Bool → Bool → Bool
 either a b = a || b
+
+abbrev pub both : Bool → Bool → Bool
+both a b = a && b

@@ -5,7 +5,7 @@ use mathlib.Core.Path.{_≡_}
 use mathlib.Core.Bool.{Bool}
 use mathlib.Core.List.{List}
 use lib.ListN.{length, take, drop}
-use Rattle.square.specs.Numbers.{allAtMost, numberAt, same, either}
+use Rattle.square.specs.Numbers.{allAtMost, numberAt, same, either, both}
 use Rattle.square.specs.Answer.{accepted, refused, writeAnswer, writeBytes}
 use Rattle.square.specs.Square.{makeSquare, rankOf, fileOf, backRank, squareNamed, readSquare, squareText, squareCheck}
 use Rattle.square.specs.Piece.{pieceOf, letterOf, kindOf}
@@ -49,4 +49,5 @@ pub record SquareDetermined : Type 0 where
   pub kind-of : (code : ℕ) → Determined (Is (kindOf code))
   pub byte-at : (s : List ℕ) (i : ℕ) → Determined (Is (numberAt s i))
   pub either-is : (a b : Bool) → Determined (Is (either a b))
+  pub both-is : (a b : Bool) → Determined (Is (both a b))
   pub all-at-most : (s : List ℕ) (most : ℕ) → Determined (Is (allAtMost most s))

@@ -4,7 +4,7 @@ ghost use mathlib.Core.Path.{_≡_};
 ghost use Prim.Native.Nat.{_-_};
 ghost use lib.ListN.{length};
 ghost use Rattle.square.specs.Answer.{accepted, refused, writeAnswer, writeBytes};
-ghost use Rattle.square.specs.Numbers.{allAtMost, numberAt, same, either};
+ghost use Rattle.square.specs.Numbers.{allAtMost, numberAt, same, either, both};
 ghost use Rattle.square.specs.Square.{makeSquare, rankOf, fileOf, backRank, squareNamed, readSquare, squareText, squareCheck};
 ghost use Rattle.square.specs.Piece.{pieceOf, letterOf, kindOf};
 
@@ -241,6 +241,13 @@ pub fn either(a: bool, b: bool) -> bool
     ensures { λ r. ⌜ r ≡ either a b ⌝ }
 {
     if a { true } else { b }
+}
+
+// The same of `&&`.
+pub fn both(a: bool, b: bool) -> bool
+    ensures { λ r. ⌜ r ≡ both a b ⌝ }
+{
+    if a { b } else { false }
 }
 
 fn over(x: u8, most: u8) -> u8
