@@ -3,7 +3,5 @@ pub mod Arrivals
 pub mod Counts
 pub mod OnePass
 pub mod UpToThree
-pub mod Shorts
 pub mod Soles
 pub mod Gathers
-pub mod Letters

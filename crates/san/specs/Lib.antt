@@ -1,3 +1,2 @@
 pub mod Fitting
-pub mod Short
 pub mod Gathered

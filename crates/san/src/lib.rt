@@ -1,14 +1,12 @@
 // The SAN reader, after chess_move.rs: which of the listed moves a text names.
 mod gathering;
 mod resolve;
-mod short;
-mod text;
 
 use board_builder::BoardBuilder;
 use move_list::LONGEST_LIST;
 pub use resolve::castling_move;
 use san_text::San;
-use short::Short;
+use san_reader::Short;
 use square::Answer;
 use square::BAD_LIST;
 use square::OUT_OF_RANGE;
@@ -17,7 +15,7 @@ ghost use Prim.Native.Nat.{_≤_};
 ghost use Rattle.san_text.specs.Text.{readText};
 ghost use Rattle.san_text.specs.Form.{resolved};
 ghost use Rattle.san_text.specs.Paper.{paper, fromSan};
-ghost use Rattle.san.specs.Short.{sanOf};
+ghost use Rattle.san_reader.specs.Short.{sanOf};
 ghost use Rattle.san.specs.Gathered.{overList};
 
 // The text read from left to right. Checks 6, then 4.
@@ -27,7 +25,7 @@ fn read_long(board: BoardBuilder, moves: &[u16], text: &[u8]) -> Answer
     if !move_list::in_range(moves) {
         return square::refused(BAD_LIST);
     }
-    let said = text::read_text(text);
+    let said = san_reader::read_text(text);
     resolve::resolve(board, moves, said)
 }
 
@@ -57,7 +55,7 @@ pub fn from_san(board: BoardBuilder, moves: &[u16], text: &[u8]) -> Answer
     if LONGEST_LIST < moves.len() {
         return square::refused(BAD_LIST);
     }
-    let short = short::read_short(text);
+    let short = san_reader::read_short(text);
     if short.square == 0 {
         return read_long(board, moves, text);
     }

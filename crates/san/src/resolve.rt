@@ -5,7 +5,7 @@ use san_text::SanText;
 use square::Answer;
 use square::INVALID_SAN_MOVE;
 ghost use mathlib.Core.Path.{_≡_};
-ghost use mathlib.Core.Bool.{cond, _&&_, _||_};
+ghost use mathlib.Core.Bool.{cond, _&&_};
 ghost use Prim.Native.Nat.{_<_, _^_};
 ghost use Rattle.san_text.specs.Resolve.{agrees, captureTest, castlingMove, castle};
 ghost use Rattle.san_text.specs.Form.{resolved};
@@ -33,12 +33,6 @@ pub(crate) fn both(a: bool, b: bool) -> bool
     ensures { λ r. ⌜ r ≡ a && b ⌝ }
 {
     if a { b } else { false }
-}
-
-fn one_of(a: bool, b: bool) -> bool
-    ensures { λ r. ⌜ r ≡ a || b ⌝ }
-{
-    if a { true } else { b }
 }
 
 fn choose(first: bool, a: bool, b: bool) -> bool
@@ -103,7 +97,7 @@ pub(crate) fn capture_test(pieces: &[u8; 64], t: San, m: u16) -> bool
 {
     let dest = narrow(m / 64 % 64);
     let code = pieces[dest as usize];
-    choose(t.takes, one_of(t.mark, code != 0), code == 0)
+    choose(t.takes, square::either(t.mark, code != 0), code == 0)
 }
 
 pub(crate) fn sole_move(pieces: &[u8; 64], t: San, moves: &[u16]) -> Answer

@@ -2,6 +2,7 @@ use borrow.Author.Needs.{needs}
 use native.Mathlib.Omega.{arith}
 use borrow.Author.Tests.{not-true, not-false}
 use Rattle.san_text.specs.Form.{readAnswer, resolved}
+use Rattle.san_reader.proofs.Shorts.{told-by}
 use Rattle.san.proofs.Gathers.{long-list}
 use Rattle.san.proofs.from_san.Statement.{statement}
 use Rattle.san.proofs.from_san.Tie as tie
@@ -37,11 +38,15 @@ said-by-requires : tie.Need-said-by-requires
 said-by-requires c κs = search needs
 
 sole-arrival-requires : tie.Need-sole-arrival-requires
-sole-arrival-requires c κs = rw (c .said-by .ensures) (omega (arith, c .before .before .before .before .before .read-short .ensures .on-board))
+sole-arrival-requires c κs =
+    let told = told-by (c .before .before .before .before .before .before .before .before .before .before .before .args .text .now) (c .before .before .before .before .before .read-short .result) (c .before .before .before .before .before .read-short .ensures) in
+    rw (c .said-by .ensures) (omega (arith, told .on-board))
 
 returns-4 : tie.Need-returns-4
 unfolding readAnswer resolved
-returns-4 c = simp (← c .before .before .before .before .before .before .before .before .before .in-range .ensures, not-false (c .before .before .before .before .before .before .before .before .before .in-range .result) (c .before .before .before .before .before .before .before .before .if1 .left), c .before .before .before .before .before .before .read-short .ensures .said (c .before .before .before .before .if3 .left), c .sole-arrival .ensures, c .before .said-by .ensures)
+returns-4 c =
+    let told = told-by (c .before .before .before .before .before .before .before .before .before .before .before .before .args .text .now) (c .before .before .before .before .before .before .read-short .result) (c .before .before .before .before .before .before .read-short .ensures) in
+    simp (← c .before .before .before .before .before .before .before .before .before .in-range .ensures, not-false (c .before .before .before .before .before .before .before .before .before .in-range .result) (c .before .before .before .before .before .before .before .before .if1 .left), told .said (c .before .before .before .before .if3 .left), c .sole-arrival .ensures, c .before .said-by .ensures)
 
 pub from-san-spec : {M : Type 1} → statement M
 from-san-spec =

@@ -12,15 +12,15 @@ cast-code c = search needs
 element-copy-out-code : tie.Need-element-copy-out-code
 element-copy-out-code c = search needs
 
-one-of-requires : tie.Need-one-of-requires
-one-of-requires c κs = search needs
+either-requires : tie.Need-either-requires
+either-requires c κs = search needs
 
 choose-requires : tie.Need-choose-requires
 choose-requires c κs = search needs
 
 returns : tie.Need-returns
 unfolding captureTest
-returns c = simp (c .choose .ensures, c .before .one-of .ensures, c .before .before .before .narrow .ensures)
+returns c = simp (c .choose .ensures, c .before .either .ensures, c .before .before .before .narrow .ensures)
 
 pub capture-test-spec : {M : Type 1} → statement M
 capture-test-spec =
@@ -29,6 +29,6 @@ capture-test-spec =
     narrow-requires
     cast-code
     element-copy-out-code
-    one-of-requires
+    either-requires
     choose-requires
     returns)
