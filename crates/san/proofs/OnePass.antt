@@ -1,147 +1,274 @@
--- The pass over a list, turn by turn, and what it gathers: the largest entry, and of the sources of the entries that arrive at a square their number,
--- sum, largest and least.
+-- The pass over a list from its two places, turn by turn, and what it has gathered at the end.
 -- Assumes nothing.
-use Prim.Native.Nat.{ℕ, suc, _+_, _*_, _%_, _≤_, _<_, max, min}
-use mathlib.Core.Path.{_≡_, refl, ap, _∙_}
-use mathlib.Core.Bool.{Bool, true, false, cond}
-use mathlib.Core.List.{List, [], _∷_}
+use Prim.Native.Nat.{ℕ, suc, _+_, _*_, _-_, _%_, _≤_, _<_, max, min}
+use mathlib.Core.Path.{subst, _≡_, refl, sym, ap, _∙_}
+use mathlib.Core.Bool.{Bool, true, false, cond, _&&_}
+use mathlib.Core.List.{List, [], _∷_, _++_}
 use native.Mathlib.Omega.{arith}
 use native.Mathlib.Numerals.{add-one}
-use lib.ListN.{length, getD, drop, drop-of-length-le}
+use lib.Bits.{bitOr}
+use lib.Dec.{eqb, leb}
+use lib.ListN.{length, getD, take, drop, drop-of-length-le, take-append-drop}
 use lib.Seq.{drop-cons}
-use Rattle.square.specs.Numbers.{largest, allAtMost}
+use Rattle.square.specs.Numbers.{allAtMost}
 use Rattle.square.proofs.Numbers.{most-cons}
+use Rattle.square.proofs.Bounds.{gather}
+use Rattle.chess_move.specs.Number.{lastMove}
 use Rattle.san.specs.declared.gathering.Gathered.{Gathered}
-use Rattle.san.specs.Gathered.{numberIf, goesTo, gather, gathered, leastSource}
+use Rattle.san.specs.Gathered.{numberIf, kept, sources, total, highest, lowest, gatherTwo, Gathers}
 
--- a source, if its entry arrives, before those of the entries behind it
-unfoldable pub kept : Bool → ℕ → List ℕ → List ℕ
-kept true x xs = x ∷ xs
-kept false x xs = xs
+-- ---- one source more or none
 
--- the sources of the entries that arrive, in order
-unfoldable pub sources : ℕ → List ℕ → List ℕ
-sources want [] = []
-sources want (m ∷ ms) = kept (goesTo want m) (m % 64) (sources want ms)
+highest-from : (a : ℕ) (xs : List ℕ) → highest a xs ≡ max a (highest 0 xs)
+unfolding highest
+highest-from a [] = omega arith
+highest-from a (x ∷ xs) = omega (arith, highest-from (max a x) xs, highest-from (max 0 x) xs)
 
-unfoldable pub total : List ℕ → ℕ
-total [] = 0
-total (x ∷ xs) = x + total xs
+lowest-most : (a : ℕ) (xs : List ℕ) → lowest a xs ≤ a
+unfolding lowest
+lowest-most a [] = omega arith
+lowest-most a (x ∷ xs) = omega (arith, lowest-most (min a x) xs)
 
-unfoldable pub highest : ℕ → List ℕ → ℕ
-highest a [] = a
-highest a (x ∷ xs) = highest (max a x) xs
+lowest-from : (a : ℕ) (xs : List ℕ) → a ≤ 64 → lowest a xs ≡ min a (lowest 64 xs)
+unfolding lowest
+lowest-from a [] h = omega arith
+lowest-from a (x ∷ xs) h = omega (arith, h, lowest-from (min a x) xs (omega arith), lowest-from (min 64 x) xs (omega arith))
 
-unfoldable pub lowest : ℕ → List ℕ → ℕ
-lowest a [] = a
-lowest a (x ∷ xs) = lowest (min a x) xs
+kept-length : (b : Bool) (x : ℕ) (xs : List ℕ) → length (kept b x xs) ≡ numberIf b 1 + length xs
+unfolding kept
+kept-length true x xs = omega arith
+kept-length false x xs = omega arith
 
--- ---- a turn and the end of the two loops
+kept-total : (b : Bool) (x : ℕ) (xs : List ℕ) → total (kept b x xs) ≡ numberIf b x + total xs
+unfolding kept total
+kept-total true x xs = refl
+kept-total false x xs = omega arith
 
-pub gathered-turn : (want : ℕ) (g : Gathered) (l : List ℕ) (i : ℕ) → i < length l → gathered want g (drop i l) ≡ gathered want (gather want g (getD l i 0)) (drop (i + 1) l)
-unfolding gathered
-gathered-turn want g l i h = rw (add-one i, drop-cons l i 0 h)
+kept-highest : (b : Bool) (x : ℕ) (xs : List ℕ) → highest 0 (kept b x xs) ≡ max (numberIf b x) (highest 0 xs)
+unfolding kept highest
+kept-highest true x xs = omega (arith, highest-from (max 0 x) xs)
+kept-highest false x xs = omega arith
 
-pub gathered-end : (want : ℕ) (g : Gathered) (l : List ℕ) (i : ℕ) → length l ≤ i → gathered want g (drop i l) ≡ g
-unfolding gathered
-gathered-end want g l i h = rw (drop-of-length-le l h)
+kept-lowest : (b : Bool) (x : ℕ) (xs : List ℕ) → lowest 64 (kept b x xs) ≡ min (cond b x 64) (lowest 64 xs)
+unfolding kept lowest
+kept-lowest true x xs = omega (arith, lowest-from (min 64 x) xs (omega arith), lowest-most 64 xs)
+kept-lowest false x xs = omega (arith, lowest-most 64 xs)
 
-pub least-turn : (want a : ℕ) (l : List ℕ) (i : ℕ) → i < length l → leastSource want a (drop i l) ≡ leastSource want (min a (cond (goesTo want (getD l i 0)) (getD l i 0 % 64) 64)) (drop (i + 1) l)
-unfolding leastSource
-least-turn want a l i h = rw (add-one i, drop-cons l i 0 h)
+-- ---- largest and least in another order
 
-pub least-end : (want a : ℕ) (l : List ℕ) (i : ℕ) → length l ≤ i → leastSource want a (drop i l) ≡ a
-unfolding leastSource
-least-end want a l i h = rw (drop-of-length-le l h)
+max-assoc : (a b c : ℕ) → max (max a b) c ≡ max a (max b c)
+max-assoc a b c = omega arith
 
--- an entry adds at most 1 and at most 63
-pub gather-count : (want : ℕ) (g : Gathered) (m : ℕ) → gather want g m .count ≤ g .count + 1
-unfolding gather
-gather-count want g m = go (goesTo want m)
-  where
-    go : (b : Bool) → g .count + numberIf b 1 ≤ g .count + 1
-    go true = omega arith
-    go false = omega arith
+max-comm : (a b : ℕ) → max a b ≡ max b a
+max-comm a b = omega arith
 
-pub gather-sum : (want : ℕ) (g : Gathered) (m : ℕ) → gather want g m .sum ≤ g .sum + 63
-unfolding gather
-gather-sum want g m = go (goesTo want m)
-  where
-    go : (b : Bool) → g .sum + numberIf b (m % 64) ≤ g .sum + 63
-    go true = omega arith
-    go false = omega arith
+min-assoc : (a b c : ℕ) → min (min a b) c ≡ min a (min b c)
+min-assoc a b c = omega arith
 
--- ---- what is gathered
+min-comm : (a b : ℕ) → min a b ≡ min b a
+min-comm a b = omega arith
 
-pub gathered-most : (want : ℕ) (g : Gathered) (l : List ℕ) → gathered want g l .most ≡ max (g .most) (largest l)
-unfolding gathered gather largest
-gathered-most want g [] = omega arith
-gathered-most want g (m ∷ ms) = gathered-most want (gather want g m) ms ∙ assoc (g .most) m (largest ms)
-  where
-    assoc : (a b c : ℕ) → max (max a b) c ≡ max a (max b c)
-    assoc a b c = omega arith
+regroup : (op : ℕ → ℕ → ℕ) → ((a b c : ℕ) → op (op a b) c ≡ op a (op b c)) → ((a b : ℕ) → op a b ≡ op b a) → (c x y a b : ℕ) → op c (op (op x a) (op y b)) ≡ op (op c (op x y)) (op a b)
+regroup op assoc comm c x y a b =
+    ap (op c) (assoc x a (op y b) ∙ ap (op x) (sym (assoc a y b) ∙ ap (λ (k : ℕ). op k b) (comm a y) ∙ assoc y a b) ∙ sym (assoc x y (op a b)))
+    ∙ sym (assoc c (op x y) (op a b))
 
-pub gathered-count : (want : ℕ) (g : Gathered) (l : List ℕ) → gathered want g l .count ≡ g .count + length (sources want l)
-unfolding gathered gather sources kept
-gathered-count want g [] = omega arith
-gathered-count want g (m ∷ ms) = gathered-count want (gather want g m) ms ∙ go (goesTo want m) (g .count) (sources want ms)
-  where
-    go : (b : Bool) (k : ℕ) (xs : List ℕ) → k + numberIf b 1 + length xs ≡ k + length (kept b (m % 64) xs)
-    go true k xs = omega arith
-    go false k xs = omega arith
+-- ---- what is left at the two places: the front is n entries, and the second place stands at j, where it counts nothing before n
 
-pub gathered-sum : (want : ℕ) (g : Gathered) (l : List ℕ) → gathered want g l .sum ≡ g .sum + total (sources want l)
-unfolding gathered gather sources kept total
-gathered-sum want g [] = omega arith
-gathered-sum want g (m ∷ ms) = gathered-sum want (gather want g m) ms ∙ go (goesTo want m) (g .sum) (sources want ms)
-  where
-    go : (b : Bool) (k : ℕ) (xs : List ℕ) → k + numberIf b (m % 64) + total xs ≡ k + total (kept b (m % 64) xs)
-    go true k xs = omega arith
-    go false k xs = omega arith
+abbrev pub atFront : List ℕ → ℕ → ℕ → List ℕ
+atFront l n i = take (n - i) (drop i l)
 
-pub gathered-largest : (want : ℕ) (g : Gathered) (l : List ℕ) → gathered want g l .largest ≡ highest (g .largest) (sources want l)
-unfolding gathered gather sources kept highest
-gathered-largest want g [] = refl
-gathered-largest want g (m ∷ ms) = gathered-largest want (gather want g m) ms ∙ go (goesTo want m) (g .largest) (sources want ms)
-  where
-    zero-under : (a : ℕ) → max a 0 ≡ a
-    zero-under a = omega arith
+abbrev pub behind : List ℕ → ℕ → ℕ → List ℕ
+behind l n j = drop (max n j) l
 
-    go : (b : Bool) (k : ℕ) (xs : List ℕ) → highest (max k (numberIf b (m % 64))) xs ≡ highest k (kept b (m % 64) xs)
-    go true k xs = refl
-    go false k xs = ap (λ (a : ℕ). highest a xs) (zero-under k)
+front-turn : (l : List ℕ) (n i : ℕ) → i < n → i < length l → atFront l n i ≡ getD l i 0 ∷ atFront l n (i + 1)
+front-turn l n i h k =
+    let e : n - i ≡ suc (n - suc i) = omega arith in
+    rw (add-one i, e, drop-cons l i 0 k)
 
-pub least-lowest : (want a : ℕ) (l : List ℕ) → a ≤ 64 → leastSource want a l ≡ lowest a (sources want l)
-unfolding leastSource sources kept lowest
-least-lowest want a [] h = refl
-least-lowest want a (m ∷ ms) h = least-lowest want (min a (cond (goesTo want m) (m % 64) 64)) ms (omega arith) ∙ go (goesTo want m) (sources want ms)
-  where
-    over : min a 64 ≡ a
-    over = omega arith
+-- ---- two parts of a list
 
-    go : (b : Bool) (xs : List ℕ) → lowest (min a (cond b (m % 64) 64)) xs ≡ lowest a (kept b (m % 64) xs)
-    go true xs = refl
-    go false xs = ap (λ (k : ℕ). lowest k xs) over
+module _ (p : ℕ → Bool) where
+  -- what is told of two parts together
+  pub record Parts (l f b : List ℕ) : Type 0 where
+    pub range : allAtMost lastMove f && allAtMost lastMove b ≡ allAtMost lastMove l
+    pub count : length (sources p f) + length (sources p b) ≡ length (sources p l)
+    pub sum : total (sources p f) + total (sources p b) ≡ total (sources p l)
+    pub largest : max (highest 0 (sources p f)) (highest 0 (sources p b)) ≡ highest 0 (sources p l)
+    pub least : min (lowest 64 (sources p f)) (lowest 64 (sources p b)) ≡ lowest 64 (sources p l)
 
--- ---- bounds of the sources
+  parts : (f b : List ℕ) → Parts (f ++ b) f b
+  unfolding sources total highest lowest allAtMost
+  parts [] b = record {
+    range = refl;
+    count = omega arith;
+    sum = omega arith;
+    largest = omega arith;
+    least = omega (arith, lowest-most 64 (sources p b));
+  }
+  parts (m ∷ f) b =
+      let k = parts f b in
+      record {
+        range = assoc (leb m lastMove) (allAtMost lastMove f) (allAtMost lastMove b) ∙ ap (λ (x : Bool). leb m lastMove && x) (k .range);
+        count = omega (arith, k .count, kept-length (p m) (m % 64) (sources p f), kept-length (p m) (m % 64) (sources p (f ++ b)));
+        sum = omega (arith, k .sum, kept-total (p m) (m % 64) (sources p f), kept-total (p m) (m % 64) (sources p (f ++ b)));
+        largest = omega (arith, k .largest, kept-highest (p m) (m % 64) (sources p f), kept-highest (p m) (m % 64) (sources p (f ++ b)));
+        least = omega (arith, k .least, kept-lowest (p m) (m % 64) (sources p f), kept-lowest (p m) (m % 64) (sources p (f ++ b)));
+      }
+    where
+      assoc : (x y z : Bool) → (x && y) && z ≡ x && (y && z)
+      assoc true y z = refl
+      assoc false y z = refl
 
-pub sources-most : (want : ℕ) (l : List ℕ) → allAtMost 63 (sources want l) ≡ true
-unfolding sources kept allAtMost
-sources-most want [] = refl
-sources-most want (m ∷ ms) = go (goesTo want m) (sources want ms) (sources-most want ms)
-  where
-    go : (b : Bool) (xs : List ℕ) → allAtMost 63 xs ≡ true → allAtMost 63 (kept b (m % 64) xs) ≡ true
-    go true xs e = most-cons 63 (m % 64) xs (omega arith) e
-    go false xs e = e
+  -- what is gathered and what is left at the two places are together the list
+  pub record Left (l f b : List ℕ) (g : Gathered) : Type 0 where
+    pub range : eqb (g .above) 0 && (allAtMost lastMove f && allAtMost lastMove b) ≡ allAtMost lastMove l
+    pub count : g .count + (length (sources p f) + length (sources p b)) ≡ length (sources p l)
+    pub sum : g .sum + (total (sources p f) + total (sources p b)) ≡ total (sources p l)
+    pub largest : max (g .largest) (max (highest 0 (sources p f)) (highest 0 (sources p b))) ≡ highest 0 (sources p l)
+    pub least : min (g .least) (min (lowest 64 (sources p f)) (lowest 64 (sources p b))) ≡ lowest 64 (sources p l)
 
-pub total-most : (want : ℕ) (l : List ℕ) → total (sources want l) ≤ 63 * length l
-unfolding sources kept total
-total-most want [] = omega arith
-total-most want (m ∷ ms) = go (goesTo want m) (sources want ms) (total-most want ms)
-  where
-    go : (b : Bool) (xs : List ℕ) → total xs ≤ 63 * length ms → total (kept b (m % 64) xs) ≤ 63 * suc (length ms)
-    go true xs h = omega arith
-    go false xs h = omega arith
+  pub left-start : (l : List ℕ) (n : ℕ) → Left l (take n l) (drop n l) (record { above = 0; count = 0; sum = 0; largest = 0; least = 64 })
+  left-start l n = subst (λ (x : List ℕ). Left x (take n l) (drop n l) (record { above = 0; count = 0; sum = 0; largest = 0; least = 64 })) (take-append-drop n l) together
+    where
+      k : Parts (take n l ++ drop n l) (take n l) (drop n l)
+      k = parts (take n l) (drop n l)
+
+      together : Left (take n l ++ drop n l) (take n l) (drop n l) (record { above = 0; count = 0; sum = 0; largest = 0; least = 64 })
+      together = record {
+        range = k .range;
+        count = omega (arith, k .count);
+        sum = omega (arith, k .sum);
+        largest = omega (arith, k .largest);
+        least = omega (arith, k .least, lowest-most 64 (sources p (take n l)));
+      }
+
+  pub left-end : (l : List ℕ) (g : Gathered) → g .least ≤ 64 → Left l [] [] g → Gathers p l g
+  unfolding sources total highest lowest allAtMost
+  left-end l g h k = record {
+    range-is = last (eqb (g .above) 0) ∙ k .range;
+    count-is = omega (arith, k .count);
+    sum-is = omega (arith, k .sum);
+    largest-is = omega (arith, k .largest);
+    least-is = omega (arith, h, k .least);
+  }
+    where
+      last : (x : Bool) → x ≡ x && (true && true)
+      last true = refl
+      last false = refl
+
+  all-four : (a b c d : Bool) → a && (b && (c && d)) ≡ (a && c) && (b && d)
+  all-four false b c d = refl
+  all-four true true c d = refl
+  all-four true false true d = refl
+  all-four true false false d = refl
+
+  -- an entry from the front, and one from behind or none
+  step : (l f b′ b : List ℕ) (g : Gathered) (m : ℕ) (there : Bool) (n : ℕ) → sources p b′ ≡ kept there (n % 64) (sources p b) → allAtMost lastMove b′ ≡ leb n lastMove && allAtMost lastMove b → Left l (m ∷ f) b′ g → Left l f b (gatherTwo g (p m) m there n)
+  unfolding sources gatherTwo allAtMost
+  step l f b′ b g m there n es er k = record {
+    range = range;
+    count = adds (g .count) _ _ _ _ _ _ _ (kept-length (p m) (m % 64) (sources p f)) (ap length es ∙ kept-length there (n % 64) (sources p b)) (k .count);
+    sum = adds (g .sum) _ _ _ _ _ _ _ (kept-total (p m) (m % 64) (sources p f)) (ap total es ∙ kept-total there (n % 64) (sources p b)) (k .sum);
+    largest = maxes (g .largest) _ _ _ _ _ _ _ (kept-highest (p m) (m % 64) (sources p f)) (ap (highest 0) es ∙ kept-highest there (n % 64) (sources p b)) (k .largest);
+    least = mins (g .least) _ _ _ _ _ _ _ (kept-lowest (p m) (m % 64) (sources p f)) (ap (lowest 64) es ∙ kept-lowest there (n % 64) (sources p b)) (k .least);
+  }
+    where
+      P : Bool
+      P = allAtMost lastMove f
+
+      Q : Bool
+      Q = allAtMost lastMove b
+
+      range : eqb (bitOr (bitOr (g .above) (m - lastMove)) (n - lastMove)) 0 && (P && Q) ≡ allAtMost lastMove l
+      range =
+          gather (bitOr (g .above) (m - lastMove)) n lastMove (P && Q)
+          ∙ gather (g .above) m lastMove (leb n lastMove && (P && Q))
+          ∙ ap (λ (x : Bool). eqb (g .above) 0 && x) (all-four (leb m lastMove) (leb n lastMove) P Q ∙ ap (λ (x : Bool). (leb m lastMove && P) && x) (sym er))
+          ∙ k .range
+
+      adds : (c x y a b A B L : ℕ) → A ≡ x + a → B ≡ y + b → c + (A + B) ≡ L → c + x + y + (a + b) ≡ L
+      adds c x y a b A B L ea eb h = omega arith
+
+      maxes : (c x y a b A B L : ℕ) → A ≡ max x a → B ≡ max y b → max c (max A B) ≡ L → max (max c (max x y)) (max a b) ≡ L
+      maxes c x y a b A B L ea eb h = sym (regroup max max-assoc max-comm c x y a b) ∙ rw (← ea, ← eb) h
+
+      mins : (c x y a b A B L : ℕ) → A ≡ min x a → B ≡ min y b → min c (min A B) ≡ L → min (min c (min x y)) (min a b) ≡ L
+      mins c x y a b A B L ea eb h = sym (regroup min min-assoc min-comm c x y a b) ∙ rw (← ea, ← eb) h
+
+  -- ---- the loop's turn, and its end
+
+  turn-seen : (l : List ℕ) (n i j : ℕ) (g : Gathered) → i < n → i < length l → j < n → Left l (atFront l n i) (behind l n j) g → Left l (atFront l n (i + 1)) (behind l n (j + 1)) (gatherTwo g (p (getD l i 0)) (getD l i 0) false 0)
+  unfolding kept
+  turn-seen l n i j g h k s inv =
+      let e : max n (j + 1) ≡ max n j = omega arith in
+      rw e (step l (atFront l n (i + 1)) (behind l n j) (behind l n j) g (getD l i 0) false 0 refl refl (rw (front-turn l n i h k) at inv))
+
+  turn-both : (l : List ℕ) (n i j : ℕ) (g : Gathered) → i < n → i < length l → n ≤ j → j < length l → Left l (atFront l n i) (behind l n j) g → Left l (atFront l n (i + 1)) (behind l n (j + 1)) (gatherTwo g (p (getD l i 0)) (getD l i 0) (p (getD l j 0)) (getD l j 0))
+  unfolding sources allAtMost
+  turn-both l n i j g h k s t inv =
+      let e : max n j ≡ j = omega arith in
+      let e′ : max n (j + 1) ≡ suc j = omega arith in
+      rw e′ (step l (atFront l n (i + 1)) (getD l j 0 ∷ drop (suc j) l) (drop (suc j) l) g (getD l i 0) (p (getD l j 0)) (getD l j 0) refl refl (rw (front-turn l n i h k, e, drop-cons l j 0 t) at inv))
+
+  pub turn : (l : List ℕ) (n back i : ℕ) (g : Gathered) (unseen : Bool) → i < n → i < length l → back + i < length l → (unseen ≡ true → n ≤ back + i) → (unseen ≡ false → back + i < n) → Left l (atFront l n i) (behind l n (back + i)) g → Left l (atFront l n (i + 1)) (behind l n (back + (i + 1))) (gatherTwo g (p (getD l i 0)) (getD l i 0) (unseen && p (numberIf unseen (getD l (back + i) 0))) (numberIf unseen (getD l (back + i) 0)))
+  turn l n back i g true h k t after before inv =
+      let e : back + (i + 1) ≡ back + i + 1 = omega arith in
+      rw e (turn-both l n i (back + i) g h k (after refl) t inv)
+  turn l n back i g false h k t after before inv =
+      let e : back + (i + 1) ≡ back + i + 1 = omega arith in
+      rw e (turn-seen l n i (back + i) g h k (before refl) inv)
+
+  pub turn-start : (l : List ℕ) (n back : ℕ) → back ≤ n → Left l (atFront l n 0) (behind l n (back + 0)) (record { above = 0; count = 0; sum = 0; largest = 0; least = 64 })
+  turn-start l n back h =
+      let e : max n (back + 0) ≡ n = omega arith in
+      let z : n - 0 ≡ n = omega arith in
+      rw (e, z) (left-start l n)
+
+  pub turn-end : (l : List ℕ) (n i j : ℕ) (g : Gathered) → n ≤ i → length l ≤ j → g .least ≤ 64 → Left l (atFront l n i) (behind l n j) g → Gathers p l g
+  turn-end l n i j g h k s inv =
+      let e : n - i ≡ 0 = omega arith in
+      let m : length l ≤ max n j = omega arith in
+      left-end l g s (rw (e, drop-of-length-le l m) at inv)
+
+  -- ---- bounds
+
+  pub sources-most : (l : List ℕ) → allAtMost 63 (sources p l) ≡ true
+  unfolding sources kept allAtMost
+  sources-most [] = refl
+  sources-most (m ∷ ms) = go (p m) (sources p ms) (sources-most ms)
+    where
+      go : (b : Bool) (xs : List ℕ) → allAtMost 63 xs ≡ true → allAtMost 63 (kept b (m % 64) xs) ≡ true
+      go true xs e = most-cons 63 (m % 64) xs (omega arith) e
+      go false xs e = e
+
+  pub count-most : (l : List ℕ) → length (sources p l) ≤ length l
+  unfolding sources kept
+  count-most [] = omega arith
+  count-most (m ∷ ms) = go (p m) (sources p ms) (count-most ms)
+    where
+      go : (b : Bool) (xs : List ℕ) → length xs ≤ length ms → length (kept b (m % 64) xs) ≤ suc (length ms)
+      go true xs h = omega arith
+      go false xs h = omega arith
+
+  pub total-most : (l : List ℕ) → total (sources p l) ≤ 63 * length l
+  unfolding sources kept total
+  total-most [] = omega arith
+  total-most (m ∷ ms) = go (p m) (sources p ms) (total-most ms)
+    where
+      go : (b : Bool) (xs : List ℕ) → total xs ≤ 63 * length ms → total (kept b (m % 64) xs) ≤ 63 * suc (length ms)
+      go true xs h = omega arith
+      go false xs h = omega arith
+
+  pub left-count : (l f b : List ℕ) (g : Gathered) → Left l f b g → g .count ≤ length l
+  left-count l f b g k = omega (arith, k .count, count-most l)
+
+  pub left-sum : (l f b : List ℕ) (g : Gathered) → Left l f b g → g .sum ≤ 63 * length l
+  left-sum l f b g k = omega (arith, k .sum, total-most l)
+
+pub least-two : (g : Gathered) (here there : Bool) (m n : ℕ) → g .least ≤ 64 → gatherTwo g here m there n .least ≤ 64
+unfolding gatherTwo
+least-two g here there m n h = omega arith
 
 pub highest-total : (a : ℕ) (l : List ℕ) → highest a l ≤ a + total l
 unfolding highest total

@@ -11,8 +11,7 @@ use borrow.Author.Tests.{leb-true, leb-false}
 use Rattle.square.specs.Numbers.{allAtMost}
 use Rattle.square.proofs.Numbers.{most-head, most-tail}
 use Rattle.move_list.specs.MoveList.{count, firstOf}
-use Rattle.san.specs.Gathered.{numberIf, passing, passed}
-use Rattle.san.proofs.OnePass.{total, highest, lowest}
+use Rattle.san.specs.Gathered.{numberIf, total, highest, lowest, passing, passed}
 
 -- the sum without the largest
 abbrev pub others : List ℕ → ℕ

@@ -1,46 +1,81 @@
--- What one pass over a list gathers for a text: the largest entry, and of the entries that arrive at its square their number, the sum of their sources
--- and the largest source. Up to three arrivals are told by these numbers and the least source. For inner functions; the public contract does not speak
--- of this.
+-- What one pass over a list gathers for a text: whether each entry is in range, and of the entries that the text may name, all but the man on the source
+-- looked at, their number and the sum, the largest and the least of their sources, which tell up to three of them. For inner functions; the public
+-- contract does not speak of this.
 -- Assumes nothing.
-use Prim.Native.Nat.{ℕ, _+_, _*_, _/_, _%_, max, min}
-use mathlib.Core.Bool.{Bool, cond, _&&_}
+use Prim.Native.Nat.{ℕ, _+_, _*_, _-_, _%_, max, min}
+use mathlib.Core.Path.{_≡_}
+use mathlib.Core.Bool.{Bool, true, false, cond, _&&_}
 use mathlib.Core.List.{List, [], _∷_}
+use lib.Bits.{bitAnd, bitOr}
 use lib.Dec.{eqb, ltb}
+use lib.ListN.{length}
 use Rattle.square.specs.declared.Answer.{Answer}
 use Rattle.square.specs.Answer.{accepted, refused, badList, invalidSanMove}
+use Rattle.square.specs.Numbers.{allAtMost}
+use Rattle.chess_move.specs.Number.{lastMove, sourceOf}
 use Rattle.move_list.specs.MoveList.{listInRange}
 use Rattle.san_text.specs.declared.San.{San}
-use Rattle.san_text.specs.Resolve.{captureTest}
+use Rattle.san_text.specs.Place.{given}
+use Rattle.san_text.specs.Resolve.{kindAt, captureTest}
 use Rattle.san.specs.declared.gathering.Gathered.{Gathered}
 
 -- the number, or none
 abbrev pub numberIf : Bool → ℕ → ℕ
 numberIf b n = cond b n 0
 
--- the entry goes to the wanted square, without promotion
-abbrev pub goesTo : ℕ → ℕ → Bool
-goesTo want m = eqb (m / 64) want
+-- the bits of an entry that a text fixes, and what they are without a promotion
+abbrev pub maskOf : San → ℕ
+maskOf t = 65472 + numberIf (given (t .file)) 7 + numberIf (given (t .rank)) 56
 
--- one entry more
-unfoldable pub gather : ℕ → Gathered → ℕ → Gathered
-gather want g m = record {
-  most = max (g .most) m;
-  count = g .count + numberIf (goesTo want m) 1;
-  sum = g .sum + numberIf (goesTo want m) (m % 64);
-  largest = max (g .largest) (numberIf (goesTo want m) (m % 64));
+abbrev pub wantOf : San → ℕ
+wantOf t = t .dest * 64 + (t .rank - 1) * 8 + (t .file - 1)
+
+unfoldable pub picked : ℕ → ℕ → ℕ → Bool
+picked mask want m = eqb (bitAnd m mask) want
+
+-- the man on the source is of the text's kind
+unfoldable pub kindFits : List ℕ → San → ℕ → Bool
+kindFits pieces t m = eqb (kindAt pieces (sourceOf m)) (t .piece)
+
+-- a source, if its entry is picked, before those of the entries behind it
+unfoldable pub kept : Bool → ℕ → List ℕ → List ℕ
+kept true x xs = x ∷ xs
+kept false x xs = xs
+
+-- the sources of the entries that are picked, in order
+unfoldable pub sources : (ℕ → Bool) → List ℕ → List ℕ
+sources p [] = []
+sources p (m ∷ ms) = kept (p m) (m % 64) (sources p ms)
+
+unfoldable pub total : List ℕ → ℕ
+total [] = 0
+total (x ∷ xs) = x + total xs
+
+unfoldable pub highest : ℕ → List ℕ → ℕ
+highest a [] = a
+highest a (x ∷ xs) = highest (max a x) xs
+
+unfoldable pub lowest : ℕ → List ℕ → ℕ
+lowest a [] = a
+lowest a (x ∷ xs) = lowest (min a x) xs
+
+-- two entries more, each picked or not
+unfoldable pub gatherTwo : Gathered → Bool → ℕ → Bool → ℕ → Gathered
+gatherTwo g here m there n = record {
+  above = bitOr (bitOr (g .above) (m - lastMove)) (n - lastMove);
+  count = g .count + numberIf here 1 + numberIf there 1;
+  sum = g .sum + numberIf here (m % 64) + numberIf there (n % 64);
+  largest = max (g .largest) (max (numberIf here (m % 64)) (numberIf there (n % 64)));
+  least = min (g .least) (min (cond here (m % 64) 64) (cond there (n % 64) 64));
 }
 
-unfoldable pub gathered : ℕ → Gathered → List ℕ → Gathered
-gathered want g [] = g
-gathered want g (m ∷ ms) = gathered want (gather want g m) ms
-
-abbrev pub nothing : Gathered
-nothing = record { most = 0; count = 0; sum = 0; largest = 0 }
-
--- the least of a number and the sources of the entries that arrive
-unfoldable pub leastSource : ℕ → ℕ → List ℕ → ℕ
-leastSource want least [] = least
-leastSource want least (m ∷ ms) = leastSource want (min least (cond (goesTo want m) (m % 64) 64)) ms
+-- what is gathered of a list
+pub record Gathers (p : ℕ → Bool) (l : List ℕ) (g : Gathered) : Type 0 where
+  pub range-is : eqb (g .above) 0 ≡ allAtMost lastMove l
+  pub count-is : g .count ≡ length (sources p l)
+  pub sum-is : g .sum ≡ total (sources p l)
+  pub largest-is : g .largest ≡ highest 0 (sources p l)
+  pub least-is : g .least ≡ lowest 64 (sources p l)
 
 -- of up to three sources how many pass a test, and the sum of those that do
 abbrev pub passing : (ℕ → Bool) → ℕ → ℕ → ℕ → ℕ → ℕ

@@ -1,27 +1,28 @@
 // Which move of a list a short text names. One pass over the list, with no branch on an entry, so that many entries are taken at a time; then the board
-// is asked for the sources of up to three arrivals. A list is short enough and a source small enough that the sums fit.
+// is asked for the sources of up to three entries. A list is short enough and a source small enough that the sums fit.
 use crate::resolve;
 use crate::resolve::both;
 use crate::resolve::capture_test;
-use crate::resolve::source_fits;
 use san_text::San;
 use square::Answer;
 use square::BAD_LIST;
 use square::INVALID_SAN_MOVE;
 ghost use mathlib.Core.Path.{_≡_};
 ghost use mathlib.Core.Bool.{cond};
-ghost use Prim.Native.Nat.{_*_, _≤_, _<_, max, min};
+ghost use Prim.Native.Nat.{_*_, _-_, _≤_, _<_, max, min};
 ghost use lib.ListN.{length};
 ghost use Rattle.move_list.specs.MoveList.{longestList};
-ghost use Rattle.san.specs.Fitting.{sourceFits, soleMove};
-ghost use Rattle.san.specs.Gathered.{numberIf, gather, gathered, nothing, leastSource, passing, passed, soleFrom, overList};
+ghost use Rattle.san.specs.Fitting.{soleMove};
+ghost use Rattle.san.specs.Gathered.{numberIf, picked, maskOf, wantOf, kindFits, gatherTwo, Gathers, passing, passed, soleFrom, overList};
 
-// The largest entry of a list, and of the entries that arrive at a square their number, the sum of their sources and the largest source.
+// What is over the range in any entry of a list, and of the entries that the text may name their number, and the sum, the largest and the least of
+// their sources.
 pub struct Gathered {
-    pub most: u16,
+    pub above: u16,
     pub count: u16,
     pub sum: u16,
     pub largest: u16,
+    pub least: u16,
 }
 
 fn larger(a: u16, b: u16) -> u16
@@ -36,6 +37,12 @@ fn smaller(a: u16, b: u16) -> u16
     if a < b { a } else { b }
 }
 
+fn over(x: u16, most: u16) -> u16
+    ensures { λ r. ⌜ r ≡ x - most ⌝ }
+{
+    if most < x { x - most } else { 0 }
+}
+
 fn number_if(there: bool, n: u16) -> u16
     ensures { λ r. ⌜ r ≡ numberIf there n ⌝ }
 {
@@ -48,56 +55,84 @@ fn number_or(there: bool, n: u16, other: u16) -> u16
     if there { n } else { other }
 }
 
-// One entry more.
-fn gather_one(g: Gathered, want: u16, m: u16) -> Gathered
-    requires { ⌜ g .count < longestList ⌝ }
-    requires { ⌜ g .sum ≤ 254 * 63 ⌝ }
-    ensures { λ r. ⌜ r ≡ gather want g m ⌝ }
+// The bits of an entry that a text fixes: destination and promotion, and the source's file and rank where the text has them.
+fn mask_of(t: San) -> u16
+    ensures { λ r. ⌜ r ≡ maskOf t ⌝ }
 {
-    let here = m / 64 == want;
+    65472 + number_if(t.file != 0, 7) + number_if(t.rank != 0, 56)
+}
+
+// What those bits are, with no promotion.
+fn want_of(t: San) -> u16
+    requires { ⌜ t .dest < 64 ⌝ }
+    requires { ⌜ t .rank ≤ 8 ⌝ }
+    ensures { λ r. ⌜ r ≡ wantOf t ⌝ }
+{
+    t.dest as u16 * 64 + over(t.rank as u16, 1) * 8 + over(t.file as u16, 1)
+}
+
+fn picked(m: u16, mask: u16, want: u16) -> bool
+    ensures { λ r. ⌜ r ≡ picked mask want m ⌝ }
+{
+    m & mask == want
+}
+
+// Two entries more.
+fn gather_two(g: Gathered, here: bool, m: u16, there: bool, n: u16) -> Gathered
+    requires { ⌜ g .count ≤ longestList ⌝ }
+    requires { ⌜ g .sum ≤ longestList * 63 ⌝ }
+    ensures { λ r. ⌜ r ≡ gatherTwo g here m there n ⌝ }
+{
     let source = number_if(here, m % 64);
+    let other = number_if(there, n % 64);
+    let last = chess_move::LAST_MOVE as u16;
     Gathered {
-        most: larger(g.most, m),
-        count: g.count + number_if(here, 1),
-        sum: g.sum + source,
-        largest: larger(g.largest, source),
+        above: g.above | over(m, last) | over(n, last),
+        count: g.count + number_if(here, 1) + number_if(there, 1),
+        sum: g.sum + source + other,
+        largest: larger(g.largest, larger(source, other)),
+        least: smaller(g.least, smaller(number_or(here, m % 64, 64), number_or(there, n % 64, 64))),
     }
 }
 
-fn gather_all(moves: &[u16], want: u16) -> Gathered
+// Goes up the list at two places, from its front and to its end, each as many entries as makes whole blocks of eight, so that none is left over. Where
+// the two overlap, the second place counts nothing; `k` is then under 2^15, which is one bit to look at.
+fn gather_all(moves: &[u16], mask: u16, want: u16) -> Gathered
+    requires { ⌜ 8 ≤ length (now moves) ⌝ }
     requires { ⌜ length (now moves) ≤ longestList ⌝ }
-    ensures { λ r. ⌜ r ≡ gathered want nothing (now (moves .entry)) ⌝ }
+    ensures { λ r. ⌜ Gathers (picked mask want) (now (moves .entry)) r ⌝ }
 {
+    let front = (moves.len() + 15) / 16 * 8;
+    let back = moves.len() - front;
     let mut g = Gathered {
-        most: 0,
+        above: 0,
         count: 0,
         sum: 0,
         largest: 0,
+        least: 64,
     };
+    let mut k: u16 = 32768 - (front - back) as u16;
     let mut i: usize = 0;
-    while i < moves.len() {
+    while i < front {
+        let unseen = 32768 <= k;
         let m = moves[i];
+        let n = number_if(unseen, moves[back + i]);
+        k += 1;
         i += 1;
-        g = gather_one(g, want, m);
+        let here = picked(m, mask, want);
+        let there = both(unseen, picked(n, mask, want));
+        g = gather_two(g, here, m, there, n);
     }
     g
 }
 
-// The least source of the arrivals, 64 of none.
-fn least_source(moves: &[u16], want: u16) -> u16
-    ensures { λ r. ⌜ r ≡ leastSource want 64 (now (moves .entry)) ⌝ }
+fn kind_fits(pieces: &[u8; 64], t: San, x: u16) -> bool
+    ensures { λ r. ⌜ r ≡ kindFits (now (pieces .entry)) t x ⌝ }
 {
-    let mut least: u16 = 64;
-    let mut i: usize = 0;
-    while i < moves.len() {
-        let m = moves[i];
-        i += 1;
-        least = smaller(least, number_or(m / 64 == want, m % 64, 64));
-    }
-    least
+    square::kind_of(pieces[(x % 64) as usize]) == t.piece
 }
 
-// The answer by how many arrivals fit and, where one alone does, its source.
+// The answer by how many entries fit and, where one alone does, its source.
 fn sole_source(pieces: &[u8; 64], t: San, fit: u16, source: u16) -> Answer
     ensures { λ r. ⌜ r ≡ soleFrom (now (pieces .entry)) t fit source ⌝ }
 {
@@ -115,10 +150,10 @@ fn sole_of_two(pieces: &[u8; 64], t: San, n: u16, x: u16, y: u16) -> Answer
     requires { ⌜ n ≤ 2 ⌝ }
     requires { ⌜ x ≤ longestList * 63 ⌝ }
     requires { ⌜ y ≤ longestList * 63 ⌝ }
-    ensures { λ r. ⌜ r ≡ soleFrom (now (pieces .entry)) t (passing (sourceFits (now (pieces .entry)) t) n x y 0) (passed (sourceFits (now (pieces .entry)) t) n x y 0) ⌝ }
+    ensures { λ r. ⌜ r ≡ soleFrom (now (pieces .entry)) t (passing (kindFits (now (pieces .entry)) t) n x y 0) (passed (kindFits (now (pieces .entry)) t) n x y 0) ⌝ }
 {
-    let first = both(0 < n, source_fits(pieces, t, x));
-    let second = both(1 < n, source_fits(pieces, t, y));
+    let first = both(0 < n, kind_fits(pieces, t, x));
+    let second = both(1 < n, kind_fits(pieces, t, y));
     let fit = number_if(first, 1) + number_if(second, 1);
     let source = number_if(first, x) + number_if(second, y);
     sole_source(pieces, t, fit, source)
@@ -128,35 +163,35 @@ fn sole_of_three(pieces: &[u8; 64], t: San, x: u16, y: u16, z: u16) -> Answer
     requires { ⌜ x ≤ longestList * 63 ⌝ }
     requires { ⌜ y ≤ longestList * 63 ⌝ }
     requires { ⌜ z ≤ longestList * 63 ⌝ }
-    ensures { λ r. ⌜ r ≡ soleFrom (now (pieces .entry)) t (passing (sourceFits (now (pieces .entry)) t) 3 x y z) (passed (sourceFits (now (pieces .entry)) t) 3 x y z) ⌝ }
+    ensures { λ r. ⌜ r ≡ soleFrom (now (pieces .entry)) t (passing (kindFits (now (pieces .entry)) t) 3 x y z) (passed (kindFits (now (pieces .entry)) t) 3 x y z) ⌝ }
 {
-    let first = source_fits(pieces, t, x);
-    let second = source_fits(pieces, t, y);
-    let third = source_fits(pieces, t, z);
+    let first = kind_fits(pieces, t, x);
+    let second = kind_fits(pieces, t, y);
+    let third = kind_fits(pieces, t, z);
     let fit = number_if(first, 1) + number_if(second, 1) + number_if(third, 1);
     let source = number_if(first, x) + number_if(second, y) + number_if(third, z);
     sole_source(pieces, t, fit, source)
 }
 
-// Checks 6, then 4. More than three arrivals are rare and left to the loop of resolve.rt.
+// Checks 6, then 4. More than three entries to ask for are rare and left to the loop of resolve.rt.
 pub(crate) fn sole_arrival(pieces: &[u8; 64], t: San, moves: &[u16]) -> Answer
+    requires { ⌜ 8 ≤ length (now moves) ⌝ }
+    requires { ⌜ length (now moves) ≤ longestList ⌝ }
     requires { ⌜ t .dest < 64 ⌝ }
     requires { ⌜ t .promotion ≡ 0 ⌝ }
-    requires { ⌜ length (now moves) ≤ longestList ⌝ }
+    requires { ⌜ t .file ≤ 8 ⌝ }
+    requires { ⌜ t .rank ≤ 8 ⌝ }
     ensures { λ r. ⌜ r ≡ overList (now (moves .entry)) (soleMove (now (pieces .entry)) t (now (moves .entry))) ⌝ }
 {
-    let want = t.dest as u16;
-    let g = gather_all(moves, want);
-    if chess_move::LAST_MOVE < g.most as u64 {
+    let g = gather_all(moves, mask_of(t), want_of(t));
+    if g.above != 0 {
         return square::refused(BAD_LIST);
     }
-    let others = g.sum - g.largest;
     if g.count <= 2 {
-        return sole_of_two(pieces, t, g.count, g.largest, others);
+        return sole_of_two(pieces, t, g.count, g.largest, g.sum - g.largest);
     }
     if g.count == 3 {
-        let low = least_source(moves, want);
-        return sole_of_three(pieces, t, g.largest, low, others - low);
+        return sole_of_three(pieces, t, g.largest, g.least, g.sum - g.largest - g.least);
     }
     resolve::sole_move(pieces, t, moves)
 }

@@ -56,7 +56,7 @@ pub fn from_san(board: BoardBuilder, moves: &[u16], text: &[u8]) -> Answer
         return square::refused(BAD_LIST);
     }
     let short = san_reader::read_short(text);
-    if short.square == 0 {
+    if square::either(short.square == 0, moves.len() < 8) {
         return read_long(board, moves, text);
     }
     let pieces = board.pieces;

@@ -1,49 +1,117 @@
 use native.Mathlib.Omega.{arith}
-use mathlib.Core.Path.{_≡_, refl, sym, _∙_}
-use Prim.Native.Nat.{_-_, _*_, _≤_}
-use lib.ListN.{length, drop, getD}
-use borrow.Author.Needs.{needs}
-use Rattle.san.specs.Gathered.{gathered, nothing}
-use Rattle.san.proofs.OnePass.{gathered-turn, gathered-end, gather-count, gather-sum}
-use borrow.Author.Needs.{needs}
+use mathlib.Core.Path.{_≡_}
+use mathlib.Core.Bool.{true, false}
+use Prim.Native.Nat.{ℕ, _+_, _*_, _-_, _≤_, _<_}
+use lib.Dec.{leb}
+use lib.ListN.{length, getD}
+use borrow.Author.Tests.{leb-true, leb-false}
+use Rattle.san.specs.Gathered.{picked}
+use Prim.Native.Nat.{_/_}
+use Rattle.san.proofs.OnePass.{atFront, behind, Left, turn, turn-start, turn-end, left-count, left-sum, least-two}
 use Rattle.san.proofs.gathering.gather_all.Statement.{statement}
 use Rattle.san.proofs.gathering.gather_all.Tie as tie
 
 abbrev Inv-loop : tie.InvT-loop
-Inv-loop moves want g₀ i₀ g i = (i ≤ length moves) × ((g .count ≤ i) × ((g .sum ≤ 63 * i) × (gathered want g (drop i moves) ≡ gathered want nothing moves)))
+Inv-loop moves mask want front back g₀ k₀ i₀ g k i = (i ≤ front) × ((k + front ≡ 32768 + (back + i)) × ((g .least ≤ 64) × Left (picked mask want) moves (atFront moves front i) (behind moves front (back + i)) g))
 
 abbrev μ-loop : tie.MeasureT-loop
-μ-loop moves want g₀ i₀ g i = length moves - i
+μ-loop moves mask want front back g₀ k₀ i₀ g k i = front - i
+
+add-front : tie.Need-add-front Inv-loop μ-loop
+add-front c = omega arith
+
+mul-front : tie.Need-mul-front Inv-loop μ-loop
+mul-front c = omega arith
+
+sub-back : tie.Need-sub-back Inv-loop μ-loop
+sub-back c = omega arith
+
+sub-k : tie.Need-sub-k Inv-loop μ-loop
+sub-k c = omega arith
+
+cast-k : tie.Need-cast-k Inv-loop μ-loop
+cast-k c = omega arith
+
+sub-k-2 : tie.Need-sub-k-2 Inv-loop μ-loop
+sub-k-2 c = omega arith
 
 loop-holds : tie.Need-loop-holds Inv-loop μ-loop
-loop-holds c = (omega arith, (omega arith, (omega arith, refl)))
+loop-holds c = 
+    let moves = c .before .args .moves .now in
+    let front : ℕ = (length moves + 15) / 16 * 8 in
+    (omega arith, (omega arith, (omega arith, turn-start (picked (c .before .args .mask) (c .before .args .want)) moves front (length moves - front) (omega arith))))
 
 mul-m : tie.Need-mul-m Inv-loop μ-loop
-mul-m c = search needs
+mul-m c = omega arith
 
 shared-slice-read-m : tie.Need-shared-slice-read-m Inv-loop μ-loop
-shared-slice-read-m c = search needs
+shared-slice-read-m c = omega arith
+
+add-number-if : tie.Need-add-number-if Inv-loop μ-loop
+add-number-if c = omega arith
+
+mul-number-if : tie.Need-mul-number-if Inv-loop μ-loop
+mul-number-if c = omega arith
+
+shared-slice-read-number-if : tie.Need-shared-slice-read-number-if Inv-loop μ-loop
+shared-slice-read-number-if c = omega arith
+
+number-if-requires : tie.Need-number-if-requires Inv-loop μ-loop
+number-if-requires c κs = omega arith
+
+add-k : tie.Need-add-k Inv-loop μ-loop
+add-k c = omega arith
 
 add-i : tie.Need-add-i Inv-loop μ-loop
-add-i c = search needs
+add-i c = omega arith
 
-gather-one-requires : tie.Need-gather-one-requires Inv-loop μ-loop
-gather-one-requires c κs = omega arith
+picked-requires : tie.Need-picked-requires Inv-loop μ-loop
+picked-requires c κs = omega arith
+
+picked-requires-2 : tie.Need-picked-requires-2 Inv-loop μ-loop
+picked-requires-2 c κs = omega arith
+
+both-requires : tie.Need-both-requires Inv-loop μ-loop
+both-requires c κs = omega arith
+
+gather-two-requires : tie.Need-gather-two-requires Inv-loop μ-loop
+gather-two-requires c κs = 
+    let moves = c .before .before .before .before .before .before .before .before .before .args .moves .now in
+    let p = picked (c .before .before .before .before .before .before .before .before .before .args .mask) (c .before .before .before .before .before .before .before .before .before .args .want) in
+    let front : ℕ = (length moves + 15) / 16 * 8 in
+    let back : ℕ = length moves - front in
+    let s = c .before .before .before .before .before .before .before .loop in
+    let left = s .inv .1 .1 .1 in
+    let count = left-count p moves (atFront moves front (s .i)) (behind moves front (back + s .i)) (s .g) left in
+    let sum = left-sum p moves (atFront moves front (s .i)) (behind moves front (back + s .i)) (s .g) left in
+    omega (arith, count, sum)
 
 loop-less : tie.Need-loop-less Inv-loop μ-loop
-loop-less c = search needs
+loop-less c = omega arith
 
 loop-again : tie.Need-loop-again Inv-loop μ-loop
-loop-again c =
-    let moves = c .before .before .before .before .before .args .moves .now in
-    let l = c .before .before .before .loop in
-    let x = getD moves (l .i) 0 in
-    let count = gather-count (c .before .before .before .before .before .args .want) (l .g) x in
-    let sum = gather-sum (c .before .before .before .before .before .args .want) (l .g) x in
-    rw (c .gather-one .ensures) (omega arith, (omega arith, (omega arith, sym (gathered-turn (c .before .before .before .before .before .args .want) (l .g) moves (l .i) (c .before .before .loop-test .taken)) ∙ l .inv .1 .1 .1)))
+loop-again c = 
+    let moves = c .before .before .before .before .before .before .before .before .before .before .args .moves .now in
+    let p = picked (c .before .before .before .before .before .before .before .before .before .before .args .mask) (c .before .before .before .before .before .before .before .before .before .before .args .want) in
+    let front : ℕ = (length moves + 15) / 16 * 8 in
+    let back : ℕ = length moves - front in
+    let s = c .before .before .before .before .before .before .before .before .loop in
+    let left = s .inv .1 .1 .1 in
+    let after : leb 32768 (s .k) ≡ true → front ≤ back + s .i = λ e. omega (arith, leb-true 32768 (s .k) e) in
+    let before : leb 32768 (s .k) ≡ false → back + s .i < front = λ e. omega (arith, leb-false 32768 (s .k) e) in
+    let next = turn p moves front back (s .i) (s .g) (leb 32768 (s .k)) (c .before .before .before .before .before .before .before .loop-test .taken) (omega arith) (omega arith) after before left in
+    let least = least-two (s .g) (p (getD moves (s .i) 0)) (c .before .both .result) (getD moves (s .i) 0) (c .before .before .before .before .number-if .result) (s .inv .1 .1 .0) in
+    rw (c .gather-two .ensures, c .before .before .before .picked .ensures, c .before .both .ensures, c .before .before .picked2 .ensures, c .before .before .before .before .number-if .ensures) (omega arith, (omega arith, (rw (c .before .both .ensures, c .before .before .picked2 .ensures, c .before .before .before .before .number-if .ensures) at least, next)))
 
 returns : tie.Need-returns Inv-loop μ-loop
-returns c = sym (gathered-end (c .before .before .before .args .want) (c .before .loop .g) (c .before .before .before .args .moves .now) (c .before .loop .i) (c .loop-test .left)) ∙ c .before .loop .inv .1 .1 .1
+returns c = 
+    let moves = c .before .before .before .args .moves .now in
+    let p = picked (c .before .before .before .args .mask) (c .before .before .before .args .want) in
+    let front : ℕ = (length moves + 15) / 16 * 8 in
+    let back : ℕ = length moves - front in
+    let s = c .before .loop in
+    let left = s .inv .1 .1 .1 in
+    turn-end p moves front (s .i) (back + s .i) (s .g) (c .loop-test .left) (omega arith) (s .inv .1 .1 .0) left
 
 pub gather-all-spec : {M : Type 1} → statement M
 gather-all-spec =
@@ -51,11 +119,25 @@ gather-all-spec =
     (tie.spec
     Inv-loop
     μ-loop
+    add-front
+    mul-front
+    sub-back
+    sub-k
+    cast-k
+    sub-k-2
     loop-holds
     mul-m
     shared-slice-read-m
+    add-number-if
+    mul-number-if
+    shared-slice-read-number-if
+    number-if-requires
+    add-k
     add-i
-    gather-one-requires
+    picked-requires
+    picked-requires-2
+    both-requires
+    gather-two-requires
     loop-less
     loop-again
     returns)
