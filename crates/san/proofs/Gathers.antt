@@ -13,7 +13,7 @@ use Rattle.move_list.specs.MoveList.{longestList, listInRange}
 use Rattle.san_text.specs.declared.San.{San}
 use Rattle.san.specs.Fitting.{soleMove}
 use Rattle.san.specs.declared.gathering.Gathered.{Gathered}
-use Rattle.san.specs.Gathered.{numberIf, maskOf, wantOf, picked, kindFits, sources, highest, Gathers, passing, passed, soleFrom}
+use Rattle.san.specs.Gathered.{numberIf, maskOf, wantOf, picked, kindFits, sources, highest, lowest, Gathers, passing, passed, soleFrom}
 use Rattle.san.proofs.OnePass.{sources-most, total-most, highest-total}
 use Rattle.san.proofs.UpToThree.{others, low, Same, same-sources, low-most}
 use Rattle.san.proofs.Soles.{picks, sole-from}
@@ -25,6 +25,9 @@ number-most false n = omega arith
 pub gathers-by : (t : San) (mask want : ℕ) (l : List ℕ) (g : Gathered) → mask ≡ maskOf t → want ≡ wantOf t → Gathers (picked mask want) l g → Gathers (picks t) l g
 gathers-by t mask want l g em ew k = rw (em, ew) at k
 
+pub lowest-by : (t : San) (mask want : ℕ) (l : List ℕ) (y : ℕ) → mask ≡ maskOf t → want ≡ wantOf t → y ≡ lowest 64 (sources (picked mask want) l) → y ≡ lowest 64 (sources (picks t) l)
+lowest-by t mask want l y em ew k = rw (em, ew) at k
+
 module _ (p : ℕ → Bool) (l : List ℕ) (g : Gathered) (k : Gathers p l g) where
   pub largest-in-sum : g .largest ≤ g .sum
   largest-in-sum = rw (k .largest-is, k .sum-is) (omega (arith, highest-total 0 (sources p l)))
@@ -32,11 +35,11 @@ module _ (p : ℕ → Bool) (l : List ℕ) (g : Gathered) (k : Gathers p l g) wh
   pub sum-most : length l ≤ longestList → g .sum ≤ longestList * 63
   sum-most h = rw (k .sum-is) (omega (arith, total-most p l))
 
-  low-is : (y : ℕ) → y ≡ cond (eqb (g .count) 3) (g .least) (g .sum - g .largest) → y ≡ low (sources p l)
-  low-is y e = e ∙ rw (k .count-is, k .sum-is, k .largest-is, k .least-is)
+  low-is : (y : ℕ) → y ≡ cond (eqb (g .count) 3) (lowest 64 (sources p l)) (g .sum - g .largest) → y ≡ low (sources p l)
+  low-is y e = e ∙ rw (k .count-is, k .sum-is, k .largest-is)
 
-  pub least-in-others : g .count ≡ 3 → g .least ≤ g .sum - g .largest
-  least-in-others e = rw (low-is (g .least) (rw (eq-eqb (g .count) 3 e)), k .sum-is, k .largest-is) (low-most (sources p l) few)
+  pub least-in-others : (y : ℕ) → g .count ≡ 3 → y ≡ lowest 64 (sources p l) → y ≤ g .sum - g .largest
+  least-in-others y e w = rw (low-is y (rw (eq-eqb (g .count) 3 e) w), k .sum-is, k .largest-is) (low-most (sources p l) few)
     where
       few : length (sources p l) ≤ 3
       few = omega (arith, e, k .count-is)
@@ -64,11 +67,12 @@ module _ (pieces : List ℕ) (t : San) (l : List ℕ) (g : Gathered) (hd : t .de
       fewer : g .count ≡ 3 → ⊥
       fewer e = omega arith
 
-  pub exact-answer : g .count ≡ 3 → soleFrom pieces t (passing (kindFits pieces t) 3 (g .largest) (g .least) (g .sum - g .largest - g .least)) (passed (kindFits pieces t) 3 (g .largest) (g .least) (g .sum - g .largest - g .least)) ≡ soleMove pieces t l
-  exact-answer e =
-      subst (λ (n : ℕ). soleFrom pieces t (passing (kindFits pieces t) n (g .largest) (g .least) (g .sum - g .largest - g .least)) (passed (kindFits pieces t) n (g .largest) (g .least) (g .sum - g .largest - g .least)) ≡ soleMove pieces t l)
+  -- of three the least source is looked up
+  pub exact-answer : (y : ℕ) → g .count ≡ 3 → y ≡ lowest 64 (sources (picks t) l) → soleFrom pieces t (passing (kindFits pieces t) 3 (g .largest) y (g .sum - g .largest - y)) (passed (kindFits pieces t) 3 (g .largest) y (g .sum - g .largest - y)) ≡ soleMove pieces t l
+  exact-answer y e w =
+      subst (λ (n : ℕ). soleFrom pieces t (passing (kindFits pieces t) n (g .largest) y (g .sum - g .largest - y)) (passed (kindFits pieces t) n (g .largest) y (g .sum - g .largest - y)) ≡ soleMove pieces t l)
       e
-      (three-answer (g .least) (omega arith) (low-is (picks t) l g k (g .least) (rw (eq-eqb (g .count) 3 e))))
+      (three-answer y (omega arith) (low-is (picks t) l g k y (rw (eq-eqb (g .count) 3 e) w)))
 
 -- two sources, and no third
 pub passing-two : (f : ℕ → Bool) (n x y p q : ℕ) → n ≤ 2 → numberIf (ltb 0 n && f x) 1 ≡ p → numberIf (ltb 1 n && f y) 1 ≡ q → passing f n x y 0 ≡ p + q

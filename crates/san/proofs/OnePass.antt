@@ -24,16 +24,6 @@ unfolding highest
 highest-from a [] = omega arith
 highest-from a (x ∷ xs) = omega (arith, highest-from (max a x) xs, highest-from (max 0 x) xs)
 
-lowest-most : (a : ℕ) (xs : List ℕ) → lowest a xs ≤ a
-unfolding lowest
-lowest-most a [] = omega arith
-lowest-most a (x ∷ xs) = omega (arith, lowest-most (min a x) xs)
-
-lowest-from : (a : ℕ) (xs : List ℕ) → a ≤ 64 → lowest a xs ≡ min a (lowest 64 xs)
-unfolding lowest
-lowest-from a [] h = omega arith
-lowest-from a (x ∷ xs) h = omega (arith, h, lowest-from (min a x) xs (omega arith), lowest-from (min 64 x) xs (omega arith))
-
 kept-length : (b : Bool) (x : ℕ) (xs : List ℕ) → length (kept b x xs) ≡ numberIf b 1 + length xs
 unfolding kept
 kept-length true x xs = omega arith
@@ -49,12 +39,7 @@ unfolding kept highest
 kept-highest true x xs = omega (arith, highest-from (max 0 x) xs)
 kept-highest false x xs = omega arith
 
-kept-lowest : (b : Bool) (x : ℕ) (xs : List ℕ) → lowest 64 (kept b x xs) ≡ min (cond b x 64) (lowest 64 xs)
-unfolding kept lowest
-kept-lowest true x xs = omega (arith, lowest-from (min 64 x) xs (omega arith), lowest-most 64 xs)
-kept-lowest false x xs = omega (arith, lowest-most 64 xs)
-
--- ---- largest and least in another order
+-- ---- largest in another order
 
 max-assoc : (a b c : ℕ) → max (max a b) c ≡ max a (max b c)
 max-assoc a b c = omega arith
@@ -62,16 +47,10 @@ max-assoc a b c = omega arith
 max-comm : (a b : ℕ) → max a b ≡ max b a
 max-comm a b = omega arith
 
-min-assoc : (a b c : ℕ) → min (min a b) c ≡ min a (min b c)
-min-assoc a b c = omega arith
-
-min-comm : (a b : ℕ) → min a b ≡ min b a
-min-comm a b = omega arith
-
-regroup : (op : ℕ → ℕ → ℕ) → ((a b c : ℕ) → op (op a b) c ≡ op a (op b c)) → ((a b : ℕ) → op a b ≡ op b a) → (c x y a b : ℕ) → op c (op (op x a) (op y b)) ≡ op (op c (op x y)) (op a b)
-regroup op assoc comm c x y a b =
-    ap (op c) (assoc x a (op y b) ∙ ap (op x) (sym (assoc a y b) ∙ ap (λ (k : ℕ). op k b) (comm a y) ∙ assoc y a b) ∙ sym (assoc x y (op a b)))
-    ∙ sym (assoc c (op x y) (op a b))
+regroup : (c x y a b : ℕ) → max c (max (max x a) (max y b)) ≡ max (max c (max x y)) (max a b)
+regroup c x y a b =
+    ap (max c) (max-assoc x a (max y b) ∙ ap (max x) (sym (max-assoc a y b) ∙ ap (λ (k : ℕ). max k b) (max-comm a y) ∙ max-assoc y a b) ∙ sym (max-assoc x y (max a b)))
+    ∙ sym (max-assoc c (max x y) (max a b))
 
 -- ---- what is left at the two places: the front is n entries, and the second place stands at j, where it counts nothing before n
 
@@ -95,7 +74,6 @@ module _ (p : ℕ → Bool) where
     pub count : length (sources p f) + length (sources p b) ≡ length (sources p l)
     pub sum : total (sources p f) + total (sources p b) ≡ total (sources p l)
     pub largest : max (highest 0 (sources p f)) (highest 0 (sources p b)) ≡ highest 0 (sources p l)
-    pub least : min (lowest 64 (sources p f)) (lowest 64 (sources p b)) ≡ lowest 64 (sources p l)
 
   parts : (f b : List ℕ) → Parts (f ++ b) f b
   unfolding sources total highest lowest allAtMost
@@ -104,7 +82,6 @@ module _ (p : ℕ → Bool) where
     count = omega arith;
     sum = omega arith;
     largest = omega arith;
-    least = omega (arith, lowest-most 64 (sources p b));
   }
   parts (m ∷ f) b =
       let k = parts f b in
@@ -113,7 +90,6 @@ module _ (p : ℕ → Bool) where
         count = omega (arith, k .count, kept-length (p m) (m % 64) (sources p f), kept-length (p m) (m % 64) (sources p (f ++ b)));
         sum = omega (arith, k .sum, kept-total (p m) (m % 64) (sources p f), kept-total (p m) (m % 64) (sources p (f ++ b)));
         largest = omega (arith, k .largest, kept-highest (p m) (m % 64) (sources p f), kept-highest (p m) (m % 64) (sources p (f ++ b)));
-        least = omega (arith, k .least, kept-lowest (p m) (m % 64) (sources p f), kept-lowest (p m) (m % 64) (sources p (f ++ b)));
       }
     where
       assoc : (x y z : Bool) → (x && y) && z ≡ x && (y && z)
@@ -126,31 +102,28 @@ module _ (p : ℕ → Bool) where
     pub count : g .count + (length (sources p f) + length (sources p b)) ≡ length (sources p l)
     pub sum : g .sum + (total (sources p f) + total (sources p b)) ≡ total (sources p l)
     pub largest : max (g .largest) (max (highest 0 (sources p f)) (highest 0 (sources p b))) ≡ highest 0 (sources p l)
-    pub least : min (g .least) (min (lowest 64 (sources p f)) (lowest 64 (sources p b))) ≡ lowest 64 (sources p l)
 
-  pub left-start : (l : List ℕ) (n : ℕ) → Left l (take n l) (drop n l) (record { above = 0; count = 0; sum = 0; largest = 0; least = 64 })
-  left-start l n = subst (λ (x : List ℕ). Left x (take n l) (drop n l) (record { above = 0; count = 0; sum = 0; largest = 0; least = 64 })) (take-append-drop n l) together
+  pub left-start : (l : List ℕ) (n : ℕ) → Left l (take n l) (drop n l) (record { above = 0; count = 0; sum = 0; largest = 0 })
+  left-start l n = subst (λ (x : List ℕ). Left x (take n l) (drop n l) (record { above = 0; count = 0; sum = 0; largest = 0 })) (take-append-drop n l) together
     where
       k : Parts (take n l ++ drop n l) (take n l) (drop n l)
       k = parts (take n l) (drop n l)
 
-      together : Left (take n l ++ drop n l) (take n l) (drop n l) (record { above = 0; count = 0; sum = 0; largest = 0; least = 64 })
+      together : Left (take n l ++ drop n l) (take n l) (drop n l) (record { above = 0; count = 0; sum = 0; largest = 0 })
       together = record {
         range = k .range;
         count = omega (arith, k .count);
         sum = omega (arith, k .sum);
         largest = omega (arith, k .largest);
-        least = omega (arith, k .least, lowest-most 64 (sources p (take n l)));
       }
 
-  pub left-end : (l : List ℕ) (g : Gathered) → g .least ≤ 64 → Left l [] [] g → Gathers p l g
+  pub left-end : (l : List ℕ) (g : Gathered) → Left l [] [] g → Gathers p l g
   unfolding sources total highest lowest allAtMost
-  left-end l g h k = record {
+  left-end l g k = record {
     range-is = last (eqb (g .above) 0) ∙ k .range;
     count-is = omega (arith, k .count);
     sum-is = omega (arith, k .sum);
     largest-is = omega (arith, k .largest);
-    least-is = omega (arith, h, k .least);
   }
     where
       last : (x : Bool) → x ≡ x && (true && true)
@@ -171,7 +144,6 @@ module _ (p : ℕ → Bool) where
     count = adds (g .count) _ _ _ _ _ _ _ (kept-length (p m) (m % 64) (sources p f)) (ap length es ∙ kept-length there (n % 64) (sources p b)) (k .count);
     sum = adds (g .sum) _ _ _ _ _ _ _ (kept-total (p m) (m % 64) (sources p f)) (ap total es ∙ kept-total there (n % 64) (sources p b)) (k .sum);
     largest = maxes (g .largest) _ _ _ _ _ _ _ (kept-highest (p m) (m % 64) (sources p f)) (ap (highest 0) es ∙ kept-highest there (n % 64) (sources p b)) (k .largest);
-    least = mins (g .least) _ _ _ _ _ _ _ (kept-lowest (p m) (m % 64) (sources p f)) (ap (lowest 64) es ∙ kept-lowest there (n % 64) (sources p b)) (k .least);
   }
     where
       P : Bool
@@ -191,10 +163,7 @@ module _ (p : ℕ → Bool) where
       adds c x y a b A B L ea eb h = omega arith
 
       maxes : (c x y a b A B L : ℕ) → A ≡ max x a → B ≡ max y b → max c (max A B) ≡ L → max (max c (max x y)) (max a b) ≡ L
-      maxes c x y a b A B L ea eb h = sym (regroup max max-assoc max-comm c x y a b) ∙ rw (← ea, ← eb) h
-
-      mins : (c x y a b A B L : ℕ) → A ≡ min x a → B ≡ min y b → min c (min A B) ≡ L → min (min c (min x y)) (min a b) ≡ L
-      mins c x y a b A B L ea eb h = sym (regroup min min-assoc min-comm c x y a b) ∙ rw (← ea, ← eb) h
+      maxes c x y a b A B L ea eb h = sym (regroup c x y a b) ∙ rw (← ea, ← eb) h
 
   -- ---- the loop's turn, and its end
 
@@ -219,17 +188,34 @@ module _ (p : ℕ → Bool) where
       let e : back + (i + 1) ≡ back + i + 1 = omega arith in
       rw e (turn-seen l n i (back + i) g h k (before refl) inv)
 
-  pub turn-start : (l : List ℕ) (n back : ℕ) → back ≤ n → Left l (atFront l n 0) (behind l n (back + 0)) (record { above = 0; count = 0; sum = 0; largest = 0; least = 64 })
+  pub turn-start : (l : List ℕ) (n back : ℕ) → back ≤ n → Left l (atFront l n 0) (behind l n (back + 0)) (record { above = 0; count = 0; sum = 0; largest = 0 })
   turn-start l n back h =
       let e : max n (back + 0) ≡ n = omega arith in
       let z : n - 0 ≡ n = omega arith in
       rw (e, z) (left-start l n)
 
-  pub turn-end : (l : List ℕ) (n i j : ℕ) (g : Gathered) → n ≤ i → length l ≤ j → g .least ≤ 64 → Left l (atFront l n i) (behind l n j) g → Gathers p l g
-  turn-end l n i j g h k s inv =
+  pub turn-end : (l : List ℕ) (n i j : ℕ) (g : Gathered) → n ≤ i → length l ≤ j → Left l (atFront l n i) (behind l n j) g → Gathers p l g
+  turn-end l n i j g h k inv =
       let e : n - i ≡ 0 = omega arith in
       let m : length l ≤ max n j = omega arith in
-      left-end l g s (rw (e, drop-of-length-le l m) at inv)
+      left-end l g (rw (e, drop-of-length-le l m) at inv)
+
+  -- ---- the least source, turn by turn
+
+  pub least-turn : (a : ℕ) (l : List ℕ) (i : ℕ) → a ≤ 64 → i < length l → lowest a (sources p (drop i l)) ≡ lowest (min a (cond (p (getD l i 0)) (getD l i 0 % 64) 64)) (sources p (drop (i + 1) l))
+  unfolding sources kept lowest
+  least-turn a l i h k = rw (add-one i, drop-cons l i 0 k) (go (p (getD l i 0)) (getD l i 0 % 64) (sources p (drop (suc i) l)))
+    where
+      over : min a 64 ≡ a
+      over = omega arith
+
+      go : (b : Bool) (x : ℕ) (xs : List ℕ) → lowest a (kept b x xs) ≡ lowest (min a (cond b x 64)) xs
+      go true x xs = refl
+      go false x xs = ap (λ (k : ℕ). lowest k xs) (sym over)
+
+  pub least-end : (a : ℕ) (l : List ℕ) (i : ℕ) → length l ≤ i → lowest a (sources p (drop i l)) ≡ a
+  unfolding sources lowest
+  least-end a l i h = rw (drop-of-length-le l h)
 
   -- ---- bounds
 
@@ -265,10 +251,6 @@ module _ (p : ℕ → Bool) where
 
   pub left-sum : (l f b : List ℕ) (g : Gathered) → Left l f b g → g .sum ≤ 63 * length l
   left-sum l f b g k = omega (arith, k .sum, total-most l)
-
-pub least-two : (g : Gathered) (here there : Bool) (m n : ℕ) → g .least ≤ 64 → gatherTwo g here m there n .least ≤ 64
-unfolding gatherTwo
-least-two g here there m n h = omega arith
 
 pub highest-total : (a : ℕ) (l : List ℕ) → highest a l ≤ a + total l
 unfolding highest total

@@ -1,6 +1,6 @@
 -- What one pass over a list gathers for a text: whether each entry is in range, and of the entries that the text may name, all but the man on the source
--- looked at, their number and the sum, the largest and the least of their sources, which tell up to three of them. For inner functions; the public
--- contract does not speak of this.
+-- looked at, their number and the sum and the largest of their sources. These tell up to two of them, and with the least source three. For inner
+-- functions; the public contract does not speak of this.
 -- Assumes nothing.
 use Prim.Native.Nat.{ℕ, _+_, _*_, _-_, _%_, max, min}
 use mathlib.Core.Path.{_≡_}
@@ -66,7 +66,6 @@ gatherTwo g here m there n = record {
   count = g .count + numberIf here 1 + numberIf there 1;
   sum = g .sum + numberIf here (m % 64) + numberIf there (n % 64);
   largest = max (g .largest) (max (numberIf here (m % 64)) (numberIf there (n % 64)));
-  least = min (g .least) (min (cond here (m % 64) 64) (cond there (n % 64) 64));
 }
 
 -- what is gathered of a list
@@ -75,7 +74,6 @@ pub record Gathers (p : ℕ → Bool) (l : List ℕ) (g : Gathered) : Type 0 whe
   pub count-is : g .count ≡ length (sources p l)
   pub sum-is : g .sum ≡ total (sources p l)
   pub largest-is : g .largest ≡ highest 0 (sources p l)
-  pub least-is : g .least ≡ lowest 64 (sources p l)
 
 -- of up to three sources how many pass a test, and the sum of those that do
 abbrev pub passing : (ℕ → Bool) → ℕ → ℕ → ℕ → ℕ → ℕ

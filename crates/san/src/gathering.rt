@@ -13,16 +13,14 @@ ghost use Prim.Native.Nat.{_*_, _-_, _≤_, _<_, max, min};
 ghost use lib.ListN.{length};
 ghost use Rattle.move_list.specs.MoveList.{longestList};
 ghost use Rattle.san.specs.Fitting.{soleMove};
-ghost use Rattle.san.specs.Gathered.{numberIf, picked, maskOf, wantOf, kindFits, gatherTwo, Gathers, passing, passed, soleFrom, overList};
+ghost use Rattle.san.specs.Gathered.{numberIf, picked, maskOf, wantOf, kindFits, gatherTwo, sources, lowest, Gathers, passing, passed, soleFrom, overList};
 
-// What is over the range in any entry of a list, and of the entries that the text may name their number, and the sum, the largest and the least of
-// their sources.
+// What is over the range in any entry of a list, and of the entries that the text may name their number, and the sum and the largest of their sources.
 pub struct Gathered {
     pub above: u16,
     pub count: u16,
     pub sum: u16,
     pub largest: u16,
-    pub least: u16,
 }
 
 fn larger(a: u16, b: u16) -> u16
@@ -91,7 +89,6 @@ fn gather_two(g: Gathered, here: bool, m: u16, there: bool, n: u16) -> Gathered
         count: g.count + number_if(here, 1) + number_if(there, 1),
         sum: g.sum + source + other,
         largest: larger(g.largest, larger(source, other)),
-        least: smaller(g.least, smaller(number_or(here, m % 64, 64), number_or(there, n % 64, 64))),
     }
 }
 
@@ -109,7 +106,6 @@ fn gather_all(moves: &[u16], mask: u16, want: u16) -> Gathered
         count: 0,
         sum: 0,
         largest: 0,
-        least: 64,
     };
     let mut k: u16 = 32768 - (front - back) as u16;
     let mut i: usize = 0;
@@ -124,6 +120,20 @@ fn gather_all(moves: &[u16], mask: u16, want: u16) -> Gathered
         g = gather_two(g, here, m, there, n);
     }
     g
+}
+
+// The least source of the entries that are picked, 64 of none.
+fn least_source(moves: &[u16], mask: u16, want: u16) -> u16
+    ensures { λ r. ⌜ r ≡ lowest 64 (sources (picked mask want) (now (moves .entry))) ⌝ }
+{
+    let mut least: u16 = 64;
+    let mut i: usize = 0;
+    while i < moves.len() {
+        let m = moves[i];
+        i += 1;
+        least = smaller(least, number_or(picked(m, mask, want), m % 64, 64));
+    }
+    least
 }
 
 fn kind_fits(pieces: &[u8; 64], t: San, x: u16) -> bool
@@ -183,7 +193,9 @@ pub(crate) fn sole_arrival(pieces: &[u8; 64], t: San, moves: &[u16]) -> Answer
     requires { ⌜ t .rank ≤ 8 ⌝ }
     ensures { λ r. ⌜ r ≡ overList (now (moves .entry)) (soleMove (now (pieces .entry)) t (now (moves .entry))) ⌝ }
 {
-    let g = gather_all(moves, mask_of(t), want_of(t));
+    let mask = mask_of(t);
+    let want = want_of(t);
+    let g = gather_all(moves, mask, want);
     if g.above != 0 {
         return square::refused(BAD_LIST);
     }
@@ -191,7 +203,8 @@ pub(crate) fn sole_arrival(pieces: &[u8; 64], t: San, moves: &[u16]) -> Answer
         return sole_of_two(pieces, t, g.count, g.largest, g.sum - g.largest);
     }
     if g.count == 3 {
-        return sole_of_three(pieces, t, g.largest, g.least, g.sum - g.largest - g.least);
+        let low = least_source(moves, mask, want);
+        return sole_of_three(pieces, t, g.largest, low, g.sum - g.largest - low);
     }
     resolve::sole_move(pieces, t, moves)
 }

@@ -3,16 +3,16 @@ use mathlib.Core.Path.{_≡_}
 use mathlib.Core.Bool.{true, false}
 use Prim.Native.Nat.{ℕ, _+_, _*_, _-_, _≤_, _<_}
 use lib.Dec.{leb}
-use lib.ListN.{length, getD}
+use Prim.Native.Nat.{_/_}
+use lib.ListN.{length}
 use borrow.Author.Tests.{leb-true, leb-false}
 use Rattle.san.specs.Gathered.{picked}
-use Prim.Native.Nat.{_/_}
-use Rattle.san.proofs.OnePass.{atFront, behind, Left, turn, turn-start, turn-end, left-count, left-sum, least-two}
+use Rattle.san.proofs.OnePass.{atFront, behind, Left, turn, turn-start, turn-end, left-count, left-sum}
 use Rattle.san.proofs.gathering.gather_all.Statement.{statement}
 use Rattle.san.proofs.gathering.gather_all.Tie as tie
 
 abbrev Inv-loop : tie.InvT-loop
-Inv-loop moves mask want front back g₀ k₀ i₀ g k i = (i ≤ front) × ((k + front ≡ 32768 + (back + i)) × ((g .least ≤ 64) × Left (picked mask want) moves (atFront moves front i) (behind moves front (back + i)) g))
+Inv-loop moves mask want front back g₀ k₀ i₀ g k i = (i ≤ front) × ((k + front ≡ 32768 + (back + i)) × Left (picked mask want) moves (atFront moves front i) (behind moves front (back + i)) g)
 
 abbrev μ-loop : tie.MeasureT-loop
 μ-loop moves mask want front back g₀ k₀ i₀ g k i = front - i
@@ -39,7 +39,7 @@ loop-holds : tie.Need-loop-holds Inv-loop μ-loop
 loop-holds c = 
     let moves = c .before .args .moves .now in
     let front : ℕ = (length moves + 15) / 16 * 8 in
-    (omega arith, (omega arith, (omega arith, turn-start (picked (c .before .args .mask) (c .before .args .want)) moves front (length moves - front) (omega arith))))
+    (omega arith, (omega arith, turn-start (picked (c .before .args .mask) (c .before .args .want)) moves front (length moves - front) (omega arith)))
 
 mul-m : tie.Need-mul-m Inv-loop μ-loop
 mul-m c = omega arith
@@ -81,7 +81,7 @@ gather-two-requires c κs =
     let front : ℕ = (length moves + 15) / 16 * 8 in
     let back : ℕ = length moves - front in
     let s = c .before .before .before .before .before .before .before .loop in
-    let left = s .inv .1 .1 .1 in
+    let left = s .inv .1 .1 in
     let count = left-count p moves (atFront moves front (s .i)) (behind moves front (back + s .i)) (s .g) left in
     let sum = left-sum p moves (atFront moves front (s .i)) (behind moves front (back + s .i)) (s .g) left in
     omega (arith, count, sum)
@@ -96,12 +96,11 @@ loop-again c =
     let front : ℕ = (length moves + 15) / 16 * 8 in
     let back : ℕ = length moves - front in
     let s = c .before .before .before .before .before .before .before .before .loop in
-    let left = s .inv .1 .1 .1 in
+    let left = s .inv .1 .1 in
     let after : leb 32768 (s .k) ≡ true → front ≤ back + s .i = λ e. omega (arith, leb-true 32768 (s .k) e) in
     let before : leb 32768 (s .k) ≡ false → back + s .i < front = λ e. omega (arith, leb-false 32768 (s .k) e) in
     let next = turn p moves front back (s .i) (s .g) (leb 32768 (s .k)) (c .before .before .before .before .before .before .before .loop-test .taken) (omega arith) (omega arith) after before left in
-    let least = least-two (s .g) (p (getD moves (s .i) 0)) (c .before .both .result) (getD moves (s .i) 0) (c .before .before .before .before .number-if .result) (s .inv .1 .1 .0) in
-    rw (c .gather-two .ensures, c .before .before .before .picked .ensures, c .before .both .ensures, c .before .before .picked2 .ensures, c .before .before .before .before .number-if .ensures) (omega arith, (omega arith, (rw (c .before .both .ensures, c .before .before .picked2 .ensures, c .before .before .before .before .number-if .ensures) at least, next)))
+    rw (c .gather-two .ensures, c .before .before .before .picked .ensures, c .before .both .ensures, c .before .before .picked2 .ensures, c .before .before .before .before .number-if .ensures) (omega arith, (omega arith, next))
 
 returns : tie.Need-returns Inv-loop μ-loop
 returns c = 
@@ -110,8 +109,8 @@ returns c =
     let front : ℕ = (length moves + 15) / 16 * 8 in
     let back : ℕ = length moves - front in
     let s = c .before .loop in
-    let left = s .inv .1 .1 .1 in
-    turn-end p moves front (s .i) (back + s .i) (s .g) (c .loop-test .left) (omega arith) (s .inv .1 .1 .0) left
+    let left = s .inv .1 .1 in
+    turn-end p moves front (s .i) (back + s .i) (s .g) (c .loop-test .left) (omega arith) left
 
 pub gather-all-spec : {M : Type 1} → statement M
 gather-all-spec =

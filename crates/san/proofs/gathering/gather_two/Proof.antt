@@ -45,21 +45,9 @@ larger-requires c κs = search needs
 larger-requires-2 : tie.Need-larger-requires-2
 larger-requires-2 c κs = search needs
 
-number-or-requires : tie.Need-number-or-requires
-number-or-requires c κs = search needs
-
-number-or-requires-2 : tie.Need-number-or-requires-2
-number-or-requires-2 c κs = search needs
-
-smaller-requires : tie.Need-smaller-requires
-smaller-requires c κs = search needs
-
-smaller-requires-2 : tie.Need-smaller-requires-2
-smaller-requires-2 c κs = search needs
-
 returns : tie.Need-returns
 unfolding gatherTwo
-returns c = simp (c .before .before .before .before .before .before .before .before .before .before .before .before .over .ensures, c .before .before .before .before .before .before .before .before .before .before .over2 .ensures, c .before .before .before .before .before .before .before .before .before .before .before .before .before .before .number-if .ensures, c .before .before .before .before .before .before .before .before .before .before .before .before .before .number-if2 .ensures, c .before .before .before .before .before .before .before .before .before .number-if3 .ensures, c .before .before .before .before .before .before .before .number-if4 .ensures, c .before .before .before .before .before .larger .ensures, c .before .before .before .before .larger2 .ensures, c .before .before .before .number-or .ensures, c .before .before .number-or2 .ensures, c .before .smaller .ensures, c .smaller2 .ensures)
+returns c = simp (c .before .before .before .before .before .before .before .before .over .ensures, c .before .before .before .before .before .before .over2 .ensures, c .before .before .before .before .before .before .before .before .before .before .number-if .ensures, c .before .before .before .before .before .before .before .before .before .number-if2 .ensures, c .before .before .before .before .before .number-if3 .ensures, c .before .before .before .number-if4 .ensures, c .before .larger .ensures, c .larger2 .ensures)
 
 pub gather-two-spec : {M : Type 1} → statement M
 gather-two-spec =
@@ -78,8 +66,4 @@ gather-two-spec =
     add-t18
     larger-requires
     larger-requires-2
-    number-or-requires
-    number-or-requires-2
-    smaller-requires
-    smaller-requires-2
     returns)
