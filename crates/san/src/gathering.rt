@@ -15,6 +15,18 @@ ghost use Rattle.move_list.specs.MoveList.{longestList};
 ghost use Rattle.san.specs.Fitting.{soleMove};
 ghost use Rattle.san.specs.Gathered.{numberIf, picked, maskOf, wantOf, kindFits, gatherTwo, sources, lowest, Gathers, passing, passed, soleFrom, overList};
 
+// The fewest entries that the pass takes: it goes by blocks of so many.
+pub(crate) const BLOCK: usize = 8;
+
+// The bits of an entry: all above its source, and of the source those of its file and of its rank.
+const ABOVE_SOURCE: u16 = 65472;
+
+const FILE_BITS: u16 = 7;
+
+const RANK_BITS: u16 = 56;
+
+const TOP_BIT: u16 = 32768;
+
 // What is over the range in any entry of a list, and of the entries that the text may name their number, and the sum and the largest of their sources.
 pub struct Gathered {
     pub above: u16,
@@ -57,7 +69,7 @@ fn number_or(there: bool, n: u16, other: u16) -> u16
 fn mask_of(t: San) -> u16
     ensures { λ r. ⌜ r ≡ maskOf t ⌝ }
 {
-    65472 + number_if(t.file != 0, 7) + number_if(t.rank != 0, 56)
+    ABOVE_SOURCE + number_if(t.file != 0, FILE_BITS) + number_if(t.rank != 0, RANK_BITS)
 }
 
 // What those bits are, with no promotion.
@@ -92,8 +104,8 @@ fn gather_two(g: Gathered, here: bool, m: u16, there: bool, n: u16) -> Gathered
     }
 }
 
-// Goes up the list at two places, from its front and to its end, each as many entries as makes whole blocks of eight, so that none is left over. Where
-// the two overlap, the second place counts nothing; `k` is then under 2^15, which is one bit to look at.
+// Goes up the list at two places, from its front and to its end: half of the list each, rounded up to whole blocks, so that no entries are left over to
+// be taken one by one. Where the two overlap, the second place counts nothing: `k` is then under its top bit, and that is quick to see.
 fn gather_all(moves: &[u16], mask: u16, want: u16) -> Gathered
     requires { ⌜ 8 ≤ length (now moves) ⌝ }
     requires { ⌜ length (now moves) ≤ longestList ⌝ }
@@ -107,10 +119,10 @@ fn gather_all(moves: &[u16], mask: u16, want: u16) -> Gathered
         sum: 0,
         largest: 0,
     };
-    let mut k: u16 = 32768 - (front - back) as u16;
+    let mut k: u16 = TOP_BIT - (front - back) as u16;
     let mut i: usize = 0;
     while i < front {
-        let unseen = 32768 <= k;
+        let unseen = TOP_BIT <= k;
         let m = moves[i];
         let n = number_if(unseen, moves[back + i]);
         k += 1;

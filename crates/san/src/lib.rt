@@ -3,10 +3,11 @@ mod gathering;
 mod resolve;
 
 use board_builder::BoardBuilder;
+use gathering::BLOCK;
 use move_list::LONGEST_LIST;
 pub use resolve::castling_move;
-use san_text::San;
 use san_reader::Short;
+use san_text::San;
 use square::Answer;
 use square::BAD_LIST;
 use square::OUT_OF_RANGE;
@@ -45,7 +46,8 @@ fn said_by(s: Short) -> San
     }
 }
 
-// The move that a text names among the listed ones. Checks 5, 6, then 4. The commonest texts have a way of their own, which is faster.
+// The move that a text names among the listed ones. Checks 5, 6, then 4. The commonest texts have a way of their own over all but the shortest lists,
+// which is faster.
 pub fn from_san(board: BoardBuilder, moves: &[u16], text: &[u8]) -> Answer
     ensures { λ r. ⌜ r ≡ fromSan board (now (moves .entry)) (now (text .entry)) ⌝ }
 {
@@ -56,7 +58,7 @@ pub fn from_san(board: BoardBuilder, moves: &[u16], text: &[u8]) -> Answer
         return square::refused(BAD_LIST);
     }
     let short = san_reader::read_short(text);
-    if square::either(short.square == 0, moves.len() < 8) {
+    if square::either(short.square == 0, moves.len() < BLOCK) {
         return read_long(board, moves, text);
     }
     let pieces = board.pieces;

@@ -40,13 +40,13 @@ unfolding readAnswer
 returns-3 c = simp (← c .before .before .before .before .before .before .before .in-range .ensures, not-false (c .before .before .before .before .before .before .before .in-range .result) (c .before .before .before .before .before .before .if1 .left), c .read-long .ensures)
 
 said-by-requires : tie.Need-said-by-requires
-said-by-requires c κs = 
+said-by-requires c κs =
     let test = sym (c .before .before .before .either .ensures) ∙ c .before .before .if3 .left in
     let some = not-none (c .before .before .before .before .before .read-short .result .square) (length (c .before .before .before .before .before .before .before .before .before .before .before .args .moves .now)) test in
     omega (arith, some)
 
 sole-arrival-requires : tie.Need-sole-arrival-requires
-sole-arrival-requires c κs = 
+sole-arrival-requires c κs =
     let told = told-by (c .before .before .before .before .before .before .before .before .before .before .before .before .args .text .now) (c .before .before .before .before .before .before .read-short .result) (c .before .before .before .before .before .before .read-short .ensures) in
     let test = sym (c .before .before .before .before .either .ensures) ∙ c .before .before .before .if3 .left in
     let long = long-enough (c .before .before .before .before .before .before .read-short .result .square) (length (c .before .before .before .before .before .before .before .before .before .before .before .before .args .moves .now)) test in
@@ -54,7 +54,7 @@ sole-arrival-requires c κs =
 
 returns-4 : tie.Need-returns-4
 unfolding readAnswer resolved
-returns-4 c = 
+returns-4 c =
     let told = told-by (c .before .before .before .before .before .before .before .before .before .before .before .before .before .args .text .now) (c .before .before .before .before .before .before .before .read-short .result) (c .before .before .before .before .before .before .before .read-short .ensures) in
     let test = sym (c .before .before .before .before .before .either .ensures) ∙ c .before .before .before .before .if3 .left in
     simp (← c .before .before .before .before .before .before .before .before .before .before .in-range .ensures, not-false (c .before .before .before .before .before .before .before .before .before .before .in-range .result) (c .before .before .before .before .before .before .before .before .before .if1 .left), told .said (not-none (c .before .before .before .before .before .before .before .read-short .result .square) (length (c .before .before .before .before .before .before .before .before .before .before .before .before .before .args .moves .now)) test), c .sole-arrival .ensures, c .before .said-by .ensures)

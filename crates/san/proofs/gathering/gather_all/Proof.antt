@@ -36,7 +36,7 @@ sub-k-2 : tie.Need-sub-k-2 Inv-loop μ-loop
 sub-k-2 c = omega arith
 
 loop-holds : tie.Need-loop-holds Inv-loop μ-loop
-loop-holds c = 
+loop-holds c =
     let moves = c .before .args .moves .now in
     let front : ℕ = (length moves + 15) / 16 * 8 in
     (omega arith, (omega arith, turn-start (picked (c .before .args .mask) (c .before .args .want)) moves front (length moves - front) (omega arith)))
@@ -75,7 +75,7 @@ both-requires : tie.Need-both-requires Inv-loop μ-loop
 both-requires c κs = omega arith
 
 gather-two-requires : tie.Need-gather-two-requires Inv-loop μ-loop
-gather-two-requires c κs = 
+gather-two-requires c κs =
     let moves = c .before .before .before .before .before .before .before .before .before .args .moves .now in
     let p = picked (c .before .before .before .before .before .before .before .before .before .args .mask) (c .before .before .before .before .before .before .before .before .before .args .want) in
     let front : ℕ = (length moves + 15) / 16 * 8 in
@@ -90,7 +90,7 @@ loop-less : tie.Need-loop-less Inv-loop μ-loop
 loop-less c = omega arith
 
 loop-again : tie.Need-loop-again Inv-loop μ-loop
-loop-again c = 
+loop-again c =
     let moves = c .before .before .before .before .before .before .before .before .before .before .args .moves .now in
     let p = picked (c .before .before .before .before .before .before .before .before .before .before .args .mask) (c .before .before .before .before .before .before .before .before .before .before .args .want) in
     let front : ℕ = (length moves + 15) / 16 * 8 in
@@ -103,7 +103,7 @@ loop-again c =
     rw (c .gather-two .ensures, c .before .before .before .picked .ensures, c .before .both .ensures, c .before .before .picked2 .ensures, c .before .before .before .before .number-if .ensures) (omega arith, (omega arith, next))
 
 returns : tie.Need-returns Inv-loop μ-loop
-returns c = 
+returns c =
     let moves = c .before .before .before .args .moves .now in
     let p = picked (c .before .before .before .args .mask) (c .before .before .before .args .want) in
     let front : ℕ = (length moves + 15) / 16 * 8 in

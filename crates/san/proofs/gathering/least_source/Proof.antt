@@ -39,7 +39,7 @@ loop-less : tie.Need-loop-less Inv-loop μ-loop
 loop-less c = search needs
 
 loop-again : tie.Need-loop-again Inv-loop μ-loop
-loop-again c = 
+loop-again c =
     let moves = c .before .before .before .before .before .before .before .args .moves .now in
     let s = c .before .before .before .before .before .loop in
     let turn = least-turn (picked (c .before .before .before .before .before .before .before .args .mask) (c .before .before .before .before .before .before .before .args .want)) (s .least) moves (s .i) (s .inv .1 .0) (c .before .before .before .before .loop-test .taken) in

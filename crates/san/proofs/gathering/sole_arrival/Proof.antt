@@ -21,7 +21,7 @@ refused-requires : tie.Need-refused-requires
 refused-requires c κs = search needs
 
 returns : tie.Need-returns
-returns c = 
+returns c =
     let pre = c .before .before .before .before .before .before .before .pre in
     let l = c .before .before .before .before .before .before .before .args .moves .now in
     let t = c .before .before .before .before .before .before .before .args .t in
@@ -31,7 +31,7 @@ returns c =
     simp (bad, c .refused .ensures)
 
 sub-sole-of-two : tie.Need-sub-sole-of-two
-sub-sole-of-two c = 
+sub-sole-of-two c =
     let pre = c .before .before .before .before .before .before .before .before .before .pre in
     let l = c .before .before .before .before .before .before .before .before .before .args .moves .now in
     let t = c .before .before .before .before .before .before .before .before .before .args .t in
@@ -40,7 +40,7 @@ sub-sole-of-two c =
     largest-in-sum (picks t) l g k
 
 sole-of-two-requires : tie.Need-sole-of-two-requires
-sole-of-two-requires c κs = 
+sole-of-two-requires c κs =
     let pre = c .before .before .before .before .before .before .before .before .before .pre in
     let l = c .before .before .before .before .before .before .before .before .before .args .moves .now in
     let t = c .before .before .before .before .before .before .before .before .before .args .t in
@@ -49,7 +49,7 @@ sole-of-two-requires c κs =
     omega (arith, largest-in-sum (picks t) l g k, sum-most (picks t) l g k (pre .1 .0))
 
 returns-2 : tie.Need-returns-2
-returns-2 c = 
+returns-2 c =
     let pre = c .before .before .before .before .before .before .before .before .before .before .pre in
     let l = c .before .before .before .before .before .before .before .before .before .before .args .moves .now in
     let t = c .before .before .before .before .before .before .before .before .before .before .args .t in
@@ -63,7 +63,7 @@ least-source-requires : tie.Need-least-source-requires
 least-source-requires c κs = search needs
 
 sub-sole-of-three : tie.Need-sub-sole-of-three
-sub-sole-of-three c = 
+sub-sole-of-three c =
     let pre = c .before .before .before .before .before .before .before .before .before .before .before .before .pre in
     let l = c .before .before .before .before .before .before .before .before .before .before .before .before .args .moves .now in
     let t = c .before .before .before .before .before .before .before .before .before .before .before .before .args .t in
@@ -72,7 +72,7 @@ sub-sole-of-three c =
     largest-in-sum (picks t) l g k
 
 sub-sole-of-three-2 : tie.Need-sub-sole-of-three-2
-sub-sole-of-three-2 c = 
+sub-sole-of-three-2 c =
     let pre = c .before .before .before .before .before .before .before .before .before .before .before .before .pre in
     let l = c .before .before .before .before .before .before .before .before .before .before .before .before .args .moves .now in
     let t = c .before .before .before .before .before .before .before .before .before .before .before .before .args .t in
@@ -81,7 +81,7 @@ sub-sole-of-three-2 c =
     least-in-others (picks t) l g k (c .before .least-source .result) (c .before .before .if3 .taken) (lowest-by t (c .before .before .before .before .before .before .before .before .before .before .mask-of .result) (c .before .before .before .before .before .before .before .before .before .want-of .result) l (c .before .least-source .result) (c .before .before .before .before .before .before .before .before .before .before .mask-of .ensures) (c .before .before .before .before .before .before .before .before .before .want-of .ensures) (c .before .least-source .ensures))
 
 sole-of-three-requires : tie.Need-sole-of-three-requires
-sole-of-three-requires c κs = 
+sole-of-three-requires c κs =
     let pre = c .before .before .before .before .before .before .before .before .before .before .before .before .pre in
     let l = c .before .before .before .before .before .before .before .before .before .before .before .before .args .moves .now in
     let t = c .before .before .before .before .before .before .before .before .before .before .before .before .args .t in
@@ -90,7 +90,7 @@ sole-of-three-requires c κs =
     omega (arith, largest-in-sum (picks t) l g k, sum-most (picks t) l g k (pre .1 .0), least-in-others (picks t) l g k (c .before .least-source .result) (c .before .before .if3 .taken) (lowest-by t (c .before .before .before .before .before .before .before .before .before .before .mask-of .result) (c .before .before .before .before .before .before .before .before .before .want-of .result) l (c .before .least-source .result) (c .before .before .before .before .before .before .before .before .before .before .mask-of .ensures) (c .before .before .before .before .before .before .before .before .before .want-of .ensures) (c .before .least-source .ensures)))
 
 returns-3 : tie.Need-returns-3
-returns-3 c = 
+returns-3 c =
     let pre = c .before .before .before .before .before .before .before .before .before .before .before .before .before .pre in
     let l = c .before .before .before .before .before .before .before .before .before .before .before .before .before .args .moves .now in
     let t = c .before .before .before .before .before .before .before .before .before .before .before .before .before .args .t in
@@ -104,7 +104,7 @@ sole-move-requires : tie.Need-sole-move-requires
 sole-move-requires c κs = search needs
 
 returns-4 : tie.Need-returns-4
-returns-4 c = 
+returns-4 c =
     let pre = c .before .before .before .before .before .before .before .before .before .before .before .pre in
     let l = c .before .before .before .before .before .before .before .before .before .before .before .args .moves .now in
     let t = c .before .before .before .before .before .before .before .before .before .before .before .args .t in
