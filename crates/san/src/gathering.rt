@@ -1,7 +1,6 @@
 // Which move of a list a short text names. One pass over the list, with no branch on an entry, so that many entries are taken at a time; then the board
 // is asked for the sources of up to three entries. A list is short enough and a source small enough that the sums fit.
 use crate::resolve;
-use crate::resolve::both;
 use crate::resolve::capture_test;
 use san_text::San;
 use square::Answer;
@@ -128,7 +127,7 @@ fn gather_all(moves: &[u16], mask: u16, want: u16) -> Gathered
         k += 1;
         i += 1;
         let here = picked(m, mask, want);
-        let there = both(unseen, picked(n, mask, want));
+        let there = square::both(unseen, picked(n, mask, want));
         g = gather_two(g, here, m, there, n);
     }
     g
@@ -174,8 +173,8 @@ fn sole_of_two(pieces: &[u8; 64], t: San, n: u16, x: u16, y: u16) -> Answer
     requires { ⌜ y ≤ longestList * 63 ⌝ }
     ensures { λ r. ⌜ r ≡ soleFrom (now (pieces .entry)) t (passing (kindFits (now (pieces .entry)) t) n x y 0) (passed (kindFits (now (pieces .entry)) t) n x y 0) ⌝ }
 {
-    let first = both(0 < n, kind_fits(pieces, t, x));
-    let second = both(1 < n, kind_fits(pieces, t, y));
+    let first = square::both(0 < n, kind_fits(pieces, t, x));
+    let second = square::both(1 < n, kind_fits(pieces, t, y));
     let fit = number_if(first, 1) + number_if(second, 1);
     let source = number_if(first, x) + number_if(second, y);
     sole_source(pieces, t, fit, source)

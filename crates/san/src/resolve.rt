@@ -5,7 +5,7 @@ use san_text::SanText;
 use square::Answer;
 use square::INVALID_SAN_MOVE;
 ghost use mathlib.Core.Path.{_≡_};
-ghost use mathlib.Core.Bool.{cond, _&&_};
+ghost use mathlib.Core.Bool.{cond};
 ghost use Prim.Native.Nat.{_<_, _^_};
 ghost use Rattle.san_text.specs.Resolve.{agrees, captureTest, castlingMove, castle};
 ghost use Rattle.san_text.specs.Form.{resolved};
@@ -29,12 +29,6 @@ fn narrow(x: u16) -> u8
     x as u8
 }
 
-pub(crate) fn both(a: bool, b: bool) -> bool
-    ensures { λ r. ⌜ r ≡ a && b ⌝ }
-{
-    if a { b } else { false }
-}
-
 fn choose(first: bool, a: bool, b: bool) -> bool
     ensures { λ r. ⌜ r ≡ cond first a b ⌝ }
 {
@@ -49,7 +43,7 @@ pub(crate) fn source_fits(pieces: &[u8; 64], t: San, m: u16) -> bool
     let kind = square::kind_of(pieces[source as usize]) == t.piece;
     let file = agrees(t.file, source % 8 + 1);
     let rank = agrees(t.rank, source / 8 + 1);
-    both(kind, both(file, rank))
+    square::both(kind, square::both(file, rank))
 }
 
 // How many entries fit so far, and the first of them.
