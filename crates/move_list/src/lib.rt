@@ -1,29 +1,30 @@
 // A lent list of moves, in the host's order: its range, and whether a move is in it.
 ghost use mathlib.Core.Path.{_≡_};
-ghost use Prim.Native.Nat.{max};
-ghost use Rattle.square.specs.Numbers.{largest, among};
+ghost use Prim.Native.Nat.{_-_};
+ghost use Rattle.square.specs.Numbers.{allAtMost, among};
 ghost use Rattle.move_list.specs.MoveList.{listInRange};
 
 // The most entries that a list may have.
 pub const LONGEST_LIST: usize = 255;
 
-fn larger(a: u16, b: u16) -> u16
-    ensures { λ r. ⌜ r ≡ max a b ⌝ }
+// What an entry is over a bound, 0 up to it.
+pub fn over(x: u16, most: u16) -> u16
+    ensures { λ r. ⌜ r ≡ x - most ⌝ }
 {
-    if a < b { b } else { a }
+    if most < x { x - most } else { 0 }
 }
 
-// The largest entry: one maximum over the list, with no branch, is the fastest range test.
-fn largest(moves: &[u16]) -> u16
-    ensures { λ r. ⌜ r ≡ largest (now (moves .entry)) ⌝ }
+// Whether no entry is over a bound: what is over is gathered with no branch, so that the entries are taken many at a time.
+fn all_at_most(moves: &[u16], most: u16) -> bool
+    ensures { λ r. ⌜ r ≡ allAtMost most (now (moves .entry)) ⌝ }
 {
-    let mut most: u16 = 0;
+    let mut above: u16 = 0;
     let mut i: usize = 0;
     while i < moves.len() {
-        most = larger(most, moves[i]);
+        above = above | over(moves[i], most);
         i += 1;
     }
-    most
+    above == 0
 }
 
 // At most 255 entries, each a move's number.
@@ -33,7 +34,7 @@ pub fn in_range(moves: &[u16]) -> bool
     if LONGEST_LIST < moves.len() {
         return false;
     }
-    largest(moves) as u64 <= chess_move::LAST_MOVE
+    all_at_most(moves, chess_move::LAST_MOVE as u16)
 }
 
 fn wide(x: u16) -> u64

@@ -46,12 +46,6 @@ fn smaller(a: u16, b: u16) -> u16
     if a < b { a } else { b }
 }
 
-fn over(x: u16, most: u16) -> u16
-    ensures { λ r. ⌜ r ≡ x - most ⌝ }
-{
-    if most < x { x - most } else { 0 }
-}
-
 fn number_if(there: bool, n: u16) -> u16
     ensures { λ r. ⌜ r ≡ numberIf there n ⌝ }
 {
@@ -77,7 +71,7 @@ fn want_of(t: San) -> u16
     requires { ⌜ t .rank ≤ 8 ⌝ }
     ensures { λ r. ⌜ r ≡ wantOf t ⌝ }
 {
-    t.dest as u16 * 64 + over(t.rank as u16, 1) * 8 + over(t.file as u16, 1)
+    t.dest as u16 * 64 + move_list::over(t.rank as u16, 1) * 8 + move_list::over(t.file as u16, 1)
 }
 
 fn picked(m: u16, mask: u16, want: u16) -> bool
@@ -96,7 +90,7 @@ fn gather_two(g: Gathered, here: bool, m: u16, there: bool, n: u16) -> Gathered
     let other = number_if(there, n % 64);
     let last = chess_move::LAST_MOVE as u16;
     Gathered {
-        above: g.above | over(m, last) | over(n, last),
+        above: g.above | move_list::over(m, last) | move_list::over(n, last),
         count: g.count + number_if(here, 1) + number_if(there, 1),
         sum: g.sum + source + other,
         largest: larger(g.largest, larger(source, other)),

@@ -130,12 +130,6 @@ pub fn to_bytes(b: BoardBuilder, in_check: u8, list: &[u16], out: &mut [u8]) -> 
     square::accepted(POSITION_SIZE as u64)
 }
 
-fn over(x: u16, most: u16) -> u16
-    ensures { λ r. ⌜ r ≡ x - most ⌝ }
-{
-    if most < x { x - most } else { 0 }
-}
-
 // Whether so many entries, the first ones, are moves: with no branch, so that they are taken many at a time.
 fn moves_in_range(s: &[u8], entries: usize) -> bool
     requires { ⌜ (length (now s) ≡ positionSize) × (entries ≤ longestList) ⌝ }
@@ -145,7 +139,7 @@ fn moves_in_range(s: &[u8], entries: usize) -> bool
     let mut i: usize = 0;
     while i < entries {
         let at = MOVES_AT + 2 * i;
-        above = above | over(s[at] as u16 + 256 * (s[at + 1] as u16), LAST_MOVE as u16);
+        above = above | move_list::over(s[at] as u16 + 256 * (s[at + 1] as u16), LAST_MOVE as u16);
         i += 1;
     }
     above == 0
