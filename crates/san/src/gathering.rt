@@ -17,6 +17,10 @@ ghost use Rattle.san.specs.Gathered.{numberIf, picked, maskOf, wantOf, k
 // The fewest entries that the pass takes: it goes by blocks of so many.
 pub(crate) const BLOCK: usize = 8;
 
+const TWO_BLOCKS: usize = 2 * BLOCK;
+
+const ROUND_UP: usize = TWO_BLOCKS - 1;
+
 // The bits of an entry: all above its source, and of the source those of its file and of its rank.
 const ABOVE_SOURCE: u16 = 65472;
 
@@ -104,7 +108,7 @@ fn gather_all(moves: &[u16], mask: u16, want: u16) -> Gathered
     requires { ⌜ length (now moves) ≤ longestList ⌝ }
     ensures { λ r. ⌜ Gathers (picked mask want) (now (moves .entry)) r ⌝ }
 {
-    let front = (moves.len() + 15) / 16 * 8;
+    let front = (moves.len() + ROUND_UP) / TWO_BLOCKS * BLOCK;
     let back = moves.len() - front;
     let mut g = Gathered {
         above: 0,
