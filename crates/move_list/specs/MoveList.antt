@@ -1,6 +1,6 @@
 -- A lent list of moves (document 01, "Answer numbers" 6): at most 255 entries, each at most 28,671. And counting, on which "one entry alone fits" rests.
 -- Assumes nothing.
-use Prim.Native.Nat.{ℕ, suc}
+use Prim.Native.Nat.{ℕ, suc, _-_}
 use mathlib.Core.Bool.{Bool, cond, _&&_}
 use mathlib.Core.List.{List, [], _∷_}
 use lib.Dec.{leb}
@@ -11,6 +11,10 @@ use Rattle.chess_move.specs.Number.{lastMove}
 -- the most entries of a list
 abbrev pub longestList : ℕ
 longestList = 255
+
+-- what a number is over a bound, 0 up to it
+abbrev pub over : ℕ → ℕ → ℕ
+over x most = x - most
 
 unfoldable pub listInRange : List ℕ → Bool
 listInRange moves = leb (length moves) longestList && allAtMost lastMove moves

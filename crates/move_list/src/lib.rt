@@ -1,15 +1,14 @@
 // A lent list of moves, in the host's order: its range, and whether a move is in it.
 ghost use mathlib.Core.Path.{_≡_};
-ghost use Prim.Native.Nat.{_-_};
 ghost use Rattle.square.specs.Numbers.{allAtMost, among};
-ghost use Rattle.move_list.specs.MoveList.{listInRange};
+ghost use Rattle.move_list.specs.MoveList.{over, listInRange};
 
 // The most entries that a list may have.
 pub const LONGEST_LIST: usize = 255;
 
 // What an entry is over a bound, 0 up to it.
 pub fn over(x: u16, most: u16) -> u16
-    ensures { λ r. ⌜ r ≡ x - most ⌝ }
+    ensures { λ r. ⌜ r ≡ over x most ⌝ }
 {
     if most < x { x - most } else { 0 }
 }
