@@ -1,58 +1,41 @@
 use borrow.Author.Needs.{needs}
 use borrow.Author.Tests.{lt-ltb, le-ltb}
-use mathlib.Core.Path.{_≡_, refl, sym, ap, _∙_}
-use native.Mathlib.Omega.{arith}
 use Rattle.key_line.proofs.write_refusal.Statement.{statement}
 use Rattle.key_line.proofs.write_refusal.Tie as tie
-use Rattle.key_line.proofs.write_refusal.Reads as reads
-use Rattle.key_line.proofs.write_refusal.Lts as lts
-use Rattle.square.proofs.write_text.Reads as write-text-reads
 
--- src/lib.rt:15:22
 cast-low : tie.Need-cast-low
 cast-low c = search needs
 
--- src/lib.rt:15:15
 add-low : tie.Need-add-low
 add-low c = search needs
 
--- src/lib.rt:17:35
 slice-aggregate-write-text : tie.Need-slice-aggregate-write-text
 slice-aggregate-write-text c = search needs
 
--- src/lib.rt:17:9
 write-text-requires : tie.Need-write-text-requires
 write-text-requires c κs = search needs
 
--- src/lib.rt:17:9
 same-length : tie.Need-same-length
 same-length c = search needs
 
--- src/lib.rt:17:9
 returns : tie.Need-returns
 returns c = simp (lt-ltb _ _ (c .before .before .before .before .before .if1 .taken)) (c .before .before .write-text .ensures .0, c .before .before .write-text .ensures .1)
 
--- src/lib.rt:19:23
 cast-high : tie.Need-cast-high
 cast-high c = search needs
 
--- src/lib.rt:19:16
 add-high : tie.Need-add-high
 add-high c = search needs
 
--- src/lib.rt:20:24
 slice-aggregate-write-text-2 : tie.Need-slice-aggregate-write-text-2
 slice-aggregate-write-text-2 c = search needs
 
--- src/lib.rt:20:5
 write-text-requires-2 : tie.Need-write-text-requires-2
 write-text-requires-2 c κs = search needs
 
--- src/lib.rt:10:1
 same-length-2 : tie.Need-same-length-2
 same-length-2 c = search needs
 
--- src/lib.rt:10:1
 returns-2 : tie.Need-returns-2
 returns-2 c = simp (le-ltb _ _ (c .before .before .before .before .before .if1 .left)) (c .before .before .write-text2 .ensures .0, c .before .before .write-text2 .ensures .1)
 
