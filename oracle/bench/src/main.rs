@@ -22,6 +22,8 @@ const LEAST: Duration = Duration::from_secs(1);
 const GAMES: usize = 12;
 const GAME_ROUNDS: usize = 8;
 const GAME_LENGTH: usize = 300;
+/// The most moves that a log holds.
+const LONGEST_GAME: usize = 1_024;
 
 /// A position of a game in every shape that is timed.
 struct Place {
@@ -119,11 +121,11 @@ fn san(places: &[Place]) {
     row("naming (ours), against a SAN read (ours)", all.len(), reading, naming, "");
 }
 
-/// A game of 300 moves, mostly reversible ones, so that runs are long.
-fn long_game(random: &mut Random) -> Vec<ChessMove> {
+/// A game of so many moves, mostly reversible ones, so that runs are long.
+fn long_game(length: usize, random: &mut Random) -> Vec<ChessMove> {
     loop {
         let (mut board, mut moves) = (board_of(STARTS[0]), vec![]);
-        while moves.len() < GAME_LENGTH {
+        while moves.len() < length {
             let quiet = |m: &ChessMove| {
                 board.piece_on(m.get_source()) != Some(Piece::Pawn) && board.piece_on(m.get_dest()).is_none()
             };
@@ -135,7 +137,7 @@ fn long_game(random: &mut Random) -> Vec<ChessMove> {
             }
             board = board.make_move_new(moves[moves.len() - 1]);
         }
-        if moves.len() == GAME_LENGTH {
+        if moves.len() == length {
             return moves;
         }
     }
@@ -166,13 +168,29 @@ fn games(random: &mut Random) {
     let mut log = Log::new();
     let (mut theirs, mut ours) = (0.0, 0.0);
     for _ in 0..GAMES {
-        let game = long_game(random);
+        let game = long_game(GAME_LENGTH, random);
         let rounds: Vec<(f64, f64)> = (0..GAME_ROUNDS).map(|_| ask_all(&game, &mut log)).collect();
         theirs += rounds.iter().map(|r| r.0).fold(f64::MAX, f64::min);
         ours += rounds.iter().map(|r| r.1).fold(f64::MAX, f64::min);
     }
     let asked = 2 * GAMES * GAME_LENGTH;
     row("result and claim after each of 300 moves", asked, theirs / asked as f64, ours / asked as f64, "10");
+    longest_game(&mut log, random);
+}
+
+/// The longest game, asked both questions at its end; the paper's aim for it is a time, 300,000 ns, and no ratio.
+fn longest_game(log: &mut Log, random: &mut Random) {
+    let (mut game, mut board) = (Game::new(), board_of(STARTS[0]));
+    assert_eq!(log.start(&position_of(&board)).number, 0);
+    for m in long_game(LONGEST_GAME, random) {
+        board = board.make_move_new(m);
+        assert!(game.make_move(m));
+        assert_eq!(log.make_move(number_of(m) as u64, &position_of(&board)).number, 0);
+    }
+    assert_eq!(log.result().value, result_number(game.result()));
+    assert_eq!(log.can_declare_draw().value, game.can_declare_draw() as u64);
+    let (theirs, ours) = times(&[()], |_| (game.result(), game.can_declare_draw()), |_| (log.result(), log.can_declare_draw()));
+    row("result and claim after 1,024 moves", 2, theirs / 2.0, ours / 2.0, "");
 }
 
 /// `keys` and the same program over the crate, on a file of the positions' texts.
