@@ -152,8 +152,8 @@ module _ (b : BoardBuilder) (r : InRange b) where
   back : readFen (fenText b) ≡ fenOf b
   unfolding readFen ofTokens assembled
   back =
-      rw (
-        four,
+      ap ofTokens four
+      ∙ rw (
         placed-back (b .pieces) (r .long) (r .codes),
         side-back (b .«side_to_move») (lt-suc (r .side)),
         white-back (b .«white_castle_rights») (b .«black_castle_rights») (lt-suc (r .white)) (lt-suc (r .black)),

@@ -12,7 +12,7 @@ use Rattle.san_text.specs.declared.SanText.the-variants.{Move}
 use Rattle.san_text.specs.Place.{given, filePlace, rankPlace, squareAt, fileByte, rankByte}
 use Rattle.san_text.specs.Text.{kingSideText, queenSideText, markText, promotionKind, isCheck, first, after, pieceOr, readEnd, readPromotion, readDest, readText}
 use Rattle.san_text.specs.Resolve.{kindAt, emptyAt, captureTest}
-use Rattle.san_text.specs.Name.{optional, promotionLetter, changesFiles, takesOf}
+use Rattle.san_text.specs.Name.{optional, promotionLetter, pieceLetter, changesFiles, takesOf}
 use Rattle.san_text.specs.Paper.{markOf, endOf, sanText, paper}
 use Rattle.san_text.proofs.Says.{Moves, Promotes, promotes, Says, says-cond, says-piece}
 use Rattle.san_text.proofs.Front.{letterKind, piece-back, less, there, square-back, no-castling, bothWith, afterFile, both-text, both-read}
@@ -58,7 +58,7 @@ read-tail k f r x sq Promotes.queen false = rw (less sq)
 read-both : (pieces : List ℕ) (m : ℕ) → Moves (kindAt pieces (sourceOf m)) → Promotes (promotionOf m) → readText (sanText pieces m true true) ≡ Move (bothWith pieces m (takesOf pieces m) (markOf pieces m))
 unfolding readText sanText endOf
 read-both pieces m k p =
-    rw (both-text pieces m tail, no-castling k src (afterFile pieces m tail) (45 ∷ 79 ∷ []), no-castling k src (afterFile pieces m tail) (45 ∷ 79 ∷ 45 ∷ 79 ∷ []))
+    rw (text, no-castling k src (afterFile pieces m tail) (45 ∷ 79 ∷ []), no-castling k src (afterFile pieces m tail) (45 ∷ 79 ∷ 45 ∷ 79 ∷ []))
     (both-read pieces m tail readDest k
     ∙ read-dest kind (src % 8 + 1) (src / 8 + 1) (takesOf pieces m) (destOf m) tail (omega arith)
     ∙ rw (piece-back k) at (read-tail kind (src % 8 + 1) (src / 8 + 1) (takesOf pieces m) (destOf m) p (markOf pieces m)))
@@ -71,6 +71,9 @@ read-both pieces m k p =
 
     tail : List ℕ
     tail = promotionLetter (promotionOf m) ++ optional (markOf pieces m) markText
+
+    text : sanText pieces m true true ≡ pieceLetter (kindAt pieces src) ++ (fileByte src ∷ afterFile pieces m tail)
+    text = both-text pieces m tail
 
 both-captures : (pieces : List ℕ) (m : ℕ) → captureTest pieces (bothWith pieces m (takesOf pieces m) (markOf pieces m)) m ≡ true
 unfolding captureTest takesOf markOf

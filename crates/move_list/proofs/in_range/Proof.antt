@@ -1,13 +1,15 @@
 use borrow.Author.Needs.{needs}
 use borrow.Author.Tests.{le-leb, lt-leb}
 use mathlib.Core.Path.{_∙_, sym}
-use Rattle.move_list.specs.MoveList.{listInRange}
+use native.Mathlib.Omega.{arith}
+use lib.ListN.{length}
+use Rattle.move_list.specs.MoveList.{longestList, listInRange}
 use Rattle.move_list.proofs.in_range.Statement.{statement}
 use Rattle.move_list.proofs.in_range.Tie as tie
 
 returns : tie.Need-returns
 unfolding listInRange
-returns c = simp (lt-leb _ _ (c .if1 .taken))
+returns c = simp (lt-leb (length (c .before .before .args .moves .now)) longestList (omega (arith, c .if1 .taken)))
 
 cast-all-at-most : tie.Need-cast-all-at-most
 cast-all-at-most c = search needs
@@ -17,7 +19,7 @@ all-at-most-requires c κs = search needs
 
 returns-2 : tie.Need-returns-2
 unfolding listInRange
-returns-2 c = c .all-at-most .ensures ∙ sym (simp (le-leb _ _ (c .before .if1 .left)))
+returns-2 c = c .all-at-most .ensures ∙ sym (simp (le-leb (length (c .before .before .before .args .moves .now)) longestList (omega (arith, c .before .if1 .left))))
 
 pub in-range-spec : {M : Type 1} → statement M
 in-range-spec = tie.close (tie.spec returns cast-all-at-most all-at-most-requires returns-2)

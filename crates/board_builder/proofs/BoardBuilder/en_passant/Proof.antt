@@ -2,8 +2,8 @@ use borrow.Author.Needs.{needs}
 use borrow.Author.Tests.{le-leb, lt-leb, not-true, not-false}
 use mathlib.Core.Path.{_≡_, _∙_, sym}
 use mathlib.Core.Bool.{true, false}
+use native.Mathlib.Omega.{arith}
 use Rattle.board_builder.specs.BoardBuilder.{inRange}
-use Rattle.board_builder.proofs.Stepping.{step-record, step-refused, step-made}
 use Rattle.board_builder.proofs.Stepping.{step-record, step-refused, step-made}
 use Rattle.board_builder.proofs.BoardBuilder.en_passant.Statement.{statement}
 use Rattle.board_builder.proofs.BoardBuilder.en_passant.Tie as tie
@@ -25,7 +25,7 @@ stepped-requires-2 c κs = search needs
 returns-2 : tie.Need-returns-2
 returns-2 c =
     let good : inRange (c .before .before .before .before .args .self) ≡ true = sym (c .before .before .before .in-range .ensures) ∙ not-false (c .before .before .before .in-range .result) (c .before .before .if1 .left) in
-    c .stepped2 .ensures ∙ step-refused _ _ _ good (simp (lt-leb _ _ (c .before .if2 .taken)))
+    c .stepped2 .ensures ∙ step-refused _ _ _ good (simp (lt-leb (c .before .before .before .before .args .file) 8 (omega (arith, c .before .if2 .taken))))
 
 stepped-requires-3 : tie.Need-stepped-requires-3
 stepped-requires-3 c κs = search needs
@@ -33,7 +33,7 @@ stepped-requires-3 c κs = search needs
 returns-3 : tie.Need-returns-3
 returns-3 c =
     let good : inRange (c .before .before .before .before .args .self) ≡ true = sym (c .before .before .before .in-range .ensures) ∙ not-false (c .before .before .before .in-range .result) (c .before .before .if1 .left) in
-    c .stepped3 .ensures ∙ step-made _ _ _ good (simp (le-leb _ _ (c .before .if2 .left)))
+    c .stepped3 .ensures ∙ step-made _ _ _ good (simp (le-leb (c .before .before .before .before .args .file) 8 (omega (arith, c .before .if2 .left))))
 
 pub en-passant-spec : {M : Type 1} → statement M
 en-passant-spec =
