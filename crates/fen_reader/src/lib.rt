@@ -45,7 +45,7 @@ fn assemble(pieces: [u8; 64], side: &[u8], castling: &[u8], ep: &[u8]) -> Fen
     }
 }
 
-// Reads a FEN text.
+// Each byte of the first token must be one of a placement, and three more tokens must follow; what stands behind them is not looked at.
 pub fn read_fen(text: &[u8]) -> Fen
     ensures { λ r. ⌜ r ≡ readFen (now (text .entry)) ⌝ }
 {

@@ -20,7 +20,8 @@ use Rattle.position.specs.Layout.{Position, positionSize, side, positionOf, pos
 use Rattle.stored_position.specs.Bytes.{isPosition, listsMove}
 use Rattle.ending.specs.Ending.{whiteCheckmates, blackCheckmates, stalemate, resultWithoutMoves, resultOfAction, resultOf, resultAt}
 use Rattle.game_rules.specs.Limits.{limits}
-use Rattle.good_log.specs.Steps.{moveFits, notSound, moveStep, otherFits, otherSound, step}
+use Rattle.good_log.specs.Steps.{otherFits, otherSound}
+use Rattle.good_log.proofs.Counted.{moveFits, notSound, moveStep, step}
 
 -- with no move left, a game has ended
 ended-without : (mover check : ℕ) → resultWithoutMoves mover check ≡ 0 → ⊥

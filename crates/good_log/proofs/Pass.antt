@@ -18,7 +18,8 @@ use Rattle.stored_position.specs.Bytes.{isPosition, listsMove, isPositionWith}
 use Rattle.ending.specs.Ending.{resultOfAction}
 use Rattle.game_rules.specs.Limits.{Limits, limits, actionsLength, positionsLength}
 use Rattle.game_rules.specs.Good.{nextSound, sound, isGood}
-use Rattle.good_log.specs.Steps.{notSound, moveLeads, moveMayStand, moveStep, otherSound, otherMayStand, step}
+use Rattle.good_log.specs.Steps.{moveLeads, moveMayStand, otherSound, otherMayStand}
+use Rattle.good_log.proofs.Counted.{notSound, moveStep, step}
 use Rattle.good_log.proofs.Steps.{stepTo, step-is}
 use Rattle.good_log.proofs.Moves.{Left, movesAfter, move-goes-on, move-unsound, move-sound-by, sound-leaves, step-of-listed, step-after-end, other-sound-by, unsound}
 

@@ -32,7 +32,8 @@ use Rattle.game_rules.specs.Good.{callOf, callAt, historyOf, positionHere, posi
 use Rattle.game_rules.proofs.Log.{actions-at, moves-at, made-back, Back, current-is, result-is, offer-is}
 use Rattle.game_rules.proofs.Checks.{nothing-refused}
 use Rattle.game_rules.proofs.Rulings.{claim-is}
-use Rattle.good_log.specs.Steps.{otherCheck, otherFits, moveFits, notSound, moveStep, step}
+use Rattle.good_log.specs.Steps.{otherCheck, otherFits}
+use Rattle.good_log.proofs.Counted.{moveFits, notSound, moveStep, step}
 
 -- what a step should give
 abbrev pub stepTo : List ℕ → List ℕ → ℕ → ℕ → ℕ

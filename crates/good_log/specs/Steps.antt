@@ -1,23 +1,21 @@
 -- One step of the pass that tests a log, read off its bytes: the checks of a call at a place in the log.
 -- Assumes nothing.
-use mathlib.Core.Bool.{Bool, false, cond, not, _&&_, _||_}
+use mathlib.Core.Bool.{Bool, false, not, _&&_, _||_}
 use mathlib.Core.List.{List}
-use Prim.Native.Nat.{ℕ, suc, _+_}
-use lib.Dec.{eqb, leb, ltb}
+use Prim.Native.Nat.{ℕ, suc}
+use lib.Dec.{eqb, ltb}
 use Rattle.square.specs.Answer.{notListed, noOffer, noClaim}
 use Rattle.square.specs.Parts.{item}
-use Rattle.chess_move.specs.Number.{lastMove}
 use Rattle.action.specs.declared.Action.{Action}
 use Rattle.action.specs.declared.Action.the-variants.{MakeMove, OfferDraw, AcceptDraw, DeclareDraw, Resign}
 use Rattle.action.specs.declared.Stored.{Stored}
 use Rattle.action.specs.declared.Stored.the-variants.{Holds, Nothing}
 use Rattle.action.specs.Layout.{colourCheck}
-use Rattle.actions.specs.Part.{moveAt, lastAction}
+use Rattle.actions.specs.Part.{lastAction}
 use Rattle.position.specs.Layout.{positionSize, side, positionOf}
-use Rattle.stored_position.specs.Bytes.{isPosition, listsMove, isPositionWith}
+use Rattle.stored_position.specs.Bytes.{isPositionWith}
 use Rattle.ending.specs.Ending.{resultOfAction, resultAt, offerAt}
 use Rattle.claim.specs.Claim.{claimAt}
-use Rattle.game_rules.specs.Limits.{limits}
 use Rattle.game_rules.specs.Rules.{unless}
 
 -- the own checks of an action without a move, after the first n actions with position m on the board; a move is no such action
@@ -40,10 +38,6 @@ otherSound acts ps i k = eqb (resultAt acts ps i k) 0 && otherFits acts ps i k (
 abbrev pub otherMayStand : List ℕ → List ℕ → ℕ → ℕ → ℕ → Bool
 otherMayStand acts ps n i k = otherSound acts ps i k && (eqb (suc i) n || eqb (resultOfAction (lastAction acts (suc i))) 0)
 
--- a move from the position with bytes p to that with bytes q was accepted, and q is as it was written
-abbrev pub moveFits : List ℕ → ℕ → List ℕ → Bool
-moveFits p m q = listsMove p m && (isPosition q && not (eqb (side (positionOf q)) (side (positionOf p))))
-
 -- the position with bytes p lists move m, and at q, after it, the other side is to move
 abbrev pub moveLeads : List ℕ → ℕ → List ℕ → Bool
 moveLeads p m q = isPositionWith p m && not (eqb (side (positionOf q)) (side (positionOf p)))
@@ -51,20 +45,3 @@ moveLeads p m q = isPositionWith p m && not (eqb (side (positionOf q)) (side (po
 -- move x was the next one, with k made before it and m in all, if what it left is a position
 abbrev pub moveMayStand : List ℕ → ℕ → ℕ → ℕ → Bool
 moveMayStand ps m k x = ltb k m && moveLeads (item positionSize ps k) x (item positionSize ps (suc k))
-
--- more moves than a log may have: what a step gives for an action that is not sound
-abbrev pub notSound : ℕ
-notSound = limits .most-moves + 1
-
--- the moves after action i, k of them before it and m in all
-abbrev pub moveStep : List ℕ → ℕ → ℕ → ℕ → ℕ
-moveStep ps m k x = cond (eqb k m) notSound (cond (moveFits (item positionSize ps k) x (item positionSize ps (suc k))) (suc k) notSound)
-
-abbrev pub otherStep : List ℕ → List ℕ → ℕ → ℕ → ℕ
-otherStep acts ps i k = cond (otherFits acts ps i k (lastAction acts (suc i))) k notSound
-
-unfoldable pub step : List ℕ → List ℕ → ℕ → ℕ → ℕ → ℕ
-step acts ps m i k =
-    cond (eqb (resultAt acts ps i k) 0)
-    (cond (leb (moveAt acts i) lastMove) (moveStep ps m k (moveAt acts i)) (otherStep acts ps i k))
-    notSound

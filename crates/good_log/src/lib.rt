@@ -110,8 +110,7 @@ fn other_may_stand(acts: &[u8], ps: &[u8], n: usize, i: usize, k: usize) -> bool
 }
 
 // Whether some sequence of accepted calls from a start makes the log. Each position is looked at when a move leaves it, with its list, and the last one at
-// the end. No turn finds its action past the part: it is tested so that the compiler sees that
-// the action's bytes are there.
+// the end. No turn finds its action past the part: it is tested so that the compiler sees that the action's bytes are there.
 fn is_good(acts: &[u8], ps: &[u8], n: usize, m: usize) -> bool
     requires { ⌜ (n ≤ limits .most-actions) × (m ≤ limits .most-moves) × (actionsLength limits ≤ length (now acts)) × (positionsLength limits ≤ length (now ps)) ⌝ }
     ensures { λ r. ⌜ r ≡ isGood limits (now (acts .entry)) (now (ps .entry)) n m ⌝ }

@@ -14,7 +14,7 @@ Inv-loop ps first last current found₀ i j₀ found j =
     (first ≤ j) × (j ≤ i) × (found ≡ false) × (earlier ps (positionAt ps last) first j ≡ 0)
 
 abbrev μ-loop : tie.MeasureT-loop
-μ-loop ps first last current found₀ i j₀ found j = i - j
+μ-loop ps first last current found₀ i j₀ found j = last - j
 
 abbrev Inv-pairs : tie.InvT-pairs
 Inv-pairs ps first last current found₀ i₀ found i =
