@@ -8,13 +8,13 @@ use native.Mathlib.Omega.{arith}
 use lib.Dec.{eqb, ltb}
 use lib.ListN.{length}
 use borrow.Author.Tests.{le-leb, lt-leb, le-ltb, eq-eqb, ne-eqb, ltb-false}
-use Rattle.square.specs.Numbers.{either}
+use Rattle.square.specs.Numbers.{largest, either}
 use Rattle.move_list.specs.MoveList.{longestList, listInRange}
 use Rattle.san_text.specs.declared.San.{San}
 use Rattle.san.specs.Fitting.{soleMove}
 use Rattle.san.specs.declared.gathering.Gathered.{Gathered}
-use Rattle.san.specs.Gathered.{numberIf, maskOf, wantOf, picked, kindFits, sources, highest, lowest, Gathers, passing, passed, soleFrom}
-use Rattle.san.proofs.OnePass.{sources-most, total-most, highest-total}
+use Rattle.san.specs.Gathered.{numberIf, maskOf, wantOf, picked, kindFits, sources, lowest, Gathers, passing, passed, soleFrom}
+use Rattle.san.proofs.OnePass.{sources-most, total-most, largest-total}
 use Rattle.san.proofs.UpToThree.{others, low, Same, same-sources, low-most}
 use Rattle.san.proofs.Soles.{picks, sole-from}
 
@@ -30,7 +30,7 @@ lowest-by t mask want l y em ew k = rw (em, ew) at k
 
 module _ (p : ℕ → Bool) (l : List ℕ) (g : Gathered) (k : Gathers p l g) where
   pub largest-in-sum : g .largest ≤ g .sum
-  largest-in-sum = rw (k .largest-is, k .sum-is) (omega (arith, highest-total 0 (sources p l)))
+  largest-in-sum = rw (k .largest-is, k .sum-is) (omega (arith, largest-total (sources p l)))
 
   pub sum-most : length l ≤ longestList → g .sum ≤ longestList * 63
   sum-most h = rw (k .sum-is) (omega (arith, total-most p l))
@@ -51,7 +51,7 @@ module _ (pieces : List ℕ) (t : San) (l : List ℕ) (g : Gathered) (hd : t .de
       few : length (sources (picks t) l) ≤ 3
       few = rw (k .count-is) at h
 
-      same : Same (kindFits pieces t) (sources (picks t) l) (highest 0 (sources (picks t) l)) (low (sources (picks t) l)) (others (sources (picks t) l) - low (sources (picks t) l))
+      same : Same (kindFits pieces t) (sources (picks t) l) (largest (sources (picks t) l)) (low (sources (picks t) l)) (others (sources (picks t) l) - low (sources (picks t) l))
       same = same-sources (kindFits pieces t) (sources (picks t) l) few (sources-most (picks t) l)
 
   -- of at most two entries there is no third source

@@ -10,19 +10,14 @@ use lib.Bits.{bitOr}
 use lib.Dec.{eqb, leb}
 use lib.ListN.{length, getD, take, drop, drop-of-length-le, take-append-drop}
 use lib.Seq.{drop-cons}
-use Rattle.square.specs.Numbers.{allAtMost}
+use Rattle.square.specs.Numbers.{allAtMost, largest}
 use Rattle.square.proofs.Numbers.{most-cons}
 use Rattle.square.proofs.Bounds.{gather}
 use Rattle.chess_move.specs.Number.{lastMove}
 use Rattle.san.specs.declared.gathering.Gathered.{Gathered}
-use Rattle.san.specs.Gathered.{numberIf, kept, sources, total, highest, lowest, gatherTwo, Gathers}
+use Rattle.san.specs.Gathered.{numberIf, kept, sources, total, lowest, gatherTwo, Gathers}
 
 -- ---- one source more or none
-
-highest-from : (a : ℕ) (xs : List ℕ) → highest a xs ≡ max a (highest 0 xs)
-unfolding highest
-highest-from a [] = omega arith
-highest-from a (x ∷ xs) = omega (arith, highest-from (max a x) xs, highest-from (max 0 x) xs)
 
 kept-length : (b : Bool) (x : ℕ) (xs : List ℕ) → length (kept b x xs) ≡ numberIf b 1 + length xs
 unfolding kept
@@ -34,10 +29,10 @@ unfolding kept total
 kept-total true x xs = refl
 kept-total false x xs = omega arith
 
-kept-highest : (b : Bool) (x : ℕ) (xs : List ℕ) → highest 0 (kept b x xs) ≡ max (numberIf b x) (highest 0 xs)
-unfolding kept highest
-kept-highest true x xs = omega (arith, highest-from (max 0 x) xs)
-kept-highest false x xs = omega arith
+kept-largest : (b : Bool) (x : ℕ) (xs : List ℕ) → largest (kept b x xs) ≡ max (numberIf b x) (largest xs)
+unfolding kept largest
+kept-largest true x xs = refl
+kept-largest false x xs = omega arith
 
 -- ---- largest in another order
 
@@ -73,10 +68,10 @@ module _ (p : ℕ → Bool) where
     pub range : allAtMost lastMove f && allAtMost lastMove b ≡ allAtMost lastMove l
     pub count : length (sources p f) + length (sources p b) ≡ length (sources p l)
     pub sum : total (sources p f) + total (sources p b) ≡ total (sources p l)
-    pub largest : max (highest 0 (sources p f)) (highest 0 (sources p b)) ≡ highest 0 (sources p l)
+    pub largest : max (largest (sources p f)) (largest (sources p b)) ≡ largest (sources p l)
 
   parts : (f b : List ℕ) → Parts (f ++ b) f b
-  unfolding sources total highest lowest allAtMost
+  unfolding sources total largest lowest allAtMost
   parts [] b = record {
     range = refl;
     count = omega arith;
@@ -89,7 +84,7 @@ module _ (p : ℕ → Bool) where
         range = assoc (leb m lastMove) (allAtMost lastMove f) (allAtMost lastMove b) ∙ ap (λ (x : Bool). leb m lastMove && x) (k .range);
         count = omega (arith, k .count, kept-length (p m) (m % 64) (sources p f), kept-length (p m) (m % 64) (sources p (f ++ b)));
         sum = omega (arith, k .sum, kept-total (p m) (m % 64) (sources p f), kept-total (p m) (m % 64) (sources p (f ++ b)));
-        largest = omega (arith, k .largest, kept-highest (p m) (m % 64) (sources p f), kept-highest (p m) (m % 64) (sources p (f ++ b)));
+        largest = omega (arith, k .largest, kept-largest (p m) (m % 64) (sources p f), kept-largest (p m) (m % 64) (sources p (f ++ b)));
       }
     where
       assoc : (x y z : Bool) → (x && y) && z ≡ x && (y && z)
@@ -101,7 +96,7 @@ module _ (p : ℕ → Bool) where
     pub range : eqb (g .above) 0 && (allAtMost lastMove f && allAtMost lastMove b) ≡ allAtMost lastMove l
     pub count : g .count + (length (sources p f) + length (sources p b)) ≡ length (sources p l)
     pub sum : g .sum + (total (sources p f) + total (sources p b)) ≡ total (sources p l)
-    pub largest : max (g .largest) (max (highest 0 (sources p f)) (highest 0 (sources p b))) ≡ highest 0 (sources p l)
+    pub largest : max (g .largest) (max (largest (sources p f)) (largest (sources p b))) ≡ largest (sources p l)
 
   pub left-start : (l : List ℕ) (n : ℕ) → Left l (take n l) (drop n l) (record { above = 0; count = 0; sum = 0; largest = 0 })
   left-start l n = subst (λ (x : List ℕ). Left x (take n l) (drop n l) (record { above = 0; count = 0; sum = 0; largest = 0 })) (take-append-drop n l) together
@@ -118,7 +113,7 @@ module _ (p : ℕ → Bool) where
       }
 
   pub left-end : (l : List ℕ) (g : Gathered) → Left l [] [] g → Gathers p l g
-  unfolding sources total highest lowest allAtMost
+  unfolding sources total largest lowest allAtMost
   left-end l g k = record {
     range-is = last (eqb (g .above) 0) ∙ k .range;
     count-is = omega (arith, k .count);
@@ -143,7 +138,7 @@ module _ (p : ℕ → Bool) where
     range = range;
     count = adds (g .count) _ _ _ _ _ _ _ (kept-length (p m) (m % 64) (sources p f)) (ap length es ∙ kept-length there (n % 64) (sources p b)) (k .count);
     sum = adds (g .sum) _ _ _ _ _ _ _ (kept-total (p m) (m % 64) (sources p f)) (ap total es ∙ kept-total there (n % 64) (sources p b)) (k .sum);
-    largest = maxes (g .largest) _ _ _ _ _ _ _ (kept-highest (p m) (m % 64) (sources p f)) (ap (highest 0) es ∙ kept-highest there (n % 64) (sources p b)) (k .largest);
+    largest = maxes (g .largest) _ _ _ _ _ _ _ (kept-largest (p m) (m % 64) (sources p f)) (ap largest es ∙ kept-largest there (n % 64) (sources p b)) (k .largest);
   }
     where
       P : Bool
@@ -252,7 +247,7 @@ module _ (p : ℕ → Bool) where
   pub left-sum : (l f b : List ℕ) (g : Gathered) → Left l f b g → g .sum ≤ 63 * length l
   left-sum l f b g k = omega (arith, k .sum, total-most l)
 
-pub highest-total : (a : ℕ) (l : List ℕ) → highest a l ≤ a + total l
-unfolding highest total
-highest-total a [] = omega arith
-highest-total a (x ∷ xs) = omega (arith, highest-total (max a x) xs)
+pub largest-total : (l : List ℕ) → largest l ≤ total l
+unfolding largest total
+largest-total [] = omega arith
+largest-total (x ∷ xs) = omega (arith, largest-total xs)

@@ -8,14 +8,14 @@ use native.Mathlib.Omega.{arith}
 use lib.Dec.{eqb, leb}
 use lib.ListN.{length}
 use borrow.Author.Tests.{leb-true, leb-false}
-use Rattle.square.specs.Numbers.{allAtMost}
+use Rattle.square.specs.Numbers.{allAtMost, largest}
 use Rattle.square.proofs.Numbers.{most-head, most-tail}
 use Rattle.move_list.specs.MoveList.{count, firstOf}
-use Rattle.san.specs.Gathered.{numberIf, total, highest, lowest, passing, passed}
+use Rattle.san.specs.Gathered.{numberIf, total, lowest, passing, passed}
 
 -- the sum without the largest
 abbrev pub others : List ℕ → ℕ
-others l = total l - highest 0 l
+others l = total l - largest l
 
 -- of three the least, of fewer what the largest leaves of the sum
 abbrev pub low : List ℕ → ℕ
@@ -90,13 +90,13 @@ same-one f a x y z ex = rw ex (record {
 
 -- ---- the law
 
-pub same-sources : (f : ℕ → Bool) (l : List ℕ) → length l ≤ 3 → allAtMost 63 l ≡ true → Same f l (highest 0 l) (low l) (others l - low l)
-unfolding total highest lowest count firstOf
+pub same-sources : (f : ℕ → Bool) (l : List ℕ) → length l ≤ 3 → allAtMost 63 l ≡ true → Same f l (largest l) (low l) (others l - low l)
+unfolding total largest lowest count firstOf
 same-sources f [] h m = record { passing-same = refl; passed-same = λ e. absurd (omega arith) }
 same-sources f (a ∷ []) h m = same-one f a _ _ _ (omega arith)
 same-sources f (a ∷ b ∷ []) h m = go (leb a b) refl
   where
-    go : (p : Bool) → leb a b ≡ p → Same f (a ∷ b ∷ []) (highest 0 (a ∷ b ∷ [])) (low (a ∷ b ∷ [])) (others (a ∷ b ∷ []) - low (a ∷ b ∷ []))
+    go : (p : Bool) → leb a b ≡ p → Same f (a ∷ b ∷ []) (largest (a ∷ b ∷ [])) (low (a ∷ b ∷ [])) (others (a ∷ b ∷ []) - low (a ∷ b ∷ []))
     go true p =
         let k = leb-true a b p in
         same-two f a b _ _ _ b a (omega arith) (omega arith) (omega arith) (omega arith)
@@ -117,12 +117,12 @@ same-sources f (a ∷ b ∷ c ∷ []) h m = go (leb a b) (leb b c) (leb a c) ref
     hc : c ≤ 63
     hc = most-head 63 c [] (most-tail 63 b (c ∷ []) (most-tail 63 a (b ∷ c ∷ []) m))
 
-    ordered : (x′ y′ z′ : ℕ) → max (max (max 0 a) b) c ≡ x′ → min (min (min 64 a) b) c ≡ y′ → a + (b + (c + 0)) - x′ - y′ ≡ z′ → one f a b c x′ + one f a b c y′ + one f a b c z′ ≡ one f a b c a + one f a b c b + one f a b c c → value f a b c x′ + value f a b c y′ + value f a b c z′ ≡ value f a b c a + value f a b c b + value f a b c c → Same f (a ∷ b ∷ c ∷ []) (highest 0 (a ∷ b ∷ c ∷ [])) (low (a ∷ b ∷ c ∷ [])) (others (a ∷ b ∷ c ∷ []) - low (a ∷ b ∷ c ∷ []))
+    ordered : (x′ y′ z′ : ℕ) → max a (max b (max c 0)) ≡ x′ → min (min (min 64 a) b) c ≡ y′ → a + (b + (c + 0)) - x′ - y′ ≡ z′ → one f a b c x′ + one f a b c y′ + one f a b c z′ ≡ one f a b c a + one f a b c b + one f a b c c → value f a b c x′ + value f a b c y′ + value f a b c z′ ≡ value f a b c a + value f a b c b + value f a b c c → Same f (a ∷ b ∷ c ∷ []) (largest (a ∷ b ∷ c ∷ [])) (low (a ∷ b ∷ c ∷ [])) (others (a ∷ b ∷ c ∷ []) - low (a ∷ b ∷ c ∷ []))
     ordered x′ y′ z′ ex ey ez e v =
         let ez′ : others (a ∷ b ∷ c ∷ []) - low (a ∷ b ∷ c ∷ []) ≡ z′ = rw (ex, ey) ez in
         swapped f a b c _ _ _ x′ y′ z′ ex ey ez′ e v
 
-    go : (p q r : Bool) → leb a b ≡ p → leb b c ≡ q → leb a c ≡ r → Same f (a ∷ b ∷ c ∷ []) (highest 0 (a ∷ b ∷ c ∷ [])) (low (a ∷ b ∷ c ∷ [])) (others (a ∷ b ∷ c ∷ []) - low (a ∷ b ∷ c ∷ []))
+    go : (p q r : Bool) → leb a b ≡ p → leb b c ≡ q → leb a c ≡ r → Same f (a ∷ b ∷ c ∷ []) (largest (a ∷ b ∷ c ∷ [])) (low (a ∷ b ∷ c ∷ [])) (others (a ∷ b ∷ c ∷ []) - low (a ∷ b ∷ c ∷ []))
     go true true r p q s =
         let i = leb-true a b p in
         let j = leb-true b c q in
@@ -153,7 +153,7 @@ same-sources f (a ∷ b ∷ c ∷ []) h m = go (leb a b) (leb b c) (leb a c) ref
         ordered a c b (omega (arith, hc)) (omega (arith, hc)) (omega (arith, hc)) (omega arith) (omega arith)
 same-sources f (a ∷ b ∷ c ∷ d ∷ l) h m = absurd (omega arith)
 
-both-ends : (a b c : ℕ) → max (max (max 0 a) b) c + min (min (min 64 a) b) c ≤ a + (b + (c + 0))
+both-ends : (a b c : ℕ) → max a (max b (max c 0)) + min (min (min 64 a) b) c ≤ a + (b + (c + 0))
 both-ends a b c = omega arith
 
 within : (x y t : ℕ) → x + y ≤ t → y ≤ t - x
@@ -161,7 +161,7 @@ within x y t h = omega arith
 
 -- the least of three is no more than the other two together
 pub low-most : (l : List ℕ) → length l ≤ 3 → low l ≤ others l
-unfolding total highest lowest
+unfolding total largest lowest
 low-most [] h = omega arith
 low-most (a ∷ []) h = omega arith
 low-most (a ∷ b ∷ []) h = omega arith

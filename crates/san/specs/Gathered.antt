@@ -11,7 +11,7 @@ use lib.Dec.{eqb, ltb}
 use lib.ListN.{length}
 use Rattle.square.specs.declared.Answer.{Answer}
 use Rattle.square.specs.Answer.{accepted, refused, badList, invalidSanMove}
-use Rattle.square.specs.Numbers.{allAtMost}
+use Rattle.square.specs.Numbers.{allAtMost, largest}
 use Rattle.chess_move.specs.Number.{lastMove, sourceOf}
 use Rattle.move_list.specs.MoveList.{listInRange}
 use Rattle.san_text.specs.declared.San.{San}
@@ -51,10 +51,6 @@ unfoldable pub total : List ℕ → ℕ
 total [] = 0
 total (x ∷ xs) = x + total xs
 
-unfoldable pub highest : ℕ → List ℕ → ℕ
-highest a [] = a
-highest a (x ∷ xs) = highest (max a x) xs
-
 unfoldable pub lowest : ℕ → List ℕ → ℕ
 lowest a [] = a
 lowest a (x ∷ xs) = lowest (min a x) xs
@@ -73,7 +69,7 @@ pub record Gathers (p : ℕ → Bool) (l : List ℕ) (g : Gathered) : Type 0 whe
   pub range-is : eqb (g .above) 0 ≡ allAtMost lastMove l
   pub count-is : g .count ≡ length (sources p l)
   pub sum-is : g .sum ≡ total (sources p l)
-  pub largest-is : g .largest ≡ highest 0 (sources p l)
+  pub largest-is : g .largest ≡ largest (sources p l)
 
 -- of up to three sources how many pass a test, and the sum of those that do
 abbrev pub passing : (ℕ → Bool) → ℕ → ℕ → ℕ → ℕ → ℕ
