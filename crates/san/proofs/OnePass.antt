@@ -11,6 +11,7 @@ use lib.Dec.{eqb, leb}
 use lib.ListN.{length, getD, take, drop, drop-of-length-le, take-append-drop}
 use lib.Seq.{drop-cons}
 use Rattle.square.specs.Numbers.{allAtMost, largest}
+use Rattle.square.proofs.Maxima.{max-assoc}
 use Rattle.square.proofs.Numbers.{most-cons}
 use Rattle.square.proofs.Bounds.{gather}
 use Rattle.chess_move.specs.Number.{lastMove}
@@ -36,16 +37,13 @@ kept-largest false x xs = omega arith
 
 -- ---- largest in another order
 
-max-assoc : (a b c : ℕ) → max (max a b) c ≡ max a (max b c)
-max-assoc a b c = omega arith
-
 max-comm : (a b : ℕ) → max a b ≡ max b a
 max-comm a b = omega arith
 
 regroup : (c x y a b : ℕ) → max c (max (max x a) (max y b)) ≡ max (max c (max x y)) (max a b)
 regroup c x y a b =
-    ap (max c) (max-assoc x a (max y b) ∙ ap (max x) (sym (max-assoc a y b) ∙ ap (λ (k : ℕ). max k b) (max-comm a y) ∙ max-assoc y a b) ∙ sym (max-assoc x y (max a b)))
-    ∙ sym (max-assoc c (max x y) (max a b))
+    ap (max c) (sym (max-assoc x a (max y b)) ∙ ap (max x) (max-assoc a y b ∙ ap (λ (k : ℕ). max k b) (max-comm a y) ∙ sym (max-assoc y a b)) ∙ max-assoc x y (max a b))
+    ∙ max-assoc c (max x y) (max a b)
 
 -- ---- what is left at the two places: the front is n entries, and the second place stands at j, where it counts nothing before n
 

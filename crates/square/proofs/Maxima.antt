@@ -12,7 +12,7 @@ use lib.Seq.{drop-cons, drop-drop}
 use borrow.Author.Tests.{le-leb, lt-leb, leb-true, leb-false}
 use Rattle.square.specs.Numbers.{allAtMost, largest}
 
-max-assoc : (a b c : ℕ) → max a (max b c) ≡ max (max a b) c
+pub max-assoc : (a b c : ℕ) → max a (max b c) ≡ max (max a b) c
 max-assoc a b c = omega arith
 
 max-zero : (a : ℕ) → max a 0 ≡ a
