@@ -1,42 +1,36 @@
-// What `-h` and `--help` say.
+// What `--help` and `--version` say.
 use libc::STDOUT_FILENO;
-use square::same_bytes;
-
-fn asks(i: usize) -> bool {
-    let mut word = io::buffer();
-    let n = os::arg(i, &mut word);
-    if same_bytes(&word[..n], b"-h") {
-        return true;
-    }
-    same_bytes(&word[..n], b"--help")
-}
-
-// Whether an argument asks for help.
-pub(crate) fn is_wanted() -> bool {
-    let count = os::arg_count();
-    let mut i: usize = 1;
-    while i < count {
-        if asks(i) {
-            return true;
-        }
-        i += 1;
-    }
-    false
-}
 
 fn put(text: &[u8]) {
     io::write_all(STDOUT_FILENO, text);
 }
 
-pub(crate) fn tell() {
-    put(b"keys [FILE..]: the key of each FEN text\n");
+pub(crate) fn tell_version() {
+    put(b"keys (Menkhodur) ");
+    io::print_decimal(STDOUT_FILENO, version::number());
     put(b"\n");
-    put(b"Reads FEN texts, one a line, from the files named, or from standard input, and writes\n");
-    put(b"one line for each, in order: its key, which is the one FEN of its position, or\n");
+}
+
+pub(crate) fn tell() {
+    put(b"keys [--] [FILE..]: the key of each FEN text\n");
+    put(b"\n");
+    put(b"Reads FEN texts, one a line, from the files named, or from standard input if none is\n");
+    put(b"or where a file is named -, and writes one line for each, in order: its key, which is\n");
+    put(b"the one FEN of its position, or\n");
     put(b"  ! 1       the text is no FEN\n");
     put(b"  ! long    the line has more than 131071 bytes\n");
     put(b"An empty line is a text like any other, and a carriage return is part of its line.\n");
-    put(b"At the end the counts are told on standard error, and every million lines before it.\n");
-    put(b"A file that cannot be opened is named there too; the others are read. The exit status\n");
-    put(b"is 0 whatever was refused.\n");
+    put(b"A last line without a newline counts if it has a byte; one that a failed read cut does\n");
+    put(b"not, and is dropped.\n");
+    put(b"\n");
+    put(b"  -h, --help    says this\n");
+    put(b"  --version     says the version\n");
+    put(b"  --            ends the options: what follows are files\n");
+    put(b"\n");
+    put(b"Standard error tells of each file that cannot be opened or read (the others are read)\n");
+    put(b"and the number of lines at every million. The exit status is always 0: a script looks\n");
+    put(b"at the last line of standard error, which counts the lines that were written whole,\n");
+    put(b"  keys: 5 lines, 3 accepted, 2 refused\n");
+    put(b"and goes on with \"; input incomplete\" if a file was not opened or read to its end, and\n");
+    put(b"with \"; output incomplete: ..\" if a write failed. If it ends in \"refused\", all went well.\n");
 }

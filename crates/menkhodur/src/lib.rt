@@ -6,6 +6,7 @@ use game_rules::Counts;
 use square::Answer;
 ghost use mathlib.Core.Path.{_≡_};
 ghost use lib.ListN.{length};
+ghost use Rattle.version.specs.Version.{version};
 ghost use Rattle.square.specs.Answer.{writeAnswer, writeBytes};
 ghost use Rattle.square.specs.Square.{makeSquare};
 ghost use Rattle.castle_rights.specs.CastleRights.{addRights, removeRights, squareRights};
@@ -18,6 +19,13 @@ ghost use Rattle.stored_position.specs.Bytes.{positionGiven};
 ghost use Rattle.game_rules.specs.Limits.{limits};
 ghost use Rattle.game_rules.specs.Rules.{makeMove, offerDraw, acceptDraw, declareDraw, resign};
 ghost use Rattle.game_rules.specs.Calls.{callAnswer, counts, countsAfter, actionsAfter, positionsAfter, startAnswer, positionsBegun, resultAnswer, claimAnswer};
+
+#[no_mangle]
+pub extern "C" fn menkhodur_version() -> u64
+    ensures { λ r. ⌜ r ≡ version ⌝ }
+{
+    version::number()
+}
 
 #[no_mangle]
 pub extern "C" fn menkhodur_make_square(rank: u8, file: u8) -> Answer

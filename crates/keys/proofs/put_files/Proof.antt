@@ -1,15 +1,15 @@
 use borrow.Author.Needs.{needs}
-use mathlib.Core.Path.{_≡_}
 use Prim.Native.Nat.{_-_, _≤_}
 use lib.ListN.{length}
+use mathlib.Core.Path.{_≡_}
 use Rattle.keys.proofs.put_files.Statement.{statement}
 use Rattle.keys.proofs.put_files.Tie as tie
 
 abbrev Inv-loop : tie.InvT-loop
-Inv-loop count input₀ out₀ next₀ i₀ input out next i = (length input ≡ length input₀) × (length out ≡ length out₀) × (next .ready ≤ length out₀)
+Inv-loop count end input₀ out₀ next₀ i₀ input out next i = (length input ≡ length input₀) × (length out ≡ length out₀) × (next .ready ≤ length out₀)
 
 abbrev μ-loop : tie.MeasureT-loop
-μ-loop count input₀ out₀ next₀ i₀ input out next i = count - i
+μ-loop count end input₀ out₀ next₀ i₀ input out next i = count - i
 
 loop-holds : tie.Need-loop-holds Inv-loop μ-loop
 loop-holds c = search needs
@@ -23,8 +23,8 @@ same-length-2 c = search needs
 returns : tie.Need-returns Inv-loop μ-loop
 returns c = search needs
 
-put-file-requires : tie.Need-put-file-requires Inv-loop μ-loop
-put-file-requires c κs = search needs
+put-argument-requires : tie.Need-put-argument-requires Inv-loop μ-loop
+put-argument-requires c κs = search needs
 
 add-i : tie.Need-add-i Inv-loop μ-loop
 add-i c = search needs
@@ -54,7 +54,7 @@ put-files-spec =
     same-length
     same-length-2
     returns
-    put-file-requires
+    put-argument-requires
     add-i
     loop-less
     loop-again

@@ -1,19 +1,19 @@
 use borrow.Author.Needs.{needs}
-use Prim.Native.Nat.{_-_, _≤_}
-use Rattle.keys.proofs.newline_at.Statement.{statement}
-use Rattle.keys.proofs.newline_at.Tie as tie
+use Prim.Native.Nat.{_-_}
+use Rattle.keys.proofs.options.end_of_options.Statement.{statement}
+use Rattle.keys.proofs.options.end_of_options.Tie as tie
 
 abbrev Inv-loop : tie.InvT-loop
-Inv-loop input from to i₀ i = (from ≤ i) × (i ≤ to)
+Inv-loop count i₀ i = Unit {0}
 
 abbrev μ-loop : tie.MeasureT-loop
-μ-loop input from to i₀ i = to - i
+μ-loop count i₀ i = count - i
 
 loop-holds : tie.Need-loop-holds Inv-loop μ-loop
 loop-holds c = search needs
 
-shared-slice-read-if1 : tie.Need-shared-slice-read-if1 Inv-loop μ-loop
-shared-slice-read-if1 c = search needs
+is-end-requires : tie.Need-is-end-requires Inv-loop μ-loop
+is-end-requires c κs = search needs
 
 returns : tie.Need-returns Inv-loop μ-loop
 returns c = search needs
@@ -30,14 +30,14 @@ loop-again c = search needs
 returns-2 : tie.Need-returns-2 Inv-loop μ-loop
 returns-2 c = search needs
 
-pub newline-at-spec : {M : Type 1} → statement M
-newline-at-spec =
+pub end-of-options-spec : {M : Type 1} → statement M
+end-of-options-spec =
     tie.close
     (tie.spec
     Inv-loop
     μ-loop
     loop-holds
-    shared-slice-read-if1
+    is-end-requires
     returns
     add-i
     loop-less

@@ -2,8 +2,8 @@ use borrow.Author.Needs.{needs}
 use mathlib.Core.Path.{_≡_}
 use Prim.Native.Nat.{_-_, _≤_}
 use lib.ListN.{length}
-use Rattle.keys.proofs.put_lines.Statement.{statement}
-use Rattle.keys.proofs.put_lines.Tie as tie
+use Rattle.keys.proofs.input.put_lines.Statement.{statement}
+use Rattle.keys.proofs.input.put_lines.Tie as tie
 
 abbrev Inv-loop : tie.InvT-loop
 Inv-loop input end out₀ next₀ at₀ out next at = (at ≤ end) × (length out ≡ length out₀) × (next .ready ≤ length out₀)

@@ -1,22 +1,22 @@
 use borrow.Author.Needs.{needs}
 use Prim.Native.Nat.{_-_}
-use Rattle.keys.proofs.help.is_wanted.Statement.{statement}
-use Rattle.keys.proofs.help.is_wanted.Tie as tie
+use Rattle.keys.proofs.options.first_option.Statement.{statement}
+use Rattle.keys.proofs.options.first_option.Tie as tie
 
 abbrev Inv-loop : tie.InvT-loop
-Inv-loop count i₀ i = Unit {0}
+Inv-loop end i₀ i = Unit {0}
 
 abbrev μ-loop : tie.MeasureT-loop
-μ-loop count i₀ i = count - i
-
-arg-count-requires : tie.Need-arg-count-requires Inv-loop μ-loop
-arg-count-requires c κs = search needs
+μ-loop end i₀ i = end - i
 
 loop-holds : tie.Need-loop-holds Inv-loop μ-loop
 loop-holds c = search needs
 
-asks-requires : tie.Need-asks-requires Inv-loop μ-loop
-asks-requires c κs = search needs
+asked-at-requires : tie.Need-asked-at-requires Inv-loop μ-loop
+asked-at-requires c κs = search needs
+
+enum-told : tie.Need-enum-told Inv-loop μ-loop
+enum-told c = search needs
 
 returns : tie.Need-returns Inv-loop μ-loop
 returns c = search needs
@@ -33,15 +33,15 @@ loop-again c = search needs
 returns-2 : tie.Need-returns-2 Inv-loop μ-loop
 returns-2 c = search needs
 
-pub is-wanted-spec : {M : Type 1} → statement M
-is-wanted-spec =
+pub first-option-spec : {M : Type 1} → statement M
+first-option-spec =
     tie.close
     (tie.spec
     Inv-loop
     μ-loop
-    arg-count-requires
     loop-holds
-    asks-requires
+    asked-at-requires
+    enum-told
     returns
     add-i
     loop-less

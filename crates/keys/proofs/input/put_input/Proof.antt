@@ -2,14 +2,17 @@ use borrow.Author.Needs.{needs}
 use mathlib.Core.Path.{_≡_}
 use Prim.Native.Nat.{_≤_, _<_}
 use lib.ListN.{length}
-use Rattle.keys.proofs.put_input.Statement.{statement}
-use Rattle.keys.proofs.put_input.Tie as tie
+use Rattle.keys.proofs.input.put_input.Statement.{statement}
+use Rattle.keys.proofs.input.put_input.Tie as tie
 
 abbrev Inv-loop : tie.InvT-loop
 Inv-loop fd name input₀ out₀ next₀ turns₀ input out next turns = (length input ≡ length input₀) × (length out ≡ length out₀) × (next .ready ≤ length out₀) × (next .held < length input₀)
 
 abbrev μ-loop : tie.MeasureT-loop
 μ-loop fd name input₀ out₀ next₀ turns₀ input out next turns = turns
+
+begun-requires : tie.Need-begun-requires Inv-loop μ-loop
+begun-requires c κs = search needs
 
 loop-holds : tie.Need-loop-holds Inv-loop μ-loop
 loop-holds c = search needs
@@ -20,8 +23,8 @@ sub-turns c = search needs
 put-turn-requires : tie.Need-put-turn-requires Inv-loop μ-loop
 put-turn-requires c κs = search needs
 
-put-last-requires : tie.Need-put-last-requires Inv-loop μ-loop
-put-last-requires c κs = search needs
+put-rest-requires : tie.Need-put-rest-requires Inv-loop μ-loop
+put-rest-requires c κs = search needs
 
 same-length : tie.Need-same-length Inv-loop μ-loop
 same-length c = search needs
@@ -53,10 +56,11 @@ put-input-spec =
     (tie.spec
     Inv-loop
     μ-loop
+    begun-requires
     loop-holds
     sub-turns
     put-turn-requires
-    put-last-requires
+    put-rest-requires
     same-length
     same-length-2
     returns

@@ -2,8 +2,8 @@ use borrow.Author.Needs.{needs}
 use mathlib.Core.Path.{_≡_}
 use Prim.Native.Nat.{_-_, _≤_}
 use lib.ListN.{length}
-use Rattle.keys.proofs.to_front.Statement.{statement}
-use Rattle.keys.proofs.to_front.Tie as tie
+use Rattle.keys.proofs.input.to_front.Statement.{statement}
+use Rattle.keys.proofs.input.to_front.Tie as tie
 
 abbrev Inv-loop : tie.InvT-loop
 Inv-loop input₀ from end i₀ input i = (i ≤ end - from) × (length input ≡ length input₀)

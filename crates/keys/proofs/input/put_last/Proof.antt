@@ -2,8 +2,8 @@ use borrow.Author.Needs.{needs}
 use mathlib.Core.Path.{sym}
 use native.Mathlib.Nat.{le-of-lt}
 use lib.Seq.{length-take-le}
-use Rattle.keys.proofs.put_last.Statement.{statement}
-use Rattle.keys.proofs.put_last.Tie as tie
+use Rattle.keys.proofs.input.put_last.Statement.{statement}
+use Rattle.keys.proofs.input.put_last.Tie as tie
 
 put-long-requires : tie.Need-put-long-requires
 put-long-requires c κs = search needs

@@ -1,0 +1,20 @@
+// Where a line ends.
+ghost use Prim.Native.Nat.{_≤_};
+ghost use lib.ListN.{length};
+
+// The place of the first newline from `from` on, or `to`.
+pub(crate) fn newline_at(text: &[u8], from: usize, to: usize) -> usize
+    requires { ⌜ from ≤ to ⌝ }
+    requires { ⌜ to ≤ length (now text) ⌝ }
+    ensures least { λ r. ⌜ from ≤ r ⌝ }
+    ensures most { λ r. ⌜ r ≤ to ⌝ }
+{
+    let mut i = from;
+    while i < to {
+        if text[i] == b'\n' {
+            return i;
+        }
+        i += 1;
+    }
+    to
+}

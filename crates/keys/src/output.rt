@@ -1,0 +1,200 @@
+// The lines that wait for standard output, and what is counted of them.
+use crate::line::newline_at;
+use crate::tell;
+use libc::STDOUT_FILENO;
+ghost use mathlib.Core.Path.{_≡_};
+ghost use Prim.Native.Nat.{_+_, _≤_};
+ghost use lib.ListN.{length};
+
+// The longest line that is written: a key of 85 bytes and a newline.
+const LONGEST: usize = 86;
+
+// How often the number of lines is told on standard error.
+const TOLD: u64 = 1_000_000;
+
+// What goes on from page to page.
+pub(crate) struct Run {
+    // bytes of an unended line at the front of the input
+    pub(crate) held: usize,
+    // the line that goes on did not fit the input's room
+    pub(crate) long: bool,
+    // bytes that wait in `out`, whole lines
+    pub(crate) ready: usize,
+    // `lines` when the input began
+    pub(crate) before: u64,
+    pub(crate) lines: u64,
+    pub(crate) accepted: u64,
+    pub(crate) refused: u64,
+    // an input could not be opened or read to its end
+    pub(crate) input_failed: bool,
+    // `out` could not be written; nothing more is put or counted
+    pub(crate) output_failed: bool,
+}
+
+// Writes the first `ready` bytes and answers how many were taken: fewer only if a write failed.
+fn write_ready(out: &[u8], ready: usize) -> usize
+    requires { ⌜ ready ≤ length (now out) ⌝ }
+    ensures { λ r. ⌜ r ≤ ready ⌝ }
+{
+    let mut done: usize = 0;
+    while done < ready {
+        let got = libc::write(STDOUT_FILENO, &out[done..ready]);
+        let put = io::count(got, &out[done..ready]);
+        if put == 0 {
+            return done;
+        }
+        done += put;
+    }
+    ready
+}
+
+// The run without a line that was counted, unless the line got out whole.
+fn kept(run: Run, is_whole: bool, is_key: bool) -> Run {
+    if is_whole {
+        return run;
+    }
+    let mut next = run;
+    next.lines = std::num::wrapping_sub_u64(run.lines, 1);
+    if is_key {
+        next.accepted = std::num::wrapping_sub_u64(run.accepted, 1);
+    } else {
+        next.refused = std::num::wrapping_sub_u64(run.refused, 1);
+    }
+    next
+}
+
+// The run without the lines of `out` of which `done` bytes that were taken do not hold the newline.
+fn without_cut(out: &[u8], done: usize, ready: usize, run: Run) -> Run
+    requires { ⌜ ready ≤ length (now out) ⌝ }
+{
+    let mut next = run;
+    let mut at: usize = 0;
+    while at < ready {
+        let stop = newline_at(out, at, ready);
+        if stop == ready {
+            return next;
+        }
+        next = kept(next, stop < done, is_key(out, at));
+        at = stop + 1;
+    }
+    next
+}
+
+// Writes what waits in `out`.
+pub(crate) fn flush(out: &[u8], run: Run) -> Run
+    requires { ⌜ run .ready ≤ length (now out) ⌝ }
+    ensures ready { λ r. ⌜ r .ready ≤ 0 ⌝ }
+    ensures held { λ r. ⌜ r .held ≡ run .held ⌝ }
+{
+    let ready = run.ready;
+    let mut next = run;
+    next.ready = 0;
+    if run.output_failed {
+        return next;
+    }
+    let done = write_ready(out, ready);
+    if done == ready {
+        return next;
+    }
+    tell::failed(b"standard output");
+    let left = without_cut(out, done, ready, run);
+    next.lines = left.lines;
+    next.accepted = left.accepted;
+    next.refused = left.refused;
+    next.output_failed = true;
+    next
+}
+
+// What waits goes out when a read brought less than its room: whoever feeds a slow pipe gets each answer at once.
+pub(crate) fn flush_if(is_short: bool, out: &[u8], run: Run) -> Run
+    requires { ⌜ run .ready ≤ length (now out) ⌝ }
+    ensures ready { λ r. ⌜ r .ready ≤ length (now (out .entry)) ⌝ }
+    ensures held { λ r. ⌜ r .held ≡ run .held ⌝ }
+{
+    if is_short {
+        return flush(out, run);
+    }
+    run
+}
+
+// Makes room for one more line in `out`.
+fn with_room(out: &[u8], run: Run) -> Run
+    requires { ⌜ run .ready ≤ length (now out) ⌝ }
+    ensures { λ r. ⌜ r .ready ≤ length (now (out .entry)) ⌝ }
+{
+    if out.len() - run.ready < LONGEST {
+        return flush(out, run);
+    }
+    run
+}
+
+// How many bytes a line took: a writer answers no more than the room, or 7.
+fn taken(answer: square::Answer, room: usize) -> usize
+    ensures { λ r. ⌜ r ≤ room ⌝ }
+{
+    let value = answer.value;
+    if value <= room as u64 {
+        value as usize
+    } else {
+        0
+    }
+}
+
+// The run with `n` bytes more in `out`, a line's.
+fn counted(run: Run, n: usize, is_key: bool, out: &[u8]) -> Run
+    requires { ⌜ run .ready + n ≤ length (now out) ⌝ }
+    ensures { λ r. ⌜ r .ready ≤ length (now (out .entry)) ⌝ }
+{
+    let mut next = run;
+    next.ready = run.ready + n;
+    next.lines = std::num::wrapping_add_u64(run.lines, 1);
+    if next.lines % TOLD == 0 {
+        tell::progress(next.lines);
+    }
+    if is_key {
+        next.accepted = std::num::wrapping_add_u64(run.accepted, 1);
+    } else {
+        next.refused = std::num::wrapping_add_u64(run.refused, 1);
+    }
+    next
+}
+
+// Whether what stands at `at` is a key: a refusal begins with `!`.
+fn is_key(out: &[u8], at: usize) -> bool {
+    if at < out.len() {
+        return out[at] != b'!';
+    }
+    false
+}
+
+// One line of input, one line of output.
+pub(crate) fn put_line(line: &[u8], out: &mut [u8], run: Run) -> Run
+    requires { ⌜ run .ready ≤ length (now out) ⌝ }
+    ensures { λ r. ⌜ r .ready ≤ length (now (out .entry)) ⌝ }
+{
+    let run = with_room(out, run);
+    if run.output_failed {
+        return run;
+    }
+    let ready = run.ready;
+    let room = out.len() - ready;
+    let answer = key_line::key_line(line, &mut out[ready..]);
+    counted(run, taken(answer, room), is_key(out, ready), out)
+}
+
+// A line that did not fit the input's room.
+pub(crate) fn put_long(out: &mut [u8], run: Run) -> Run
+    requires { ⌜ run .ready ≤ length (now out) ⌝ }
+    ensures { λ r. ⌜ r .ready ≤ length (now (out .entry)) ⌝ }
+{
+    let run = with_room(out, run);
+    if run.output_failed {
+        return run;
+    }
+    let ready = run.ready;
+    let room = out.len() - ready;
+    let answer = square::write_text(b"! long\n", &mut out[ready..]);
+    let mut next = counted(run, taken(answer, room), false, out);
+    next.long = false;
+    next
+}
