@@ -6,7 +6,6 @@ use mathlib.Core.Bool.{true}
 use mathlib.Core.List.{List}
 use lib.ListN.{length, take}
 use Rattle.square.specs.Answer.{writeAnswer, writeBytes}
-use Rattle.square.specs.Determined.{Determined, Is}
 use Rattle.square.specs.Numbers.{allAtMost}
 use Rattle.action.specs.declared.Action.{Action}
 use Rattle.action.specs.declared.Stored.the-variants.{Holds}
@@ -20,9 +19,3 @@ ActionsReadBack = (a : Action) (out : List ℕ) → writeAnswer (actionCheck a) 
 -- no other bytes hold it
 abbrev pub OneForm : Type 0
 OneForm = (s : List ℕ) (a : Action) → allAtMost 255 s ≡ true → actionOf s ≡ Holds a → (actionCheck a ≡ 0) × (s ≡ actionBytes a)
-
--- the contract of each public function determines its answer and each lent byte
-pub record ActionDetermined : Type 0 where
-  pub to-bytes : (a : Action) (room : ℕ) → Determined (Is (writeAnswer (actionCheck a) (actionBytes a) room))
-  pub to-bytes-bytes : (a : Action) (out : List ℕ) → Determined (Is (writeBytes (actionCheck a) (actionBytes a) out))
-  pub from-bytes : (s : List ℕ) → Determined (Is (actionOf s))

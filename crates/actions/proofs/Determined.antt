@@ -1,11 +1,19 @@
--- Each public function's contract says what its result equals, and so permits one.
+-- Each public function's contract, as the toolchain reads it off the source, permits one answer, and one content of each slice that is lent to be written.
 -- Assumes nothing.
-use Rattle.square.proofs.Determined.{determined}
-use Rattle.actions.specs.Promises.{ActionsDetermined}
+use mathlib.Core.Path.{sym, _∙_}
+use Rattle.square.specs.Determined.{OneAnswer}
+use Rattle.actions.proofs.move_at.Reads as move-at
+use Rattle.actions.proofs.move_at.Kinds as move-at·k
+use Rattle.actions.proofs.moves_in.Reads as moves-in
+use Rattle.actions.proofs.moves_in.Kinds as moves-in·k
+use Rattle.actions.proofs.last.Reads as last
+use Rattle.actions.proofs.last.Kinds as last·k
 
-pub actions-determined : ActionsDetermined
-actions-determined = record {
-  move-at = λ acts i. determined;
-  moves-in = λ acts n. determined;
-  last = λ acts n. determined;
-}
+pub move-at-answer : OneAnswer move-at·k.ps move-at·k.r move-at.Learnt
+move-at-answer κs a x y e f p q = p ∙ sym q
+
+pub moves-in-answer : OneAnswer moves-in·k.ps moves-in·k.r moves-in.Learnt
+moves-in-answer κs a x y e f p q = p ∙ sym q
+
+pub last-answer : OneAnswer last·k.ps last·k.r last.Learnt
+last-answer κs a x y e f p q = p ∙ sym q

@@ -3,15 +3,12 @@
 use Prim.Native.Nat.{ℕ}
 use mathlib.Core.Path.{_≡_}
 use mathlib.Core.Bool.{Bool, true, false, _&&_}
-use mathlib.Core.List.{List}
 use lib.ListN.{length}
 use Rattle.square.specs.Answer.{outOfRange}
-use Rattle.square.specs.Determined.{Determined, Is}
 use Rattle.board_builder.specs.declared.BoardBuilder.{BoardBuilder}
 use Rattle.board_builder.specs.declared.Stepped.{Stepped}
-use Rattle.board_builder.specs.BoardBuilder.{board, numbers, recordSize, inRange, numbersInRange, emptyBoard, initialBoard}
+use Rattle.board_builder.specs.BoardBuilder.{board, numbers, recordSize, inRange}
 use Rattle.board_builder.specs.Steps.{stepped, step, setPiece, clearSquare, setSide, setRights, setEnPassant}
-use Rattle.board_builder.specs.Getters.{pieceOn, sideOf, rightsOf, enPassantSquare}
 
 -- a step hands its record back with 5, or answers 0 with a record in range
 pub record KeepsRange (old : BoardBuilder) (r : Stepped) : Type 0 where
@@ -39,19 +36,3 @@ SixtyEightNumbers = (b : BoardBuilder) → inRange b ≡ true → length (number
 
 abbrev pub NumbersAreTheRecord : Type 0
 NumbersAreTheRecord = (a b : BoardBuilder) → inRange a ≡ true → inRange b ≡ true → numbers a ≡ numbers b → a ≡ b
-
--- the contract of each public function determines its answer
-pub record BoardBuilderDetermined (b : BoardBuilder) : Type 0 where
-  pub new : Determined (Is emptyBoard)
-  pub default : Determined (Is initialBoard)
-  pub in-range : Determined (Is (inRange b))
-  pub numbers-in-range : (l : List ℕ) → Determined (Is (numbersInRange l))
-  pub get-piece : (square : ℕ) → Determined (Is (pieceOn b square))
-  pub get-side-to-move : Determined (Is (sideOf b))
-  pub get-castle-rights : (colour : ℕ) → Determined (Is (rightsOf b colour))
-  pub get-en-passant : Determined (Is (enPassantSquare b))
-  pub piece : (square code : ℕ) → Determined (Is (setPiece b square code))
-  pub clear-square : (square : ℕ) → Determined (Is (clearSquare b square))
-  pub side-to-move : (colour : ℕ) → Determined (Is (setSide b colour))
-  pub castle-rights : (colour rights : ℕ) → Determined (Is (setRights b colour rights))
-  pub en-passant : (file : ℕ) → Determined (Is (setEnPassant b file))

@@ -1,3 +1,3 @@
 pub mod Bits
-pub mod Determined
 pub mod Rule
+pub mod Determined

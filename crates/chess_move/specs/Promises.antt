@@ -8,7 +8,6 @@ use lib.Dec.{eqb}
 use lib.ListN.{length, take}
 use Rattle.square.specs.Answer.{accepted, refused, invalidUciMove, writeAnswer, writeBytes}
 use Rattle.square.specs.Square.{between}
-use Rattle.square.specs.Determined.{Determined, Is}
 use Rattle.chess_move.specs.declared.ChessMove.{ChessMove}
 use Rattle.chess_move.specs.Number.{lastMove, promotionOf, moveOf, numberAnswer}
 use Rattle.chess_move.specs.Coordinate.{readMove, moveText, moveCheck}
@@ -33,11 +32,3 @@ pub record MoveBackAgain (n : ℕ) (out : List ℕ) : Type 0 where
 
 abbrev pub MovesReadBack : Type 0
 MovesReadBack = (n : ℕ) (out : List ℕ) → n ≤ lastMove → 5 ≤ length out → MoveBackAgain n out
-
--- the contract of each public function determines its answer and each lent byte
-pub record ChessMoveDetermined : Type 0 where
-  pub from-number : (n : ℕ) → Determined (Is (moveOf n))
-  pub number : (m : ChessMove) → Determined (Is (numberAnswer m))
-  pub from-str : (s : List ℕ) → Determined (Is (readMove s))
-  pub to-string : (n room : ℕ) → Determined (Is (writeAnswer (moveCheck n) (moveText n) room))
-  pub to-string-bytes : (n : ℕ) (out : List ℕ) → Determined (Is (writeBytes (moveCheck n) (moveText n) out))

@@ -2,3 +2,4 @@ pub mod Classes
 pub mod Placing
 pub mod Reading
 pub mod Seen
+pub mod Determined

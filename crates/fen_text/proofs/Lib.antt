@@ -6,4 +6,3 @@ pub mod ReadBack
 pub mod Keys
 pub mod Hollow
 pub mod Rows
-pub mod Determined

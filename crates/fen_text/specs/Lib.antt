@@ -4,4 +4,3 @@ pub mod Read
 pub mod Write
 pub mod Promises
 pub mod Rows
-pub mod Determined

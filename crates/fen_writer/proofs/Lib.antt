@@ -2,3 +2,4 @@ pub mod Letters
 pub mod Rows
 pub mod Ranks
 pub mod Parts
+pub mod Determined

@@ -1,10 +1,14 @@
--- Each public function's contract says what its results equal, and so permits one.
+-- Each public function's contract, as the toolchain reads it off the source, permits one answer, and one content of each slice that is lent to be written.
 -- Assumes nothing.
-use Rattle.square.proofs.Determined.{determined}
-use Rattle.good_log.specs.Promises.{GoodLogDetermined}
+use mathlib.Core.Path.{sym, _∙_}
+use Rattle.square.specs.Determined.{OneAnswer}
+use Rattle.good_log.proofs.other_check.Reads as other-check
+use Rattle.good_log.proofs.other_check.Kinds as other-check·k
+use Rattle.good_log.proofs.check.Reads as check
+use Rattle.good_log.proofs.check.Kinds as check·k
 
-pub good-log-determined : GoodLogDetermined
-good-log-determined = record {
-  check = λ acts ps n m. determined;
-  other-check = λ acts ps n m a. determined;
-}
+pub other-check-answer : OneAnswer other-check·k.ps other-check·k.r other-check.Learnt
+other-check-answer κs a x y e f p q = p ∙ sym q
+
+pub check-answer : OneAnswer check·k.ps check·k.r check.Learnt
+check-answer κs a x y e f p q = p ∙ sym q

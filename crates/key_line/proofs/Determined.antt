@@ -1,7 +1,13 @@
--- The public function's contract says what its results equal, and so permits one.
+-- Each public function's contract, as the toolchain reads it off the source, permits one answer, and one content of each slice that is lent to be written.
 -- Assumes nothing.
-use Rattle.square.proofs.Determined.{determined}
-use Rattle.key_line.specs.KeyLine.{KeyLineDetermined}
+use mathlib.Core.Path.{sym, _∙_}
+use denote.Ref.{now}
+use Rattle.square.specs.Determined.{OneAnswer, OnePart}
+use Rattle.key_line.proofs.key_line.Reads as key-line
+use Rattle.key_line.proofs.key_line.Kinds as key-line·k
 
-pub key-line-determined : KeyLineDetermined
-key-line-determined = record { key-line = λ s room. determined; key-line-bytes = λ s out. determined }
+pub key-line-answer : OneAnswer key-line·k.ps key-line·k.r key-line.Learnt
+key-line-answer κs a x y e f p q = p .0 ∙ sym (q .0)
+
+pub key-line-out : OnePart key-line·k.ps key-line·k.r (λ κs x e. now (e .1 .0)) key-line.Learnt
+key-line-out κs a x y e f p q = p .1 ∙ sym (q .1)

@@ -1,2 +1,2 @@
-pub mod Determined
 pub mod Lines
+pub mod Determined

@@ -4,8 +4,6 @@ use Prim.Native.Nat.{ℕ, _+_, _/_, _%_}
 use mathlib.Core.Bool.{cond}
 use mathlib.Core.List.{List, [], _∷_, _++_}
 use lib.Dec.{eqb, ltb}
-use Rattle.square.specs.Determined.{Determined, Is}
-use Rattle.square.specs.Answer.{writeAnswer, writeBytes}
 use Rattle.fen_text.specs.Read.{readFen}
 use Rattle.fen_text.specs.Promises.{keyOf}
 
@@ -21,8 +19,3 @@ refusalLine n = 33 ∷ 32 ∷ (decimal n ++ newline)
 
 unfoldable pub keyLine : List ℕ → List ℕ
 keyLine s = cond (eqb (readFen s .number) 0) (keyOf s ++ newline) (refusalLine (readFen s .number))
-
--- the contract of the public function determines its answer and each lent byte
-pub record KeyLineDetermined : Type 0 where
-  pub key-line : (s : List ℕ) (room : ℕ) → Determined (Is (writeAnswer 0 (keyLine s) room))
-  pub key-line-bytes : (s out : List ℕ) → Determined (Is (writeBytes 0 (keyLine s) out))

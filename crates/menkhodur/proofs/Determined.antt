@@ -1,33 +1,155 @@
--- Each function's contract says what its results equal, and so permits one.
+-- Each public function's contract, as the toolchain reads it off the source, permits one answer, and one content of each slice that is lent to be written.
 -- Assumes nothing.
-use Rattle.square.proofs.Determined.{determined}
-use Rattle.menkhodur.specs.Promises.{MenkhodurDetermined}
+use mathlib.Core.Path.{sym, _∙_}
+use denote.Ref.{now}
+use Rattle.square.specs.Determined.{OneAnswer, OnePart}
+use Rattle.menkhodur.proofs.menkhodur_version.Reads as menkhodur-version
+use Rattle.menkhodur.proofs.menkhodur_version.Kinds as menkhodur-version·k
+use Rattle.menkhodur.proofs.menkhodur_make_square.Reads as menkhodur-make-square
+use Rattle.menkhodur.proofs.menkhodur_make_square.Kinds as menkhodur-make-square·k
+use Rattle.menkhodur.proofs.menkhodur_rights_add.Reads as menkhodur-rights-add
+use Rattle.menkhodur.proofs.menkhodur_rights_add.Kinds as menkhodur-rights-add·k
+use Rattle.menkhodur.proofs.menkhodur_rights_remove.Reads as menkhodur-rights-remove
+use Rattle.menkhodur.proofs.menkhodur_rights_remove.Kinds as menkhodur-rights-remove·k
+use Rattle.menkhodur.proofs.menkhodur_square_rights.Reads as menkhodur-square-rights
+use Rattle.menkhodur.proofs.menkhodur_square_rights.Kinds as menkhodur-square-rights·k
+use Rattle.menkhodur.proofs.menkhodur_piece.Reads as menkhodur-piece
+use Rattle.menkhodur.proofs.menkhodur_piece.Kinds as menkhodur-piece·k
+use Rattle.menkhodur.proofs.menkhodur_clear_square.Reads as menkhodur-clear-square
+use Rattle.menkhodur.proofs.menkhodur_clear_square.Kinds as menkhodur-clear-square·k
+use Rattle.menkhodur.proofs.menkhodur_side_to_move.Reads as menkhodur-side-to-move
+use Rattle.menkhodur.proofs.menkhodur_side_to_move.Kinds as menkhodur-side-to-move·k
+use Rattle.menkhodur.proofs.menkhodur_castle_rights.Reads as menkhodur-castle-rights
+use Rattle.menkhodur.proofs.menkhodur_castle_rights.Kinds as menkhodur-castle-rights·k
+use Rattle.menkhodur.proofs.menkhodur_en_passant.Reads as menkhodur-en-passant
+use Rattle.menkhodur.proofs.menkhodur_en_passant.Kinds as menkhodur-en-passant·k
+use Rattle.menkhodur.proofs.menkhodur_fen_read.Reads as menkhodur-fen-read
+use Rattle.menkhodur.proofs.menkhodur_fen_read.Kinds as menkhodur-fen-read·k
+use Rattle.menkhodur.proofs.menkhodur_fen_write.Reads as menkhodur-fen-write
+use Rattle.menkhodur.proofs.menkhodur_fen_write.Kinds as menkhodur-fen-write·k
+use Rattle.menkhodur.proofs.menkhodur_move_read.Reads as menkhodur-move-read
+use Rattle.menkhodur.proofs.menkhodur_move_read.Kinds as menkhodur-move-read·k
+use Rattle.menkhodur.proofs.menkhodur_move_write.Reads as menkhodur-move-write
+use Rattle.menkhodur.proofs.menkhodur_move_write.Kinds as menkhodur-move-write·k
+use Rattle.menkhodur.proofs.menkhodur_san_read.Reads as menkhodur-san-read
+use Rattle.menkhodur.proofs.menkhodur_san_read.Kinds as menkhodur-san-read·k
+use Rattle.menkhodur.proofs.menkhodur_san_name.Reads as menkhodur-san-name
+use Rattle.menkhodur.proofs.menkhodur_san_name.Kinds as menkhodur-san-name·k
+use Rattle.menkhodur.proofs.menkhodur_game_start.Reads as menkhodur-game-start
+use Rattle.menkhodur.proofs.menkhodur_game_start.Kinds as menkhodur-game-start·k
+use Rattle.menkhodur.proofs.menkhodur_game_make_move.Reads as menkhodur-game-make-move
+use Rattle.menkhodur.proofs.menkhodur_game_make_move.Kinds as menkhodur-game-make-move·k
+use Rattle.menkhodur.proofs.menkhodur_game_offer_draw.Reads as menkhodur-game-offer-draw
+use Rattle.menkhodur.proofs.menkhodur_game_offer_draw.Kinds as menkhodur-game-offer-draw·k
+use Rattle.menkhodur.proofs.menkhodur_game_resign.Reads as menkhodur-game-resign
+use Rattle.menkhodur.proofs.menkhodur_game_resign.Kinds as menkhodur-game-resign·k
+use Rattle.menkhodur.proofs.menkhodur_game_accept_draw.Reads as menkhodur-game-accept-draw
+use Rattle.menkhodur.proofs.menkhodur_game_accept_draw.Kinds as menkhodur-game-accept-draw·k
+use Rattle.menkhodur.proofs.menkhodur_game_declare_draw.Reads as menkhodur-game-declare-draw
+use Rattle.menkhodur.proofs.menkhodur_game_declare_draw.Kinds as menkhodur-game-declare-draw·k
+use Rattle.menkhodur.proofs.menkhodur_game_result.Reads as menkhodur-game-result
+use Rattle.menkhodur.proofs.menkhodur_game_result.Kinds as menkhodur-game-result·k
+use Rattle.menkhodur.proofs.menkhodur_game_can_declare_draw.Reads as menkhodur-game-can-declare-draw
+use Rattle.menkhodur.proofs.menkhodur_game_can_declare_draw.Kinds as menkhodur-game-can-declare-draw·k
 
-pub menkhodur-determined : MenkhodurDetermined
-menkhodur-determined = record {
-  make-square = λ rank file. determined;
-  rights-add = λ rights added. determined;
-  rights-remove = λ rights removed. determined;
-  square-rights = λ colour square. determined;
-  piece = λ b square code. determined;
-  clear-square = λ b square. determined;
-  side-to-move = λ b colour. determined;
-  castle-rights = λ b colour rights. determined;
-  en-passant = λ b file. determined;
-  fen-read = λ text. determined;
-  fen-write = λ b room. determined;
-  fen-write-bytes = λ b out. determined;
-  move-read = λ text. determined;
-  move-write = λ n room. determined;
-  move-write-bytes = λ n out. determined;
-  san-read = λ b list text. determined;
-  san-name = λ b list n room. determined;
-  san-name-bytes = λ b list n out. determined;
-  game-start = λ acts ps p. determined;
-  game-start-positions = λ acts ps p. determined;
-  game-call = λ acts ps n m c. determined;
-  game-call-actions = λ acts ps n m c. determined;
-  game-call-positions = λ acts ps n m c. determined;
-  game-result = λ acts ps n m. determined;
-  game-can-declare-draw = λ acts ps n m. determined;
-}
+pub menkhodur-version-answer : OneAnswer menkhodur-version·k.ps menkhodur-version·k.r menkhodur-version.Learnt
+menkhodur-version-answer κs a x y e f p q = p ∙ sym q
+
+pub menkhodur-make-square-answer : OneAnswer menkhodur-make-square·k.ps menkhodur-make-square·k.r menkhodur-make-square.Learnt
+menkhodur-make-square-answer κs a x y e f p q = p ∙ sym q
+
+pub menkhodur-rights-add-answer : OneAnswer menkhodur-rights-add·k.ps menkhodur-rights-add·k.r menkhodur-rights-add.Learnt
+menkhodur-rights-add-answer κs a x y e f p q = p ∙ sym q
+
+pub menkhodur-rights-remove-answer : OneAnswer menkhodur-rights-remove·k.ps menkhodur-rights-remove·k.r menkhodur-rights-remove.Learnt
+menkhodur-rights-remove-answer κs a x y e f p q = p ∙ sym q
+
+pub menkhodur-square-rights-answer : OneAnswer menkhodur-square-rights·k.ps menkhodur-square-rights·k.r menkhodur-square-rights.Learnt
+menkhodur-square-rights-answer κs a x y e f p q = p ∙ sym q
+
+pub menkhodur-piece-answer : OneAnswer menkhodur-piece·k.ps menkhodur-piece·k.r menkhodur-piece.Learnt
+menkhodur-piece-answer κs a x y e f p q = p ∙ sym q
+
+pub menkhodur-clear-square-answer : OneAnswer menkhodur-clear-square·k.ps menkhodur-clear-square·k.r menkhodur-clear-square.Learnt
+menkhodur-clear-square-answer κs a x y e f p q = p ∙ sym q
+
+pub menkhodur-side-to-move-answer : OneAnswer menkhodur-side-to-move·k.ps menkhodur-side-to-move·k.r menkhodur-side-to-move.Learnt
+menkhodur-side-to-move-answer κs a x y e f p q = p ∙ sym q
+
+pub menkhodur-castle-rights-answer : OneAnswer menkhodur-castle-rights·k.ps menkhodur-castle-rights·k.r menkhodur-castle-rights.Learnt
+menkhodur-castle-rights-answer κs a x y e f p q = p ∙ sym q
+
+pub menkhodur-en-passant-answer : OneAnswer menkhodur-en-passant·k.ps menkhodur-en-passant·k.r menkhodur-en-passant.Learnt
+menkhodur-en-passant-answer κs a x y e f p q = p ∙ sym q
+
+pub menkhodur-fen-read-answer : OneAnswer menkhodur-fen-read·k.ps menkhodur-fen-read·k.r menkhodur-fen-read.Learnt
+menkhodur-fen-read-answer κs a x y e f p q = p ∙ sym q
+
+pub menkhodur-fen-write-answer : OneAnswer menkhodur-fen-write·k.ps menkhodur-fen-write·k.r menkhodur-fen-write.Learnt
+menkhodur-fen-write-answer κs a x y e f p q = p .0 ∙ sym (q .0)
+
+pub menkhodur-fen-write-out : OnePart menkhodur-fen-write·k.ps menkhodur-fen-write·k.r (λ κs x e. now (e .1 .0)) menkhodur-fen-write.Learnt
+menkhodur-fen-write-out κs a x y e f p q = p .1 ∙ sym (q .1)
+
+pub menkhodur-move-read-answer : OneAnswer menkhodur-move-read·k.ps menkhodur-move-read·k.r menkhodur-move-read.Learnt
+menkhodur-move-read-answer κs a x y e f p q = p ∙ sym q
+
+pub menkhodur-move-write-answer : OneAnswer menkhodur-move-write·k.ps menkhodur-move-write·k.r menkhodur-move-write.Learnt
+menkhodur-move-write-answer κs a x y e f p q = p .0 ∙ sym (q .0)
+
+pub menkhodur-move-write-out : OnePart menkhodur-move-write·k.ps menkhodur-move-write·k.r (λ κs x e. now (e .1 .0)) menkhodur-move-write.Learnt
+menkhodur-move-write-out κs a x y e f p q = p .1 ∙ sym (q .1)
+
+pub menkhodur-san-read-answer : OneAnswer menkhodur-san-read·k.ps menkhodur-san-read·k.r menkhodur-san-read.Learnt
+menkhodur-san-read-answer κs a x y e f p q = p ∙ sym q
+
+pub menkhodur-san-name-answer : OneAnswer menkhodur-san-name·k.ps menkhodur-san-name·k.r menkhodur-san-name.Learnt
+menkhodur-san-name-answer κs a x y e f p q = p .0 ∙ sym (q .0)
+
+pub menkhodur-san-name-out : OnePart menkhodur-san-name·k.ps menkhodur-san-name·k.r (λ κs x e. now (e .1 .1 .1 .0)) menkhodur-san-name.Learnt
+menkhodur-san-name-out κs a x y e f p q = p .1 ∙ sym (q .1)
+
+pub menkhodur-game-start-answer : OneAnswer menkhodur-game-start·k.ps menkhodur-game-start·k.r menkhodur-game-start.Learnt
+menkhodur-game-start-answer κs a x y e f p q = p .0 ∙ sym (q .0)
+
+pub menkhodur-game-start-ps : OnePart menkhodur-game-start·k.ps menkhodur-game-start·k.r (λ κs x e. now (e .1 .0)) menkhodur-game-start.Learnt
+menkhodur-game-start-ps κs a x y e f p q = p .1 ∙ sym (q .1)
+
+pub menkhodur-game-make-move-answer : OneAnswer menkhodur-game-make-move·k.ps menkhodur-game-make-move·k.r menkhodur-game-make-move.Learnt
+menkhodur-game-make-move-answer κs a x y e f p q = p .0 ∙ sym (q .0)
+
+pub menkhodur-game-make-move-acts : OnePart menkhodur-game-make-move·k.ps menkhodur-game-make-move·k.r (λ κs x e. now (e .0)) menkhodur-game-make-move.Learnt
+menkhodur-game-make-move-acts κs a x y e f p q = p .1 .0 ∙ sym (q .1 .0)
+
+pub menkhodur-game-make-move-ps : OnePart menkhodur-game-make-move·k.ps menkhodur-game-make-move·k.r (λ κs x e. now (e .1 .0)) menkhodur-game-make-move.Learnt
+menkhodur-game-make-move-ps κs a x y e f p q = p .1 .1 ∙ sym (q .1 .1)
+
+pub menkhodur-game-offer-draw-answer : OneAnswer menkhodur-game-offer-draw·k.ps menkhodur-game-offer-draw·k.r menkhodur-game-offer-draw.Learnt
+menkhodur-game-offer-draw-answer κs a x y e f p q = p .0 ∙ sym (q .0)
+
+pub menkhodur-game-offer-draw-acts : OnePart menkhodur-game-offer-draw·k.ps menkhodur-game-offer-draw·k.r (λ κs x e. now (e .0)) menkhodur-game-offer-draw.Learnt
+menkhodur-game-offer-draw-acts κs a x y e f p q = p .1 ∙ sym (q .1)
+
+pub menkhodur-game-resign-answer : OneAnswer menkhodur-game-resign·k.ps menkhodur-game-resign·k.r menkhodur-game-resign.Learnt
+menkhodur-game-resign-answer κs a x y e f p q = p .0 ∙ sym (q .0)
+
+pub menkhodur-game-resign-acts : OnePart menkhodur-game-resign·k.ps menkhodur-game-resign·k.r (λ κs x e. now (e .0)) menkhodur-game-resign.Learnt
+menkhodur-game-resign-acts κs a x y e f p q = p .1 ∙ sym (q .1)
+
+pub menkhodur-game-accept-draw-answer : OneAnswer menkhodur-game-accept-draw·k.ps menkhodur-game-accept-draw·k.r menkhodur-game-accept-draw.Learnt
+menkhodur-game-accept-draw-answer κs a x y e f p q = p .0 ∙ sym (q .0)
+
+pub menkhodur-game-accept-draw-acts : OnePart menkhodur-game-accept-draw·k.ps menkhodur-game-accept-draw·k.r (λ κs x e. now (e .0)) menkhodur-game-accept-draw.Learnt
+menkhodur-game-accept-draw-acts κs a x y e f p q = p .1 ∙ sym (q .1)
+
+pub menkhodur-game-declare-draw-answer : OneAnswer menkhodur-game-declare-draw·k.ps menkhodur-game-declare-draw·k.r menkhodur-game-declare-draw.Learnt
+menkhodur-game-declare-draw-answer κs a x y e f p q = p .0 ∙ sym (q .0)
+
+pub menkhodur-game-declare-draw-acts : OnePart menkhodur-game-declare-draw·k.ps menkhodur-game-declare-draw·k.r (λ κs x e. now (e .0)) menkhodur-game-declare-draw.Learnt
+menkhodur-game-declare-draw-acts κs a x y e f p q = p .1 ∙ sym (q .1)
+
+pub menkhodur-game-result-answer : OneAnswer menkhodur-game-result·k.ps menkhodur-game-result·k.r menkhodur-game-result.Learnt
+menkhodur-game-result-answer κs a x y e f p q = p ∙ sym q
+
+pub menkhodur-game-can-declare-draw-answer : OneAnswer menkhodur-game-can-declare-draw·k.ps menkhodur-game-can-declare-draw·k.r menkhodur-game-can-declare-draw.Learnt
+menkhodur-game-can-declare-draw-answer κs a x y e f p q = p ∙ sym q

@@ -1,2 +1,1 @@
 pub mod MoveList
-pub mod Promises

@@ -1,3 +1,4 @@
 pub mod Finds
 pub mod Trying
 pub mod Naming
+pub mod Determined

@@ -3,3 +3,4 @@ pub mod Fields
 pub mod Repeats
 pub mod Pairs
 pub mod Used
+pub mod Determined

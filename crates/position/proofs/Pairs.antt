@@ -11,10 +11,9 @@ use borrow.Author.Tests.{le-leb, leb-true}
 use Rattle.square.specs.Numbers.{same}
 use Rattle.square.proofs.Numbers.{both-left, both-right}
 use Rattle.square.proofs.Same.{same-refl, same-eq}
-use Rattle.square.proofs.Determined.{determined}
 use Rattle.position.specs.Layout.{Position, positionSize, positionAt, positionsFrom}
 use Rattle.position.specs.Repeats.{equal, times, equalsTwoEarlier}
-use Rattle.position.specs.Promises.{EqualIsAlike, AlikeIsEqual, FindsTwo, TwoAreFound, PositionDetermined}
+use Rattle.position.specs.Promises.{EqualIsAlike, AlikeIsEqual, FindsTwo, TwoAreFound}
 use Rattle.position.proofs.Repeats.{there, two-found}
 
 pub equal-is-alike : EqualIsAlike
@@ -87,6 +86,3 @@ pub two-are-found : TwoAreFound
 two-are-found ps first last t =
     there ps first last (t .inside)
     ∙ le-leb 2 _ (two-found ps (positionAt ps last) first (t .j) (t .i) last (t .from-first) (t .apart) (t .earlier) (t .i-equal) (t .j-equal))
-
-pub position-determined : PositionDetermined
-position-determined = record { at-place = λ ps k. determined; equals-two-earlier = λ ps first last. determined }

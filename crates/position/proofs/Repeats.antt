@@ -6,7 +6,7 @@ use mathlib.Core.List.{List}
 use Prim.Native.Nat.{ℕ, zero, suc, _+_, _*_, _-_, _<_, _≤_}
 use native.Mathlib.Omega.{arith}
 use lib.Dec.{leb}
-use lib.ListN.{length, length-take, length-drop}
+use lib.ListN.{length}
 use Rattle.square.specs.Parts.{item}
 use Rattle.position.specs.Layout.{positionSize, Position, positionOf, positionAt, positionsFrom}
 use borrow.Author.Tests.{le-leb, lt-leb}

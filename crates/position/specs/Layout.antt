@@ -2,11 +2,9 @@
 -- bytes low first.
 -- Assumes nothing.
 use mathlib.Core.Path.{_≡_}
-use mathlib.Core.Bool.{Bool, true, false, _&&_}
 use mathlib.Core.List.{List, [], _∷_}
 use Prim.Native.Nat.{ℕ, zero, suc, _+_, _*_}
-use lib.Dec.{eqb}
-use lib.ListN.{length, getD, take, drop}
+use lib.ListN.{length, getD, take}
 use Rattle.square.specs.Parts.{item}
 use Rattle.board_builder.specs.BoardBuilder.{recordSize, sideAt}
 use Rattle.chess_move.specs.Number.{ofBytes}

@@ -5,8 +5,6 @@ use mathlib.Core.Bool.{true}
 use mathlib.Core.List.{List}
 use Prim.Native.Nat.{ℕ, _+_, _*_, _≤_, _<_}
 use lib.ListN.{length, take}
-use Rattle.square.specs.Determined.{Determined, Is}
-use Rattle.square.specs.Parts.{item}
 use Rattle.position.specs.Layout.{Position, positionSize, positionAt}
 use Rattle.position.specs.Repeats.{equal, equalsTwoEarlier}
 
@@ -45,8 +43,3 @@ usedTo last = positionSize * last + positionSize
 abbrev pub LooksAtNothingPast : Type 0
 LooksAtNothingPast = (ps qs : List ℕ) (first last : ℕ) → usedTo last ≤ length ps → usedTo last ≤ length qs →
     take (usedTo last) ps ≡ take (usedTo last) qs → equalsTwoEarlier ps first last ≡ equalsTwoEarlier qs first last
-
--- the contract of each public function determines its answer
-pub record PositionDetermined : Type 0 where
-  pub at-place : (ps : List ℕ) (k : ℕ) → Determined (Is (item positionSize ps k))
-  pub equals-two-earlier : (ps : List ℕ) (first last : ℕ) → Determined (Is (equalsTwoEarlier ps first last))

@@ -1,6 +1,6 @@
 -- The sixteen rows, each computed.
 -- Assumes nothing.
-use mathlib.Core.Path.{_≡_, refl}
+use mathlib.Core.Path.{refl}
 use Rattle.square.specs.Answer.{writeAnswer, writeBytes}
 use Rattle.square.specs.Ascii.{ascii}
 use Rattle.square.specs.Numbers.{allAtMost, same, among}

@@ -3,7 +3,7 @@
 use Prim.Native.Nat.{ℕ}
 use Prim.Native.String.{String}
 use mathlib.Core.Path.{_≡_}
-use mathlib.Core.List.{List, [], _∷_}
+use mathlib.Core.List.{[], _∷_}
 use Rattle.square.specs.Answer.{accepted, refused, invalidSquare, invalidUciMove}
 use Rattle.square.specs.Ascii.{ascii}
 use Rattle.chess_move.specs.Coordinate.{readMove}

@@ -6,3 +6,4 @@ pub mod Picks
 pub mod UpToThree
 pub mod Soles
 pub mod Gathers
+pub mod Determined

@@ -11,5 +11,4 @@ pub mod ReadBack
 pub mod Seven
 pub mod Hollow
 pub mod Blind
-pub mod Determined
 pub mod Slips

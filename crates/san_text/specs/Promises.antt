@@ -8,7 +8,6 @@ use mathlib.Core.Logic.{_⊎_}
 use lib.ListN.{length, take}
 use Rattle.square.specs.declared.Answer.{Answer}
 use Rattle.square.specs.Answer.{accepted, noName, outputTooShort}
-use Rattle.square.specs.Determined.{Determined, Is}
 use Rattle.square.specs.Numbers.{among}
 use Rattle.board_builder.specs.declared.BoardBuilder.{BoardBuilder}
 use Rattle.board_builder.specs.BoardBuilder.{inRange}
@@ -92,9 +91,3 @@ pub record Alike (b c : BoardBuilder) (moves : List ℕ) : Type 0 where
 abbrev pub SameSanAnswer : Type 0
 SameSanAnswer =
     (b c : BoardBuilder) (moves text : List ℕ) → inRange b ≡ true → inRange c ≡ true → Alike b c moves → fromSan b moves text ≡ fromSan c moves text
-
--- the contracts of crates san and namer determine their answers and each lent byte
-pub record SanDetermined : Type 0 where
-  pub from-san : (b : BoardBuilder) (moves text : List ℕ) → Determined (Is (fromSan b moves text))
-  pub to-san : (b : BoardBuilder) (moves : List ℕ) (m room : ℕ) → Determined (Is (nameAnswer b moves m room))
-  pub to-san-bytes : (b : BoardBuilder) (moves : List ℕ) (m : ℕ) (out : List ℕ) → Determined (Is (nameBytes b moves m out))

@@ -1,6 +1,5 @@
 pub mod Below
 pub mod Bounds
-pub mod Determined
 pub mod Entries
 pub mod Maxima
 pub mod Numbers
@@ -10,3 +9,4 @@ pub mod Same
 pub mod Squares
 pub mod Writes
 pub mod Written
+pub mod Determined

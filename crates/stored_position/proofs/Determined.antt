@@ -1,14 +1,33 @@
--- Each public function's contract says what its results equal, and so permits one.
+-- Each public function's contract, as the toolchain reads it off the source, permits one answer, and one content of each slice that is lent to be written.
 -- Assumes nothing.
-use Rattle.square.proofs.Determined.{determined}
-use Rattle.stored_position.specs.Promises.{StoredPositionDetermined}
+use mathlib.Core.Path.{sym, _∙_}
+use denote.Ref.{now}
+use Rattle.square.specs.Determined.{OneAnswer, OnePart}
+use Rattle.stored_position.proofs.check.Reads as check
+use Rattle.stored_position.proofs.check.Kinds as check·k
+use Rattle.stored_position.proofs.to_bytes.Reads as to-bytes
+use Rattle.stored_position.proofs.to_bytes.Kinds as to-bytes·k
+use Rattle.stored_position.proofs.is_position.Reads as is-position
+use Rattle.stored_position.proofs.is_position.Kinds as is-position·k
+use Rattle.stored_position.proofs.is_position_with.Reads as is-position-with
+use Rattle.stored_position.proofs.is_position_with.Kinds as is-position-with·k
+use Rattle.stored_position.proofs.lists.Reads as lists
+use Rattle.stored_position.proofs.lists.Kinds as lists·k
 
-pub stored-position-determined : StoredPositionDetermined
-stored-position-determined = record {
-  check = λ p. determined;
-  to-bytes = λ p room. determined;
-  to-bytes-bytes = λ p out. determined;
-  is-position = λ s. determined;
-  lists = λ s m. determined;
-  is-position-with = λ s m. determined;
-}
+pub check-answer : OneAnswer check·k.ps check·k.r check.Learnt
+check-answer κs a x y e f p q = p ∙ sym q
+
+pub to-bytes-answer : OneAnswer to-bytes·k.ps to-bytes·k.r to-bytes.Learnt
+to-bytes-answer κs a x y e f p q = p .0 ∙ sym (q .0)
+
+pub to-bytes-out : OnePart to-bytes·k.ps to-bytes·k.r (λ κs x e. now (e .1 .1 .1 .0)) to-bytes.Learnt
+to-bytes-out κs a x y e f p q = p .1 ∙ sym (q .1)
+
+pub is-position-answer : OneAnswer is-position·k.ps is-position·k.r is-position.Learnt
+is-position-answer κs a x y e f p q = p ∙ sym q
+
+pub is-position-with-answer : OneAnswer is-position-with·k.ps is-position-with·k.r is-position-with.Learnt
+is-position-with-answer κs a x y e f p q = p ∙ sym q
+
+pub lists-answer : OneAnswer lists·k.ps lists·k.r lists.Learnt
+lists-answer κs a x y e f p q = p ∙ sym q

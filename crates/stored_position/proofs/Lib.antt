@@ -4,5 +4,5 @@ pub mod Writes
 pub mod Listing
 pub mod Blocks
 pub mod Known
-pub mod Determined
 pub mod ReadBack
+pub mod Determined

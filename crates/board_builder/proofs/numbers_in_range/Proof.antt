@@ -1,29 +1,19 @@
 use borrow.Author.Needs.{needs}
 use native.Mathlib.Omega.{arith}
 use mathlib.Core.Path.{_≡_, _∙_, sym}
-use lib.Dec.{leb}
 use lib.ListN.{length, take, length-take}
 use borrow.Author.Tests.{eq-eqb, ne-eqb, le-leb, lt-leb}
-use Rattle.square.proofs.Maxima.{largest-at-most}
 use Rattle.board_builder.specs.BoardBuilder.{numbersInRange, inRange}
-use mathlib.Core.Path.{ap}
-use Prim.Native.Nat.{ℕ}
 use Rattle.board_builder.proofs.numbers_in_range.Statement.{statement}
 use Rattle.board_builder.proofs.numbers_in_range.Tie as tie
-use Rattle.board_builder.proofs.numbers_in_range.Reads as reads
-use Rattle.board_builder.proofs.numbers_in_range.Lts as lts
-use Rattle.square.proofs.all_at_most.Reads as all-at-most-reads
 
--- src/lib.rt:87:9
 returns : tie.Need-returns
 unfolding numbersInRange inRange
 returns c = simp (ne-eqb _ _ (c .if1 .taken))
 
--- src/lib.rt:89:12
 shared-slice-read-if2 : tie.Need-shared-slice-read-if2
 shared-slice-read-if2 c = search needs
 
--- src/lib.rt:90:9
 returns-2 : tie.Need-returns-2
 unfolding numbersInRange inRange
 returns-2 c =
@@ -33,11 +23,9 @@ returns-2 c =
     let ws : length (take 64 n) ≡ 64 = simp length-take (omega arith) in
     simp (eq-eqb _ _ w, eq-eqb _ _ ws, lt-leb _ _ (c .if2 .taken))
 
--- src/lib.rt:92:12
 shared-slice-read-if3 : tie.Need-shared-slice-read-if3
 shared-slice-read-if3 c = search needs
 
--- src/lib.rt:93:9
 returns-3 : tie.Need-returns-3
 unfolding numbersInRange inRange
 returns-3 c =
@@ -47,11 +35,9 @@ returns-3 c =
     let ws : length (take 64 n) ≡ 64 = simp length-take (omega arith) in
     simp (eq-eqb _ _ w, eq-eqb _ _ ws, le-leb _ _ (c .before .before .if2 .left), lt-leb _ _ (c .if3 .taken))
 
--- src/lib.rt:95:12
 shared-slice-read-if4 : tie.Need-shared-slice-read-if4
 shared-slice-read-if4 c = search needs
 
--- src/lib.rt:96:9
 returns-4 : tie.Need-returns-4
 unfolding numbersInRange inRange
 returns-4 c =
@@ -61,11 +47,9 @@ returns-4 c =
     let ws : length (take 64 n) ≡ 64 = simp length-take (omega arith) in
     simp (eq-eqb _ _ w, eq-eqb _ _ ws, le-leb _ _ (c .before .before .before .before .if2 .left), le-leb _ _ (c .before .before .if3 .left), lt-leb _ _ (c .if4 .taken))
 
--- src/lib.rt:98:12
 shared-slice-read-if5 : tie.Need-shared-slice-read-if5
 shared-slice-read-if5 c = search needs
 
--- src/lib.rt:99:9
 returns-5 : tie.Need-returns-5
 unfolding numbersInRange inRange
 returns-5 c =
@@ -75,15 +59,12 @@ returns-5 c =
     let ws : length (take 64 n) ≡ 64 = simp length-take (omega arith) in
     simp (eq-eqb _ _ w, eq-eqb _ _ ws, le-leb _ _ (c .before .before .before .before .before .before .if2 .left), le-leb _ _ (c .before .before .before .before .if3 .left), le-leb _ _ (c .before .before .if4 .left), lt-leb _ _ (c .if5 .taken))
 
--- src/lib.rt:101:21
 slice-aggregate-all-at-most : tie.Need-slice-aggregate-all-at-most
 slice-aggregate-all-at-most c = simp length-take (omega arith)
 
--- src/lib.rt:101:5
 all-at-most-requires : tie.Need-all-at-most-requires
 all-at-most-requires c κs = search needs
 
--- src/lib.rt:83:1
 returns-6 : tie.Need-returns-6
 unfolding numbersInRange inRange
 returns-6 c =

@@ -1,4 +1,3 @@
-use Rattle.square.specs.Parts.{item}
 use Rattle.position.specs.Layout.{positionSize}
 use Prim.Native.Nat.{_+_, _*_, _-_}
 use mathlib.Core.Path.{_≡_}

@@ -3,128 +3,88 @@ use mathlib.Core.Path.{sym}
 use lib.Seq.{length-take-le}
 use Rattle.replay.proofs.play.Statement.{statement}
 use Rattle.replay.proofs.play.Tie as tie
-use Rattle.replay.proofs.play.Reads as reads
-use Rattle.replay.proofs.play.Lts as lts
-use Rattle.replay.proofs.ask.Reads as ask-reads
-use Rattle.replay.proofs.bad_line.Reads as bad-line-reads
-use Rattle.replay.proofs.call.Reads as call-reads
-use Rattle.replay.proofs.part.at_most.Reads as at-most-reads
-use Rattle.replay.proofs.put.Reads as put-reads
-use Rattle.replay.proofs.set_up.Reads as set-up-reads
-use Rattle.replay.proofs.text.has_its_words.Reads as has-its-words-reads
-use Rattle.replay.proofs.text.is_call.Reads as is-call-reads
-use Rattle.replay.proofs.text.is_heading.Reads as is-heading-reads
-use Rattle.replay.proofs.text.is_text.Reads as is-text-reads
 
--- src/main.rt:464:8
 is-heading-requires : tie.Need-is-heading-requires
 is-heading-requires c κs = search needs
 
--- src/main.rt:465:9
 put-requires : tie.Need-put-requires
 put-requires c κs = search needs
 
--- src/main.rt:466:13
 slice-aggregate-put : tie.Need-slice-aggregate-put
 slice-aggregate-put c = search needs
 
--- src/main.rt:466:9
 put-requires-2 : tie.Need-put-requires-2
 put-requires-2 c κs = search needs
 
--- src/main.rt:467:9
 returns : tie.Need-returns
 returns c = search needs
 
--- src/main.rt:469:9
 has-its-words-requires : tie.Need-has-its-words-requires
 has-its-words-requires c κs = search needs
 
--- src/main.rt:470:9
 bad-line-requires : tie.Need-bad-line-requires
 bad-line-requires c κs = search needs
 
--- src/main.rt:470:9
 returns-2 : tie.Need-returns-2
 returns-2 c = search needs
 
--- src/main.rt:472:8
 is-text-requires : tie.Need-is-text-requires
 is-text-requires c κs = search needs
 
--- src/main.rt:473:9
 ask-requires : tie.Need-ask-requires
 ask-requires c κs = search needs
 
--- src/main.rt:473:9
 same-length : tie.Need-same-length
 same-length c = search needs
 
--- src/main.rt:473:9
 returns-3 : tie.Need-returns-3
 returns-3 c = search needs
 
--- src/main.rt:475:9
 is-call-requires : tie.Need-is-call-requires
 is-call-requires c κs = search needs
 
--- src/main.rt:476:9
 set-up-requires : tie.Need-set-up-requires
 set-up-requires c κs = search needs
 
--- src/main.rt:476:9
 same-length-2 : tie.Need-same-length-2
 same-length-2 c = search needs
 
--- src/main.rt:476:9
 same-length-3 : tie.Need-same-length-3
 same-length-3 c = search needs
 
--- src/main.rt:476:9
 returns-4 : tie.Need-returns-4
 returns-4 c = search needs
 
--- src/main.rt:478:9
 at-most-requires : tie.Need-at-most-requires
 at-most-requires c κs = search needs
 
--- src/main.rt:479:9
 at-most-requires-2 : tie.Need-at-most-requires-2
 at-most-requires-2 c κs = search needs
 
--- src/main.rt:480:16
 slice-relend-prefix-call : tie.Need-slice-relend-prefix-call
 slice-relend-prefix-call c = search needs
 
--- src/main.rt:480:16
 slice-aggregate-call : tie.Need-slice-aggregate-call
 slice-aggregate-call c = sym (length-take-le _ _ (c .before .before .at-most .ensures))
 
--- src/main.rt:480:32
 slice-relend-prefix-call-2 : tie.Need-slice-relend-prefix-call-2
 slice-relend-prefix-call-2 c = search needs
 
--- src/main.rt:480:32
 slice-aggregate-call-2 : tie.Need-slice-aggregate-call-2
 slice-aggregate-call-2 c = sym (length-take-le _ _ (c .before .before .at-most2 .ensures))
 
--- src/main.rt:480:5
 call-requires : tie.Need-call-requires
 call-requires c κs = search needs
 
--- src/main.rt:463:1
 same-length-4 : tie.Need-same-length-4
 same-length-4 c = search needs
 
--- src/main.rt:463:1
 same-length-5 : tie.Need-same-length-5
 same-length-5 c = search needs
 
--- src/main.rt:463:1
 same-length-6 : tie.Need-same-length-6
 same-length-6 c = search needs
 
--- src/main.rt:463:1
 returns-5 : tie.Need-returns-5
 returns-5 c = search needs
 

@@ -3,60 +3,43 @@ use mathlib.Core.Path.{sym}
 use lib.Seq.{length-take-le}
 use Rattle.replay.proofs.play_next.Statement.{statement}
 use Rattle.replay.proofs.play_next.Tie as tie
-use Rattle.replay.proofs.play_next.Reads as reads
-use Rattle.replay.proofs.play_next.Lts as lts
-use Rattle.replay.proofs.input.read_line.Reads as read-line-reads
-use Rattle.replay.proofs.play.Reads as play-reads
 
--- src/main.rt:510:9
 read-line-requires : tie.Need-read-line-requires
 read-line-requires c κs = search needs
 
--- src/main.rt:513:9
 same-length : tie.Need-same-length
 same-length c = search needs
 
--- src/main.rt:513:9
 same-length-2 : tie.Need-same-length-2
 same-length-2 c = search needs
 
--- src/main.rt:513:9
 returns : tie.Need-returns
 returns c = search needs
 
--- src/main.rt:516:21
 slice-reshare-prefix-play : tie.Need-slice-reshare-prefix-play
 slice-reshare-prefix-play c = search needs
 
--- src/main.rt:516:21
 slice-aggregate-play : tie.Need-slice-aggregate-play
 slice-aggregate-play c = sym (length-take-le _ _ (search needs))
 
--- src/main.rt:516:9
 play-requires : tie.Need-play-requires
 play-requires c κs = search needs
 
--- src/main.rt:506:1
 same-length-3 : tie.Need-same-length-3
 same-length-3 c = search needs
 
--- src/main.rt:506:1
 same-length-4 : tie.Need-same-length-4
 same-length-4 c = search needs
 
--- src/main.rt:506:1
 same-length-5 : tie.Need-same-length-5
 same-length-5 c = search needs
 
--- src/main.rt:506:1
 same-length-6 : tie.Need-same-length-6
 same-length-6 c = search needs
 
--- src/main.rt:506:1
 same-length-7 : tie.Need-same-length-7
 same-length-7 c = search needs
 
--- src/main.rt:506:1
 returns-2 : tie.Need-returns-2
 returns-2 c = search needs
 

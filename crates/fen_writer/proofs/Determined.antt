@@ -1,0 +1,13 @@
+-- Each public function's contract, as the toolchain reads it off the source, permits one answer, and one content of each slice that is lent to be written.
+-- Assumes nothing.
+use mathlib.Core.Path.{sym, _∙_}
+use denote.Ref.{now}
+use Rattle.square.specs.Determined.{OneAnswer, OnePart}
+use Rattle.fen_writer.proofs.write_fen.Reads as write-fen
+use Rattle.fen_writer.proofs.write_fen.Kinds as write-fen·k
+
+pub write-fen-answer : OneAnswer write-fen·k.ps write-fen·k.r write-fen.Learnt
+write-fen-answer κs a x y e f p q = p .0 ∙ sym (q .0)
+
+pub write-fen-out : OnePart write-fen·k.ps write-fen·k.r (λ κs x e. now (e .1 .0)) write-fen.Learnt
+write-fen-out κs a x y e f p q = p .1 ∙ sym (q .1)

@@ -1,0 +1,13 @@
+-- Each public function's contract, as the toolchain reads it off the source, permits one answer, and one content of each slice that is lent to be written.
+-- Assumes nothing.
+use mathlib.Core.Path.{sym, _∙_}
+use denote.Ref.{now}
+use Rattle.square.specs.Determined.{OneAnswer, OnePart}
+use Rattle.san_writer.proofs.write_san.Reads as write-san
+use Rattle.san_writer.proofs.write_san.Kinds as write-san·k
+
+pub write-san-answer : OneAnswer write-san·k.ps write-san·k.r write-san.Learnt
+write-san-answer κs a x y e f p q = p .0 ∙ sym (q .0)
+
+pub write-san-out : OnePart write-san·k.ps write-san·k.r (λ κs x e. now (e .1 .1 .1 .1 .0)) write-san.Learnt
+write-san-out κs a x y e f p q = p .1 ∙ sym (q .1)
