@@ -1,16 +1,23 @@
 /* The host's side of target/staticlib/libmenkhodur.a, for C (from C99) and C++ (from C++11).
  *
  * Numbers, records, moves, logs and texts are those of docs/papers/01-scope.md ("document 01"); the names and the order of the
- * parameters are those of docs/papers/HOST-ABI.md, and tools/abi compares both with the crate.
+ * parameters are those of docs/papers/HOST-ABI.md. tools/abi compares them, and the constants below, with the crates.
  *
  * What every function does: it answers for every value of its numbers, it ends, it keeps nothing between calls and allocates
  * nothing, and it reads and writes only what it was lent. A refused call (a number other than 0) changes no lent byte.
+ *
+ * Threads: every function may be called from any number of threads at once. What is only read may be lent to many calls at once; what
+ * one call writes, nobody else reads or writes until it has returned.
+ *
+ * Cost: a log call reads the used part of the log each time, to see that the log is good: tens of microseconds on the longest game
+ * (docs/SPEED.md has 10 for a query after 1,024 moves).
  *
  * What a caller owes:
  *   - A pointer is valid for its length: readable, and writable where it is not const. `room` and the lengths of parts and texts
  *     count bytes, `entries` counts moves.
  *   - A `const uint16_t *` list is aligned to 2 bytes. Parts and texts are bytes and need no alignment.
- *   - Parts lent to one call do not overlap.
+ *   - What a call only reads (its const pointers) may overlap, or be the same memory. What it may write (a room, a part that is not
+ *     const) overlaps nothing else that is lent to it.
  *   - NULL with length 0 is an empty text, list, part or room. This was tried for each of them (host/c/nulls.c): each works, and is
  *     answered like any other pointer with length 0. NULL with any other length is an invalid pointer; no function tests for it.
  */
@@ -19,6 +26,10 @@
 
 #include <stddef.h>
 #include <stdint.h>
+
+/* Rises by one with each landing that adds or changes a function. CHANGELOG.md tells what a host must change, and a struct that has
+ * changed says beside it since which version it is so. */
+#define MENKHODUR_VERSION 1
 
 #ifdef __cplusplus
 extern "C" {
@@ -65,10 +76,86 @@ enum {
     MENKHODUR_LAST_MOVE = 28671
 };
 
-/* Bytes of the log: an action, a position, and the two parts that are lent, which may be longer. */
+/* Colours: the side to move, and who offers or resigns. */
+enum {
+    MENKHODUR_WHITE = 0,
+    MENKHODUR_BLACK = 1
+};
+
+/* Men: what stands on a square. */
+enum {
+    MENKHODUR_EMPTY = 0,
+    MENKHODUR_WHITE_PAWN = 1,
+    MENKHODUR_WHITE_KNIGHT = 2,
+    MENKHODUR_WHITE_BISHOP = 3,
+    MENKHODUR_WHITE_ROOK = 4,
+    MENKHODUR_WHITE_QUEEN = 5,
+    MENKHODUR_WHITE_KING = 6,
+    MENKHODUR_BLACK_PAWN = 7,
+    MENKHODUR_BLACK_KNIGHT = 8,
+    MENKHODUR_BLACK_BISHOP = 9,
+    MENKHODUR_BLACK_ROOK = 10,
+    MENKHODUR_BLACK_QUEEN = 11,
+    MENKHODUR_BLACK_KING = 12
+};
+
+/* Castling rights of one colour, a bit for each side. */
+enum {
+    MENKHODUR_NO_RIGHTS = 0,
+    MENKHODUR_KING_SIDE = 1,
+    MENKHODUR_QUEEN_SIDE = 2,
+    MENKHODUR_BOTH_SIDES = 3
+};
+
+/* Promotions: what the man that moves becomes. */
+enum {
+    MENKHODUR_PROMOTE_NONE = 0,
+    MENKHODUR_PROMOTE_PAWN = 1,
+    MENKHODUR_PROMOTE_KNIGHT = 2,
+    MENKHODUR_PROMOTE_BISHOP = 3,
+    MENKHODUR_PROMOTE_ROOK = 4,
+    MENKHODUR_PROMOTE_QUEEN = 5,
+    MENKHODUR_PROMOTE_KING = 6
+};
+
+#ifdef __cplusplus
+#define MENKHODUR_CAST(type, value) (static_cast<type>(value))
+#else
+#define MENKHODUR_CAST(type, value) ((type)(value))
+#endif
+
+/* A move's number, as a uint16_t: source + 64 * destination + 4,096 * promotion. The arguments must be in range, squares of 0 to 63 and
+ * a promotion of 0 to 6, and each is evaluated once; the number is a constant if they are. Then the three parts of such a number. */
+#define MENKHODUR_MOVE(source, destination, promotion) \
+    MENKHODUR_CAST(uint16_t, MENKHODUR_CAST(unsigned, source) + 64u * MENKHODUR_CAST(unsigned, destination) \
+                                 + 4096u * MENKHODUR_CAST(unsigned, promotion))
+#define MENKHODUR_MOVE_SOURCE(move) MENKHODUR_CAST(uint8_t, MENKHODUR_CAST(unsigned, move) % 64u)
+#define MENKHODUR_MOVE_DESTINATION(move) MENKHODUR_CAST(uint8_t, MENKHODUR_CAST(unsigned, move) / 64u % 64u)
+#define MENKHODUR_MOVE_PROMOTION(move) MENKHODUR_CAST(uint8_t, MENKHODUR_CAST(unsigned, move) / 4096u)
+
+/* Kinds of action, in the order of the original's `Action`. */
+enum {
+    MENKHODUR_MAKE_MOVE = 1,
+    MENKHODUR_OFFER_DRAW = 2,
+    MENKHODUR_ACCEPT_DRAW = 3,
+    MENKHODUR_DECLARE_DRAW = 4,
+    MENKHODUR_RESIGN = 5
+};
+
+/* Bytes of the log. Action i lies from byte 4 * i of its part on: its kind, a colour, and a move of two bytes, low byte first; fields
+ * that its kind does not use are 0. Position k, the start for 0 and else the one after k moves, lies from byte 580 * k of its part on:
+ * the record in the order of menkhodur_board, an in-check byte 0 or 1, the length of its list, and 255 moves of two bytes, low byte first,
+ * unused ones 0. The two parts that are lent may be longer than the lengths here. */
 enum {
     MENKHODUR_ACTION_SIZE = 4,
+    MENKHODUR_ACTION_KIND = 0,
+    MENKHODUR_ACTION_COLOUR = 1,        /* of an offer or a resignation */
+    MENKHODUR_ACTION_MOVE = 2,          /* of a move */
     MENKHODUR_POSITION_SIZE = 580,
+    MENKHODUR_POSITION_RECORD = 0,
+    MENKHODUR_POSITION_IN_CHECK = 68,
+    MENKHODUR_POSITION_ENTRIES = 69,
+    MENKHODUR_POSITION_MOVES = 70,
     MENKHODUR_ACTIONS_LENGTH = 8192,    /* 2,048 actions */
     MENKHODUR_POSITIONS_LENGTH = 594500 /* 1,025 positions */
 };
@@ -85,7 +172,7 @@ enum {
 
 /* The board record: 68 numbers in document 01's order. A square is a rank of 0 to 7 times 8 plus a file of 0 to 7, a1 = 0. */
 typedef struct {
-    uint8_t pieces[64];          /* 0 empty, 1..6 white pawn knight bishop rook queen king, 7..12 black */
+    uint8_t pieces[64];          /* men: 0 empty, 1..6 white pawn knight bishop rook queen king, 7..12 black */
     uint8_t side_to_move;        /* 0 white, 1 black */
     uint8_t white_castle_rights; /* 0..3: 1 king side, 2 queen side, 3 both */
     uint8_t black_castle_rights; /* 0..3 */
@@ -112,6 +199,11 @@ MENKHODUR_ASSERT(sizeof(menkhodur_counts) == 24, "a number and two counts");
 MENKHODUR_ASSERT(sizeof(size_t) == 8, "lengths have 64 bits");
 #undef MENKHODUR_ASSERT
 #endif
+
+/* ---- The version -------------------------------------------------------------------------------------------------------------- */
+
+/* The archive's own MENKHODUR_VERSION: if the two differ, a program was compiled with the header of another version. */
+uint64_t menkhodur_version(void);
 
 /* ---- Squares and castling rights ---------------------------------------------------------------------------------------------- */
 
@@ -159,7 +251,7 @@ menkhodur_fen menkhodur_fen_read(const uint8_t *text, size_t length);
 menkhodur_answer menkhodur_fen_write(menkhodur_board b, uint8_t *out, size_t room);
 
 /* ---- Move texts --------------------------------------------------------------------------------------------------------------- */
-/* A move is source + 64 * destination + 4,096 * promotion (0 none, 1 to 6 pawn, knight, bishop, rook, queen, king). */
+/* A move is a number as MENKHODUR_MOVE makes it, at most 28,671. */
 
 /* Reads a coordinate text. 0: the value is the move. Refused, in this order: 3: the first pair of bytes is not there; 2: it is no
  * square; 3: the second pair is not there; 2: it is no square; 3: there are exactly five bytes, and the fifth is none of q r n b.
@@ -172,8 +264,9 @@ menkhodur_answer menkhodur_move_read(const uint8_t *text, size_t length);
 menkhodur_answer menkhodur_move_write(uint64_t move, uint8_t *out, size_t room);
 
 /* Reads a SAN text. 0: the value is the move that it names in the list. Refused, in this order: 5: a record number out of range;
- * 6: more than 255 entries, or an entry over 28,671; 4: the text is no SAN text, or not exactly one entry fits it. List and text are
- * left alone. */
+ * 6: more than 255 entries, or an entry over 28,671; 4: the text is no SAN text, or it is a castling text and its move is not listed, or
+ * it is another text and not exactly one entry fits it, or the one that fits fails the capture test (without `x` its destination must be
+ * empty, with `x` and without ` e.p.` occupied). List and text are left alone. */
 menkhodur_answer menkhodur_san_read(menkhodur_board b, const uint16_t *list, size_t entries, const uint8_t *text, size_t length);
 
 /* Writes the SAN text, 2 to 11 bytes, that menkhodur_san_read with the same record and list reads as exactly this move. 0: it is at

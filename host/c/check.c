@@ -70,6 +70,7 @@ void expect_board(const menkhodur_board *want, const menkhodur_board *got)
 
 static void print_numbers(uint32_t numbers)
 {
+    if (numbers) printf(", answers");
     for (unsigned i = 0; i < 32; i++)
         if (numbers >> i & 1) printf(" %u", i);
 }
@@ -77,7 +78,7 @@ static void print_numbers(uint32_t numbers)
 static void report_row(const struct answers *a)
 {
     about(a->function, "numbers answered");
-    printf("%-32s %8lu checks, answers", a->function, rows[row].checks);
+    printf("%-32s %8lu checks", a->function, rows[row].checks);
     print_numbers(rows[row].numbers);
     putchar('\n');
     expect("set", a->numbers, rows[row].numbers);

@@ -66,5 +66,8 @@ void check_log(void);
 void check_orders(void);
 void check_games(void);
 void check_nulls(void);
+void check_layout(void);
+void check_overlaps(void);
+void check_threads(void);
 
 #endif

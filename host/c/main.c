@@ -10,9 +10,9 @@
 
 #define N(number) (UINT32_C(1) << (number))
 
-enum { FUNCTIONS = 23 };
+enum { FUNCTIONS = 24 };
 
-/* Document 01, "Order of checks": all that each function can answer. */
+/* Document 01, "Order of checks": all that each function can answer. The version is no answer. */
 static const uint32_t range = N(0) | N(5);
 static const uint32_t query = N(0) | N(9) | N(16);
 static const uint32_t coloured = N(0) | N(5) | N(9) | N(10) | N(13) | N(16);
@@ -20,6 +20,7 @@ static const uint32_t coloured = N(0) | N(5) | N(9) | N(10) | N(13) | N(16);
 static bool report_all(void)
 {
     const struct answers all[FUNCTIONS] = {
+        { "menkhodur_version", 0 },
         { "menkhodur_make_square", range },
         { "menkhodur_rights_add", range },
         { "menkhodur_rights_remove", range },
@@ -63,5 +64,8 @@ int main(int argc, char **argv)
     check_orders();
     check_games();
     check_nulls();
+    check_layout();
+    check_overlaps();
+    check_threads();
     return report_all() ? 0 : 1;
 }

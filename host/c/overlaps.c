@@ -1,0 +1,58 @@
+/* What a call only reads may be the same memory: a list and a text, and the two parts of a query. */
+#include "game.h"
+
+enum { B1C3 = 1 + 64 * 18, B1A3 = 1 + 64 * 16, A1 = 0, B1 = 1, C1 = 2, D1 = 3 };
+
+/* The entries are moves, and the bytes of the first two begin with a text: 'N' and 'c', '3' and 0. */
+static void check_text_in_list(void)
+{
+    static const uint16_t moves[3] = { 'N' + 256 * 'c', '3', B1C3 };
+    struct part list = lend_bytes(moves, sizeof moves);
+    menkhodur_board knight = board_with(MENKHODUR_WHITE, 1, (uint8_t[]){ B1 }, (uint8_t[]){ MENKHODUR_WHITE_KNIGHT });
+    about("menkhodur_san_read", "a text that lies in the list");
+    expect_answer(MENKHODUR_ACCEPTED, B1C3, menkhodur_san_read(knight, (const uint16_t *)(const void *)list.bytes, 3, list.bytes, 3));
+    expect_answer(MENKHODUR_INVALID_SAN_MOVE, 0, menkhodur_san_read(knight, (const uint16_t *)(const void *)list.bytes, 2, list.bytes, 3));
+    expect_unchanged("list", &list);
+    give_back(&list);
+}
+
+/* One memory is both parts: the first four squares of the start are also the first action. */
+static struct game one_part(const uint8_t *first_action, uint16_t move)
+{
+    struct game g = lend_game(0, MENKHODUR_POSITIONS_LENGTH);
+    struct position p = { no_board, 0, { move }, 1 };
+    for (unsigned square = A1; square <= D1; square++) p.board.pieces[square] = first_action[square];
+    put_start(&g, &p);
+    give_back(&g.actions);
+    g.actions = g.positions;
+    return g;
+}
+
+static void check_one_part(const uint8_t *first_action, uint64_t result)
+{
+    struct game g = one_part(first_action, B1C3);
+    g.action_count = 1;
+    ask(&g, RESULT, MENKHODUR_ACCEPTED, result);
+    ask(&g, CAN_DECLARE, MENKHODUR_ACCEPTED, 0);
+    give_back(&g.positions);
+}
+
+/* The action is a move of the start's list, and the position after it follows. */
+static void check_one_part_with_move(void)
+{
+    struct game g = one_part((uint8_t[]){ MENKHODUR_MAKE_MOVE, 0, B1A3 % 256, B1A3 / 256 }, B1A3);
+    struct position next = { no_board, 0, { B1C3 }, 1 };
+    next.board.side_to_move = MENKHODUR_BLACK;
+    append(&g, (struct request){ MAKE_MOVE, B1A3, 0, &next });
+    ask(&g, RESULT, MENKHODUR_ACCEPTED, MENKHODUR_GOES_ON);
+    ask(&g, CAN_DECLARE, MENKHODUR_ACCEPTED, 0);
+    give_back(&g.positions);
+}
+
+void check_overlaps(void)
+{
+    check_text_in_list();
+    check_one_part((uint8_t[]){ MENKHODUR_OFFER_DRAW, MENKHODUR_BLACK, 0, 0 }, MENKHODUR_GOES_ON);
+    check_one_part((uint8_t[]){ MENKHODUR_RESIGN, MENKHODUR_BLACK, 0, 0 }, MENKHODUR_BLACK_RESIGNS);
+    check_one_part_with_move();
+}

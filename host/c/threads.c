@@ -1,0 +1,149 @@
+/* Every function from several threads at once: on a text, a list and a log that all of them read, and on rooms and logs of their own. */
+#include "game.h"
+
+#include <pthread.h>
+#include <stdio.h>
+#include <stdlib.h>
+#include <string.h>
+
+enum { THREADS = 4, ROUNDS = 400, ROUNDS_EXACT = 10, OWN_MOVES = 4 };
+
+static const char key[] = "rnbqkbnr/pppppppp/8/8/8/8/PPPPPPPP/RNBQKBNR w KQkq - 0 1";
+
+/* What all threads read. */
+static struct game log_of_all;
+static struct part key_of_all, name_of_all, list_of_all;
+
+/* A thread's own log, and how often it saw something else than one thread alone would. */
+struct worker {
+    pthread_t id;
+    struct game own;
+    unsigned long wrong;
+};
+
+static bool is(uint64_t number, uint64_t value, menkhodur_answer got)
+{
+    return got.number == number && got.value == value;
+}
+
+static bool is_board(const menkhodur_board *want, menkhodur_stepped got)
+{
+    return got.number == MENKHODUR_ACCEPTED && memcmp(want, &got.board, sizeof *want) == 0;
+}
+
+static const uint16_t *list_of(const struct part *p)
+{
+    return (const uint16_t *)(const void *)p->bytes;
+}
+
+static unsigned wrong_numbers(void)
+{
+    menkhodur_board b = initial;
+    unsigned wrong = menkhodur_version() != MENKHODUR_VERSION;
+    wrong += !is(MENKHODUR_ACCEPTED, 28, menkhodur_make_square(3, 4));
+    wrong += !is(MENKHODUR_ACCEPTED, MENKHODUR_BOTH_SIDES, menkhodur_rights_add(MENKHODUR_KING_SIDE, MENKHODUR_QUEEN_SIDE));
+    wrong += !is(MENKHODUR_ACCEPTED, MENKHODUR_QUEEN_SIDE, menkhodur_rights_remove(MENKHODUR_BOTH_SIDES, MENKHODUR_KING_SIDE));
+    wrong += !is(MENKHODUR_ACCEPTED, MENKHODUR_BOTH_SIDES, menkhodur_square_rights(MENKHODUR_BLACK, 60));
+    b.pieces[28] = MENKHODUR_WHITE_QUEEN;
+    wrong += !is_board(&b, menkhodur_piece(initial, 28, MENKHODUR_WHITE_QUEEN));
+    wrong += !is_board(&initial, menkhodur_clear_square(b, 28));
+    wrong += !is_board(&initial, menkhodur_side_to_move(initial, MENKHODUR_WHITE));
+    wrong += !is_board(&initial, menkhodur_castle_rights(initial, MENKHODUR_BLACK, MENKHODUR_BOTH_SIDES));
+    wrong += !is_board(&initial, menkhodur_en_passant(initial, 0));
+    return wrong;
+}
+
+static unsigned wrong_texts(void)
+{
+    uint8_t room[MENKHODUR_LONGEST_FEN];
+    menkhodur_fen fen = menkhodur_fen_read(key_of_all.bytes, key_of_all.length);
+    unsigned wrong = !is_board(&initial, (menkhodur_stepped){ fen.number, fen.board });
+    wrong += !is(MENKHODUR_ACCEPTED, strlen(key), menkhodur_fen_write(initial, room, sizeof room)) || memcmp(room, key, strlen(key)) != 0;
+    wrong += !is(MENKHODUR_ACCEPTED, 4, menkhodur_move_write(round_move(0), room, sizeof room));
+    wrong += !is(MENKHODUR_ACCEPTED, round_move(0), menkhodur_move_read(room, 4));
+    wrong += !is(MENKHODUR_ACCEPTED, round_move(0), menkhodur_san_read(initial, list_of(&list_of_all), 2, name_of_all.bytes, name_of_all.length));
+    wrong += !is(MENKHODUR_ACCEPTED, 3, menkhodur_san_name(initial, list_of(&list_of_all), 2, round_move(0), room, sizeof room));
+    return wrong + (memcmp(room, name_of_all.bytes, 3) != 0);
+}
+
+static unsigned wrong_queries(const struct game *g, uint64_t result, uint64_t claim)
+{
+    const uint8_t *a = g->actions.bytes, *p = g->positions.bytes;
+    size_t al = g->actions.length, pl = g->positions.length;
+    unsigned wrong = !is(MENKHODUR_ACCEPTED, result, menkhodur_game_result(a, al, p, pl, g->action_count, g->move_count));
+    return wrong + !is(MENKHODUR_ACCEPTED, claim, menkhodur_game_can_declare_draw(a, al, p, pl, g->action_count, g->move_count));
+}
+
+static unsigned wrong_counts(struct game *g, menkhodur_counts c, uint64_t number, uint64_t actions, uint64_t moves)
+{
+    g->action_count = c.actions;
+    g->move_count = c.moves;
+    return c.number != number || c.actions != actions || c.moves != moves;
+}
+
+/* A start with the list of all, moves, an offer that one accepts, and calls that are then refused. */
+static unsigned wrong_own(struct game *g)
+{
+    uint8_t *a = g->actions.bytes, *p = g->positions.bytes;
+    const size_t al = g->actions.length, pl = g->positions.length;
+    uint64_t n = OWN_MOVES;
+    unsigned wrong = wrong_counts(g, menkhodur_game_start(a, al, p, pl, initial, 0, list_of(&list_of_all), 2), 0, 0, 0);
+    for (uint64_t k = 0; k < n; k++) {
+        struct position next = round_position(k + 1, false);
+        menkhodur_counts c = menkhodur_game_make_move(a, al, p, pl, k, k, round_move(k), next.board, 0, next.list, next.entries);
+        wrong += wrong_counts(g, c, MENKHODUR_ACCEPTED, k + 1, k + 1);
+    }
+    wrong += wrong_counts(g, menkhodur_game_declare_draw(a, al, p, pl, n, n), MENKHODUR_NO_CLAIM, n, n);
+    wrong += wrong_counts(g, menkhodur_game_offer_draw(a, al, p, pl, n, n, MENKHODUR_WHITE), MENKHODUR_ACCEPTED, n + 1, n);
+    wrong += wrong_counts(g, menkhodur_game_accept_draw(a, al, p, pl, n + 1, n), MENKHODUR_ACCEPTED, n + 2, n);
+    wrong += wrong_counts(g, menkhodur_game_resign(a, al, p, pl, n + 2, n, MENKHODUR_BLACK), MENKHODUR_GAME_OVER, n + 2, n);
+    return wrong + wrong_queries(g, MENKHODUR_DRAW_ACCEPTED, 0);
+}
+
+static void *work(void *worker)
+{
+    struct worker *w = worker;
+    for (unsigned i = 0; i < (exact ? ROUNDS_EXACT : ROUNDS); i++)
+        w->wrong += wrong_numbers() + wrong_texts() + wrong_queries(&log_of_all, MENKHODUR_GOES_ON, 1) + wrong_own(&w->own);
+    return NULL;
+}
+
+static void run_workers(void)
+{
+    struct worker workers[THREADS] = { 0 };
+    about("threads", "%u at once", THREADS);
+    for (unsigned i = 0; i < THREADS; i++) {
+        workers[i].own = lend_game(MENKHODUR_ACTIONS_LENGTH, MENKHODUR_POSITIONS_LENGTH);
+        if (pthread_create(&workers[i].id, NULL, work, &workers[i])) {
+            puts("FAILED: no thread");
+            exit(2);
+        }
+    }
+    for (unsigned i = 0; i < THREADS; i++) {
+        pthread_join(workers[i].id, NULL);
+        expect("answers that differ", 0, workers[i].wrong);
+        give_back_game(&workers[i].own);
+    }
+}
+
+void check_threads(void)
+{
+    struct position p = round_position(0, false);
+    log_of_all = lend_game(MENKHODUR_ACTIONS_LENGTH, MENKHODUR_POSITIONS_LENGTH);
+    key_of_all = lend_text(key);
+    name_of_all = lend_text("Nf3");
+    list_of_all = lend_bytes(p.list, 2 * p.entries);
+    start(&log_of_all, &p, MENKHODUR_ACCEPTED);
+    play_round(&log_of_all, 40, false);
+    run_workers();
+    about("threads", "what all of them read");
+    expect_unchanged("actions", &log_of_all.actions);
+    expect_unchanged("positions", &log_of_all.positions);
+    expect_unchanged("text", &key_of_all);
+    expect_unchanged("name", &name_of_all);
+    expect_unchanged("list", &list_of_all);
+    give_back_game(&log_of_all);
+    give_back(&key_of_all);
+    give_back(&name_of_all);
+    give_back(&list_of_all);
+}
