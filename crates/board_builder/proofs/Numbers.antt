@@ -1,14 +1,14 @@
 -- The record's numbers as one list: there are 68 of them, and they are the record.
 -- Assumes nothing.
 use mathlib.Core.Path.{_≡_, refl, ap, _∙_, sym}
-use mathlib.Core.List.{List, [], _∷_}
-use Prim.Native.Nat.{ℕ}
+use mathlib.Core.List.{List, [], _∷_, _++_}
+use Prim.Native.Nat.{ℕ, _+_, _≤_}
 use native.Mathlib.Omega.{arith}
-use lib.ListN.{length, take, drop, length-append}
-use lib.Seq.{take-at, drop-at}
+use lib.ListN.{length, take, drop, getD, length-append, take-append-drop, drop-of-length-le}
+use lib.Seq.{take-at, drop-at, drop-cons, getD-append-add}
 use Rattle.board_builder.specs.declared.BoardBuilder.{BoardBuilder}
-use Rattle.board_builder.specs.BoardBuilder.{board, numbers}
-use Rattle.board_builder.specs.Promises.{SixtyEightNumbers, NumbersAreTheRecord}
+use Rattle.board_builder.specs.BoardBuilder.{board, numbers, squares}
+use Rattle.board_builder.specs.Promises.{SixtyEightNumbers, NumbersAreTheRecord, RecordOfNumbers, NumbersOfRecord}
 use Rattle.board_builder.proofs.Ranges.{in-range}
 
 pub sixty-eight-numbers : SixtyEightNumbers
@@ -32,3 +32,30 @@ numbers-are-the-record a b r s e =
     let same : board (a .pieces) (a .«side_to_move») (a .«white_castle_rights») (a .«black_castle_rights») (a .«en_passant»)
     ≡ board (b .pieces) (b .«side_to_move») (b .«white_castle_rights») (b .«black_castle_rights») (b .«en_passant») = cc in
     same
+
+pub record-of-numbers : RecordOfNumbers
+unfolding numbers
+record-of-numbers l long =
+    let side : drop 64 l ≡ getD l 64 0 ∷ drop 65 l = drop-cons l 64 0 (omega (arith, long)) in
+    let white : drop 65 l ≡ getD l 65 0 ∷ drop 66 l = drop-cons l 65 0 (omega (arith, long)) in
+    let black : drop 66 l ≡ getD l 66 0 ∷ drop 67 l = drop-cons l 66 0 (omega (arith, long)) in
+    let file : drop 67 l ≡ getD l 67 0 ∷ drop 68 l = drop-cons l 67 0 (omega (arith, long)) in
+    let whole : length l ≤ 68 = omega (arith, long) in
+    let end : drop 68 l ≡ [] = drop-of-length-le l whole in
+    let four : getD l 64 0 ∷ getD l 65 0 ∷ getD l 66 0 ∷ getD l 67 0 ∷ [] ≡ drop 64 l = rw (side, white, black, file, end) refl in
+    ap (λ (r : List ℕ). take squares l ++ r) four ∙ take-append-drop squares l
+
+-- the number at a place behind the squares
+behind : (b : BoardBuilder) (k : ℕ) → length (b .pieces) ≡ squares → getD (b .pieces ++ rest b) (squares + k) 0 ≡ getD (rest b) k 0
+behind b k long = ap (λ (n : ℕ). getD (b .pieces ++ rest b) (n + k) 0) (sym long) ∙ getD-append-add (b .pieces) (rest b) k 0
+
+pub numbers-of-record : NumbersOfRecord
+unfolding numbers
+numbers-of-record b r =
+    let long : length (b .pieces) ≡ squares = in-range b r .long in
+    let front : take squares (b .pieces ++ rest b) ≡ b .pieces = take-at (b .pieces) (rest b) squares long in
+    let side : getD (b .pieces ++ rest b) 64 0 ≡ b .«side_to_move» = behind b 0 long in
+    let white : getD (b .pieces ++ rest b) 65 0 ≡ b .«white_castle_rights» = behind b 1 long in
+    let black : getD (b .pieces ++ rest b) 66 0 ≡ b .«black_castle_rights» = behind b 2 long in
+    let file : getD (b .pieces ++ rest b) 67 0 ≡ b .«en_passant» = behind b 3 long in
+    rw (front, side, white, black, file) refl

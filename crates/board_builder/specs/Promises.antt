@@ -3,11 +3,12 @@
 use Prim.Native.Nat.{ℕ}
 use mathlib.Core.Path.{_≡_}
 use mathlib.Core.Bool.{Bool, true, false, _&&_}
+use mathlib.Core.List.{List}
 use lib.ListN.{length}
 use Rattle.square.specs.Answer.{outOfRange}
 use Rattle.board_builder.specs.declared.BoardBuilder.{BoardBuilder}
 use Rattle.board_builder.specs.declared.Stepped.{Stepped}
-use Rattle.board_builder.specs.BoardBuilder.{board, numbers, recordSize, inRange}
+use Rattle.board_builder.specs.BoardBuilder.{numbers, boardOf, recordSize, inRange}
 use Rattle.board_builder.specs.Steps.{stepped, step, setPiece, clearSquare, setSide, setRights, setEnPassant}
 
 -- a step hands its record back with 5, or answers 0 with a record in range
@@ -36,3 +37,10 @@ SixtyEightNumbers = (b : BoardBuilder) → inRange b ≡ true → length (number
 
 abbrev pub NumbersAreTheRecord : Type 0
 NumbersAreTheRecord = (a b : BoardBuilder) → inRange a ≡ true → inRange b ≡ true → numbers a ≡ numbers b → a ≡ b
+
+-- 68 numbers are those of the record that they stand for: the boards of the histories, which are lists, and the structs of the calls say the same
+abbrev pub RecordOfNumbers : Type 0
+RecordOfNumbers = (l : List ℕ) → length l ≡ recordSize → numbers (boardOf l) ≡ l
+
+abbrev pub NumbersOfRecord : Type 0
+NumbersOfRecord = (b : BoardBuilder) → inRange b ≡ true → boardOf (numbers b) ≡ b

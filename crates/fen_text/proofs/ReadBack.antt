@@ -13,12 +13,12 @@ use Rattle.castle_rights.specs.CastleRights.{lettersOf, lettersText}
 use Rattle.square.proofs.Below.{fails, every, below, belows, same}
 use Rattle.board_builder.specs.declared.BoardBuilder.{BoardBuilder}
 use Rattle.square.specs.Numbers.{allAtMost, among}
-use Rattle.board_builder.specs.BoardBuilder.{inRange}
 use Rattle.square.proofs.Numbers.{most-head, most-tail}
 use Rattle.board_builder.proofs.Ranges.{InRange, in-range}
 use Rattle.fen_text.specs.Token.{onto, joined, tokens}
 use Rattle.fen_text.specs.Read.{sideOf, rightsOf, enPassantOf, fenOf, assembled, ofTokens, readFen}
 use Rattle.fen_text.specs.Write.{digitText, runText, rowOf, slashText, ranksText, sideLetter, rightsText, enPassantText, tailText, fenText}
+use Rattle.fen_text.specs.Promises.{TextReadsBack}
 use Rattle.fen_text.proofs.Placed.{row-codes, placed-back}
 
 -- ---- no part of a FEN has a space in it
@@ -162,5 +162,5 @@ module _ (b : BoardBuilder) (r : InRange b) where
         lt-ltb _ _ (lt-suc (r .side)),
       )
 
-pub read-back : (b : BoardBuilder) → inRange b ≡ true → readFen (fenText b) ≡ fenOf b
+pub read-back : TextReadsBack
 read-back b good = back b (in-range b good)

@@ -19,6 +19,7 @@ fen-rows = record {
   three-tokens = refl;
   nine = refl;
   en-passant-rank = (refl, refl);
+  blacks-en-passant-rank = (refl, refl);
   bad-en-passant = (refl, refl);
   initial-read = refl;
   initial-written = refl;

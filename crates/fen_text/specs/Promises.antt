@@ -18,7 +18,7 @@ pub record Writer : Type 0 where
   pub answer : BoardBuilder → ℕ → Answer
   pub room : BoardBuilder → List ℕ → List ℕ
 
--- the writer of crate fen
+-- the writer of crate fen_writer
 abbrev pub fenWriter : Writer
 fenWriter = record { answer = λ (b : BoardBuilder) (room : ℕ). writeAnswer (fenCheck b) (fenText b) room; room = λ (b : BoardBuilder) (out : List ℕ). writeBytes (fenCheck b) (fenText b) out }
 
@@ -32,6 +32,10 @@ pub record BackAgain (w : Writer) (read : List ℕ → Fen) (b : BoardBuilder) (
 -- demand 2, of any writer and reader: each record in range, written into a room of 85 bytes or more, reads back
 abbrev pub ReadsBack : Writer → (List ℕ → Fen) → Type 0
 ReadsBack w read = (b : BoardBuilder) (out : List ℕ) → inRange b ≡ true → 85 ≤ length out → BackAgain w read b out
+
+-- the text itself, whatever the room: a record's FEN is read as the record
+abbrev pub TextReadsBack : Type 0
+TextReadsBack = (b : BoardBuilder) → inRange b ≡ true → readFen (fenText b) ≡ fenOf b
 
 -- it is kept by ours
 abbrev pub FenReadsBack : Type 0

@@ -1,4 +1,4 @@
--- The FEN rows of document 01's table, "Positions and texts to try", and the initial position of 001's test.
+-- The FEN rows of document 01's table, "Positions and texts to try", black's en passant rank, and the initial position of 001's test.
 -- Assumes nothing.
 use Prim.Native.String.{String}
 use mathlib.Core.Path.{_≡_}
@@ -20,6 +20,7 @@ pub record FenRows : Type 0 where
   pub three-tokens : Refused "8/8 w -"
   pub nine : Refused "8/8/8/8/8/8/8/9 w - -"
   pub en-passant-rank : Writes "8/8/8/8/8/8/8/8 w - e4" "8/8/8/8/8/8/8/8 w - e6 0 1"
+  pub blacks-en-passant-rank : Writes "8/8/8/8/8/8/8/8 b - e6" "8/8/8/8/8/8/8/8 b - e3 0 1"
   pub bad-en-passant : Writes "8/8/8/8/8/8/8/8 b - z9" "8/8/8/8/8/8/8/8 b - - 0 1"
   pub initial-read : readFen (ascii "rnbqkbnr/pppppppp/8/8/8/8/PPPPPPPP/RNBQKBNR w KQkq - 0 1") ≡ fenOf initialBoard
   pub initial-written : fenText initialBoard ≡ ascii "rnbqkbnr/pppppppp/8/8/8/8/PPPPPPPP/RNBQKBNR w KQkq - 0 1"

@@ -69,6 +69,15 @@ test-held false number n h = absurd (n h)
 pub test-passes : (ok : Bool) (number : ℕ) → ok ≡ true → unless ok number ≡ 0
 test-passes ok number h = rw h refl
 
+-- one check alone is its own first refusal
+pub only-check : (a : ℕ) → firstRefusal (a ∷ []) ≡ a
+unfolding firstRefusal
+only-check a = go (eqb a 0) refl
+  where
+    go : (t : Bool) → eqb a 0 ≡ t → cond t 0 a ≡ a
+    go true e = sym (eqb-true a 0 e)
+    go false e = refl
+
 one-check : (a : ℕ) → firstRefusal (a ∷ []) ≡ 0 → a ≡ 0
 one-check a h = none-refuses a [] h .0
 

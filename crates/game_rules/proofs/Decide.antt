@@ -30,7 +30,7 @@ use Rattle.stored_position.proofs.ReadBack.{position-round, one-size, written-i
 use Rattle.game_rules.specs.Limits.{Limits}
 use Rattle.game_rules.specs.Rules.{Call, makeMove, History, begun, after, isMove, actionMade, actions, moves, answer}
 use Rattle.game_rules.specs.Good.{Accepted, actionPart, positionMade, positionPart, Holding, Good, callOf, callAt, historyOf, positionHere, nextSound, sound, isGood}
-use Rattle.game_rules.specs.Promises.{GoodIsDecided}
+use Rattle.game_rules.specs.Promises.{GoodIsDecided, OneHistory}
 use Rattle.game_rules.proofs.Checks.{move-says, by-kind, no-bytes-made, no-bytes-here, call-of-action, accepted-number, accepted-action}
 
 -- a stored action is counted as a move exactly if its call is one
@@ -195,7 +195,7 @@ holding-reads L acts ps n m h a g =
     (good-reads L acts ps h a (rw (← g .action-count) (g .action-bytes)) (rw (← g .move-count) (g .position-bytes)))
 
 -- an accepted history that leaves the bytes is the one they are read as
-pub good-history : (L : Limits) (acts ps : List ℕ) (n m : ℕ) (h : History) → Accepted L h → Holding acts ps n m h → historyOf acts ps n ≡ h
+pub good-history : OneHistory
 good-history L acts ps n m h a g = holding-reads L acts ps n m h a g .history
 
 pub good-is-decided : GoodIsDecided

@@ -2,7 +2,7 @@
 -- Assumes nothing.
 use mathlib.Core.Path.{_≡_, refl, ap, ap₂, sym, subst, _∙_}
 use mathlib.Core.Bool.{true, cond, _&&_}
-use mathlib.Core.List.{List}
+use mathlib.Core.List.{List, [], _∷_}
 use Prim.Native.Nat.{ℕ, suc, _+_, _*_, _≤_}
 use native.Mathlib.Omega.{arith}
 use lib.Dec.{leb}
@@ -18,10 +18,10 @@ use Rattle.stored_position.specs.Bytes.{positionBytes, positionCheck}
 use Rattle.stored_position.proofs.ReadBack.{one-size}
 use Rattle.game_rules.specs.Limits.{Limits, actionsLength, positionsLength}
 use Rattle.game_rules.specs.Rules.{Call, History, begun, after, isMove, actionMade, actions, moves, answer}
-use Rattle.game_rules.specs.Good.{Accepted, positionMade, Holding}
-use Rattle.game_rules.specs.Calls.{longEnough, callAnswer, counts, startAnswer, positionsBegun}
-use Rattle.game_rules.specs.Promises.{Left, leftBy, called, started, played, AllAnswered0, AcceptedPlays}
-use Rattle.game_rules.proofs.Checks.{room-of-actions, log-passes, call-passes, start-passes, actions-most, moves-most}
+use Rattle.game_rules.specs.Good.{Accepted, positionMade, Holding, historyOf}
+use Rattle.game_rules.specs.Calls.{longEnough, logCheck, callAnswer, counts, startAnswer, positionsBegun, resultAnswer, claimAnswer}
+use Rattle.game_rules.specs.Promises.{EveryLogIsRuledAsPlayed, Left, leftBy, called, started, played, AllAnswered0, AcceptedPlays}
+use Rattle.game_rules.proofs.Checks.{first-passes, only-check, room-of-actions, log-passes, start-passes, actions-most, moves-most}
 use Rattle.game_rules.proofs.Decide.{positions-room, good-history, good-is-decided}
 use Rattle.game_rules.proofs.Keeps.{holding-begun, holding-after, left-accepted}
 
@@ -35,17 +35,32 @@ long-positions L acts ps e = leb-true _ _ (both-right (leb (actionsLength L) (le
 as-long : (L : Limits) (acts bacts ps qs : List ℕ) → length bacts ≡ length acts → length qs ≡ length ps → longEnough L acts ps ≡ true → longEnough L bacts qs ≡ true
 as-long L acts bacts ps qs a p e = rw (a, p) e
 
--- a call that a history accepts is answered 0 by a log that holds it
-pub answered : (L : Limits) (acts ps : List ℕ) (n m : ℕ) (h : History) (c : Call) → Accepted L h → Holding acts ps n m h → longEnough L acts ps ≡ true
-    → answer L h c ≡ 0 → callAnswer L acts ps n m c ≡ 0
-answered L acts ps n m h c a g long e =
-    call-passes L acts ps n m c
-    (log-passes L acts ps n m (record {
+-- a log that holds an accepted history passes 16 and 9
+pub held-passes : (L : Limits) (acts ps : List ℕ) (n m : ℕ) (h : History) → longEnough L acts ps ≡ true → Accepted L h → Holding acts ps n m h
+    → logCheck L acts ps n m ≡ 0
+held-passes L acts ps n m h long a g =
+    log-passes L acts ps n m (record {
       long = long;
       within = ap₂ _&&_ (le-leb n (L .most-actions) (rw (g .action-count) (actions-most L h a))) (le-leb m (L .most-moves) (rw (g .move-count) (moves-most L h a)));
       good = good-is-decided L acts ps n m .1 (h, a, g);
-    }))
-    (ap (λ (x : History). answer L x c) (good-history L acts ps n m h a g) ∙ e)
+    })
+
+-- and so answers every call and query as that history does
+pub ruled-as-played : EveryLogIsRuledAsPlayed
+unfolding callAnswer resultAnswer claimAnswer
+ruled-as-played L acts ps n m h long a g =
+    let passed : logCheck L acts ps n m ≡ 0 = held-passes L acts ps n m h long a g in
+    let one : historyOf acts ps n ≡ h = good-history L acts ps n m h a g in
+    record {
+      calls = λ c. first-passes _ (answer L (historyOf acts ps n) c ∷ []) passed ∙ only-check _ ∙ ap (λ (x : History). answer L x c) one;
+      result-told = rw (passed, one) refl;
+      claim-told = rw (passed, one) refl;
+    }
+
+-- a call that a history accepts is answered 0 by a log that holds it
+pub answered : (L : Limits) (acts ps : List ℕ) (n m : ℕ) (h : History) (c : Call) → Accepted L h → Holding acts ps n m h → longEnough L acts ps ≡ true
+    → answer L h c ≡ 0 → callAnswer L acts ps n m c ≡ 0
+answered L acts ps n m h c a g long e = ruled-as-played L acts ps n m h long a g .calls c ∙ e
 
 -- a log that was left: answered 0, holding the history, its parts long enough
 record Plays (L : Limits) (h : History) (x : Left) : Type 0 where

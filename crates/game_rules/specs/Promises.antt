@@ -1,23 +1,38 @@
 -- What is promised of the log, each as a statement that can be read by itself. All hold for any limits.
 -- Assumes nothing.
 use mathlib.Core.Path.{_≡_}
-use mathlib.Core.Bool.{true, cond}
+use mathlib.Core.Bool.{true, cond, not, _&&_}
 use mathlib.Core.Logic.{_↔_}
 use mathlib.Core.List.{List}
 use Prim.Native.Nat.{ℕ, suc, _+_, _*_}
 use lib.Dec.{eqb}
 use lib.ListN.{take}
+use Rattle.square.specs.Answer.{accepted}
 use Rattle.action.specs.Layout.{actionSize}
 use Rattle.position.specs.Layout.{Position, positionSize}
 use Rattle.game_rules.specs.declared.Counts.{Counts}
 use Rattle.game_rules.specs.Limits.{Limits}
-use Rattle.game_rules.specs.Rules.{Call, isMove, History, begun, after}
-use Rattle.game_rules.specs.Good.{Accepted, Holding, Good, isGood}
+use Rattle.game_rules.specs.Rules.{Call, isMove, History, begun, after, answer, result, ended, claimStands}
+use Rattle.game_rules.specs.Good.{Accepted, Holding, Good, historyOf, isGood}
 use Rattle.game_rules.specs.Calls.{longEnough, callAnswer, counts, countsAfter, actionsAfter, positionsAfter, startAnswer, positionsBegun, resultAnswer, claimAnswer}
 
 -- the one-pass test decides whether a log is good
 abbrev pub GoodIsDecided : Type 0
 GoodIsDecided = (L : Limits) (acts ps : List ℕ) (n m : ℕ) → (isGood L acts ps n m ≡ true) ↔ Good L acts ps n m
+
+-- the history of a good log is one, and it is the one that the contracts read off the bytes ..
+abbrev pub OneHistory : Type 0
+OneHistory = (L : Limits) (acts ps : List ℕ) (n m : ℕ) (h : History) → Accepted L h → Holding acts ps n m h → historyOf acts ps n ≡ h
+
+-- .. so that on parts that are long enough every refusal, result and claim is that of the calls that made the log
+pub record RuledAsPlayed (L : Limits) (acts ps : List ℕ) (n m : ℕ) (h : History) : Type 0 where
+  pub calls : (c : Call) → callAnswer L acts ps n m c ≡ answer L h c
+  pub result-told : resultAnswer L acts ps n m ≡ accepted (result h)
+  pub claim-told : claimAnswer L acts ps n m ≡ accepted (cond (not (ended h) && claimStands h) 1 0)
+
+abbrev pub EveryLogIsRuledAsPlayed : Type 0
+EveryLogIsRuledAsPlayed = (L : Limits) (acts ps : List ℕ) (n m : ℕ) (h : History) → longEnough L acts ps ≡ true → Accepted L h → Holding acts ps n m h
+    → RuledAsPlayed L acts ps n m h
 
 -- what a call leaves: the number and the counts that it gives back, and the two parts
 pub record Left : Type 0 where
