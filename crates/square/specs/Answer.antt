@@ -71,6 +71,10 @@ noClaim = 15
 abbrev pub partTooShort : ℕ
 partTooShort = 16
 
+-- order 1: a roll cut short or too long, with a number not shortest or out of range; bytes that are no actions
+abbrev pub badRoll : ℕ
+badRoll = 17
+
 -- 0 and the answer
 abbrev pub accepted : ℕ → Answer
 accepted v = record { number = 0; value = v }

@@ -49,6 +49,8 @@ pub const NO_CLAIM: u64 = 15;
 
 pub const PART_TOO_SHORT: u64 = 16;
 
+pub const BAD_ROLL: u64 = 17;
+
 pub fn accepted(value: u64) -> Answer
     ensures { λ r. ⌜ r ≡ accepted value ⌝ }
 {

@@ -1,0 +1,6 @@
+pub mod Numbers
+pub mod Entries
+pub mod Back
+pub mod Forth
+pub mod Bounds
+pub mod ByFields

@@ -1,0 +1,164 @@
+-- A roll (document 02, order 1): the 68 record numbers of the start, the action count, then for each action kind × 2 + colour and, for a move, the move
+-- number. Its text, and how a text is read, from the left, with the limits as an argument.
+-- Assumes nothing.
+use Prim.Native.Nat.{ℕ, zero, suc, _+_, _*_, _-_, _/_, _%_}
+use mathlib.Core.Bool.{Bool, true, false, cond, _&&_}
+use mathlib.Core.List.{List, [], _∷_, _++_}
+use lib.Dec.{eqb, leb}
+use lib.ListN.{drop, getD, replicate}
+use Rattle.square.specs.Answer.{outOfRange, logFull, badRoll}
+use Rattle.board_builder.specs.BoardBuilder.{squares}
+use Rattle.chess_move.specs.Number.{lastMove, ofBytes}
+use Rattle.action.specs.declared.Stored.{Stored}
+use Rattle.action.specs.declared.Stored.the-variants.{Holds, Nothing}
+use Rattle.action.specs.Layout.{actionSize, fields}
+use Rattle.actions.specs.Part.{actionAt}
+use Rattle.game_rules.specs.Limits.{Limits}
+use Rattle.roll_text.specs.declared.Number.{Number}
+use Rattle.roll_text.specs.declared.Number.the-variants.{Got, Bad}
+use Rattle.roll_text.specs.declared.Entry.{Entry}
+use Rattle.roll_text.specs.declared.Entry.the-variants.{Move, Plain, Stop}
+use Rattle.roll_text.specs.Number.{numberText, readNumber}
+
+
+-- ---- the record's numbers: the largest that each may be, in their order
+
+unfoldable pub largestNumbers : List ℕ
+largestNumbers = replicate squares 12 ++ (1 ∷ 3 ∷ 3 ∷ 8 ∷ [])
+
+-- as many numbers as there are bounds, none over its own
+unfoldable pub withinBounds : List ℕ → List ℕ → Bool
+withinBounds [] [] = true
+withinBounds [] (x ∷ xs) = false
+withinBounds (m ∷ ms) [] = false
+withinBounds (m ∷ ms) (x ∷ xs) = leb x m && withinBounds ms xs
+
+-- ---- the text
+
+unfoldable pub numbersText : List ℕ → List ℕ
+numbersText [] = []
+numbersText (x ∷ xs) = numberText x ++ numbersText xs
+
+abbrev pub codeOf : ℕ → ℕ → ℕ
+codeOf kind colour = kind * 2 + colour
+
+-- kind 1 is a move
+unfoldable pub actionText : ℕ → ℕ → ℕ → List ℕ
+actionText kind colour move = cond (eqb kind 1) (numberText (codeOf kind colour) ++ numberText move) (numberText (codeOf kind colour))
+
+-- the fields of the action at the front of some bytes
+abbrev pub kindAt : List ℕ → ℕ
+kindAt bs = getD bs 0 0
+
+abbrev pub colourAt : List ℕ → ℕ
+colourAt bs = getD bs 1 0
+
+abbrev pub moveNumberAt : List ℕ → ℕ
+moveNumberAt bs = ofBytes (getD bs 2 0) (getD bs 3 0)
+
+-- the first n actions of some bytes, 4 bytes each
+unfoldable pub actionsText : ℕ → List ℕ → List ℕ
+actionsText zero bs = []
+actionsText (suc n) bs = actionText (kindAt bs) (colourAt bs) (moveNumberAt bs) ++ actionsText n (drop actionSize bs)
+
+unfoldable pub rollText : List ℕ → ℕ → List ℕ → List ℕ
+rollText numbers n bs = numbersText numbers ++ (numberText n ++ actionsText n bs)
+
+-- ---- the actions of a part, as the log has them
+
+-- some bytes hold an action
+abbrev pub isHeld : Stored → Bool
+isHeld (Holds a) = true
+isHeld Nothing = false
+
+-- the first n are actions in range
+unfoldable pub actionsHeld : List ℕ → ℕ → Bool
+actionsHeld acts zero = true
+actionsHeld acts (suc i) = actionsHeld acts i && isHeld (actionAt acts i)
+
+-- the codes: 2 is a move's; 4 and 5 offers, 6 accept, 8 declare, 10 and 11 resignations
+unfoldable pub isCode : ℕ → Bool
+isCode code =
+    cond (eqb code 4) true
+    (cond (eqb code 5) true
+    (cond (eqb code 6) true
+    (cond (eqb code 8) true
+    (cond (eqb code 10) true
+    (cond (eqb code 11) true false)))))
+
+-- ---- reading, from the left
+
+-- the record's numbers and what is left of the text, or a refusal
+pub data Front : Type 0 where
+  stopped : ℕ → Front
+  front : List ℕ → List ℕ → Front
+
+unfoldable pub putNumber : ℕ → Front → Front
+putNumber x (stopped k) = stopped k
+putNumber x (front xs rest) = front (x ∷ xs) rest
+
+-- 17 for what is no number, before 5 for one over its bound
+unfoldable pub oneNumber : ℕ → Number → List ℕ → (List ℕ → Front) → Front
+oneNumber most Bad s go = stopped badRoll
+oneNumber most (Got x size) s go = cond (leb x most) (putNumber x (go (drop size s))) (stopped outOfRange)
+
+unfoldable pub readNumbers : List ℕ → List ℕ → Front
+readNumbers [] s = front [] s
+readNumbers (m ∷ ms) s = oneNumber m (readNumber s) s (λ t. readNumbers ms t)
+
+-- a move's number
+unfoldable pub movedBy : ℕ → Number → Entry
+movedBy size Bad = Stop badRoll
+movedBy size (Got move more) = cond (leb move lastMove) (Move move (size + more)) (Stop badRoll)
+
+-- `full`: no more moves may come, and 13 stands at the move's code, before its number is read
+unfoldable pub coded : Bool → List ℕ → Number → Entry
+coded full s Bad = Stop badRoll
+coded full s (Got code size) =
+    cond (eqb code 2) (cond full (Stop logFull) (movedBy size (readNumber (drop size s))))
+    (cond (isCode code) (Plain code size) (Stop badRoll))
+
+abbrev pub readEntry : Bool → List ℕ → Entry
+readEntry full s = coded full s (readNumber s)
+
+-- the actions' bytes, or a refusal
+pub data Acts : Type 0 where
+  halted : ℕ → Acts
+  acts : List ℕ → Acts
+
+unfoldable pub putAction : List ℕ → Acts → Acts
+putAction bs (halted k) = halted k
+putAction bs (acts cs) = acts (bs ++ cs)
+
+-- `left` moves may come
+unfoldable pub next : Entry → ℕ → List ℕ → (ℕ → List ℕ → Acts) → Acts
+next (Move move size) left s go = putAction (fields 1 0 move) (go (left - 1) (drop size s))
+next (Plain code size) left s go = putAction (fields (code / 2) (code % 2) 0) (go left (drop size s))
+next (Stop k) left s go = halted k
+
+-- n actions, and then the text's end
+unfoldable pub readActions : ℕ → ℕ → List ℕ → Acts
+readActions zero left [] = acts []
+readActions zero left (b ∷ bs) = halted badRoll
+readActions (suc n) left s = next (readEntry (eqb left 0) s) left s (λ l t. readActions n l t)
+
+-- a start's numbers, the action count and the actions' bytes, or a refusal
+pub data Rolled : Type 0 where
+  refusal : ℕ → Rolled
+  rolled : List ℕ → ℕ → List ℕ → Rolled
+
+unfoldable pub withActions : List ℕ → ℕ → Acts → Rolled
+withActions numbers n (halted k) = refusal k
+withActions numbers n (acts bs) = rolled numbers n bs
+
+-- 17 for what is no number, before 13 for a count over the limit
+unfoldable pub withCount : Limits → List ℕ → Number → List ℕ → Rolled
+withCount L numbers Bad s = refusal badRoll
+withCount L numbers (Got n size) s = cond (leb n (L .most-actions)) (withActions numbers n (readActions n (L .most-moves) (drop size s))) (refusal logFull)
+
+unfoldable pub withFront : Limits → Front → Rolled
+withFront L (stopped k) = refusal k
+withFront L (front numbers s) = withCount L numbers (readNumber s) s
+
+unfoldable pub readRoll : Limits → List ℕ → Rolled
+readRoll L s = withFront L (readNumbers largestNumbers s)
