@@ -1,3 +1,4 @@
 pub mod Counting
 pub mod LastAction
 pub mod Determined
+pub mod Held

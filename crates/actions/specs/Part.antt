@@ -1,6 +1,6 @@
 -- The actions part of a log (document 01, "Numbers of the record, the move and the log"): which of its actions are moves, and which action is the last.
 -- Assumes nothing.
-use mathlib.Core.Bool.{cond, _&&_}
+use mathlib.Core.Bool.{Bool, true, false, cond, _&&_}
 use mathlib.Core.List.{List}
 use Prim.Native.Nat.{ℕ, zero, suc, _+_}
 use lib.Dec.{eqb, leb}
@@ -38,6 +38,15 @@ oneIfMove kind colour number = cond (eqb kind 1) (cond (eqb colour 0 && leb numb
 unfoldable pub movesIn : List ℕ → ℕ → ℕ
 movesIn acts zero = 0
 movesIn acts (suc i) = cond (leb (moveAt acts i) lastMove) (suc (movesIn acts i)) (movesIn acts i)
+
+-- whether some bytes hold an action, and whether the first n actions do
+abbrev pub isHeld : Stored → Bool
+isHeld (Holds a) = true
+isHeld Nothing = false
+
+unfoldable pub actionsHeld : List ℕ → ℕ → Bool
+actionsHeld acts zero = true
+actionsHeld acts (suc i) = actionsHeld acts i && isHeld (actionAt acts i)
 
 -- the last of the first n actions
 unfoldable pub lastAction : List ℕ → ℕ → Stored

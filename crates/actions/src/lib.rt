@@ -9,8 +9,8 @@ ghost use Prim.Native.Nat.{min};
 ghost use Rattle.square.specs.Parts.{item};
 ghost use Rattle.chess_move.specs.Number.{numberAnswer};
 ghost use Rattle.action.specs.declared.Stored.the-variants.{Holds};
-ghost use Rattle.action.specs.Layout.{actionSize};
-ghost use Rattle.actions.specs.Part.{moveHeld, moveAt, oneIfMove, movesIn, lastAction};
+ghost use Rattle.action.specs.Layout.{actionSize, actionOf};
+ghost use Rattle.actions.specs.Part.{moveHeld, moveAt, oneIfMove, movesIn, isHeld, actionsHeld, lastAction};
 
 // More than any move's number.
 pub const NO_MOVE: u64 = LAST_MOVE + 1;
@@ -97,6 +97,29 @@ pub fn moves_in(acts: &[u8], n: usize) -> usize
         i += 1;
     }
     k
+}
+
+fn is_held(bytes: &[u8]) -> bool
+    ensures { λ r. ⌜ r ≡ isHeld (actionOf (now (bytes .entry))) ⌝ }
+{
+    match action::from_bytes(bytes) {
+        Stored::Holds(_) => true,
+        Stored::Nothing => false,
+    }
+}
+
+// Whether the first `n` actions are actions in range.
+pub fn all_held(acts: &[u8], n: usize) -> bool
+    ensures { λ r. ⌜ r ≡ actionsHeld (now (acts .entry)) n ⌝ }
+{
+    let mut i: usize = 0;
+    while i < n {
+        if !is_held(at(acts, i)) {
+            return false;
+        }
+        i += 1;
+    }
+    true
 }
 
 // The last of the first `n` actions.

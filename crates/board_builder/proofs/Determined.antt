@@ -1,7 +1,8 @@
 -- Each public function's contract, as the toolchain reads it off the source, permits one answer, and one content of each slice that is lent to be written.
 -- Assumes nothing.
 use mathlib.Core.Path.{sym, _∙_}
-use Rattle.square.specs.Determined.{OneAnswer}
+use denote.Ref.{now}
+use Rattle.square.specs.Determined.{OneAnswer, OnePart}
 use Rattle.board_builder.proofs.numbers_in_range.Reads as numbers-in-range
 use Rattle.board_builder.proofs.numbers_in_range.Kinds as numbers-in-range·k
 use Rattle.board_builder.proofs.BoardBuilder.new.Reads as new
@@ -28,6 +29,8 @@ use Rattle.board_builder.proofs.BoardBuilder.clear_square.Reads as clea
 use Rattle.board_builder.proofs.BoardBuilder.clear_square.Kinds as clear-square·k
 use Rattle.board_builder.proofs.BoardBuilder.en_passant.Reads as en-passant
 use Rattle.board_builder.proofs.BoardBuilder.en_passant.Kinds as en-passant·k
+use Rattle.board_builder.proofs.BoardBuilder.to_bytes.Reads as to-bytes
+use Rattle.board_builder.proofs.BoardBuilder.to_bytes.Kinds as to-bytes·k
 
 pub numbers-in-range-answer : OneAnswer numbers-in-range·k.ps numbers-in-range·k.r numbers-in-range.Learnt
 numbers-in-range-answer κs a x y e f p q = p ∙ sym q
@@ -67,3 +70,9 @@ clear-square-answer κs a x y e f p q = p ∙ sym q
 
 pub en-passant-answer : OneAnswer en-passant·k.ps en-passant·k.r en-passant.Learnt
 en-passant-answer κs a x y e f p q = p ∙ sym q
+
+pub to-bytes-answer : OneAnswer to-bytes·k.ps to-bytes·k.r to-bytes.Learnt
+to-bytes-answer κs a x y e f p q = p .0 ∙ sym (q .0)
+
+pub to-bytes-out : OnePart to-bytes·k.ps to-bytes·k.r (λ κs x e. now (e .1 .0)) to-bytes.Learnt
+to-bytes-out κs a x y e f p q = p .1 ∙ sym (q .1)

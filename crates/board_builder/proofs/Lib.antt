@@ -2,3 +2,4 @@ pub mod Ranges
 pub mod Stepping
 pub mod Numbers
 pub mod Determined
+pub mod Bytes

@@ -9,8 +9,9 @@ use square::OUT_OF_RANGE;
 ghost use mathlib.Core.Path.{_≡_};
 ghost use Prim.Native.Nat.{_*_, _<_, max};
 ghost use lib.ListN.{length, take, drop};
+ghost use Rattle.square.specs.Answer.{writeAnswer, writeBytes};
 ghost use Rattle.square.specs.Numbers.{allAtMost, largest};
-ghost use Rattle.board_builder.specs.BoardBuilder.{inRange, numbersInRange, emptyBoard, initialBoard};
+ghost use Rattle.board_builder.specs.BoardBuilder.{numbers, inRange, numbersInRange, emptyBoard, initialBoard};
 ghost use Rattle.board_builder.specs.Steps.{stepped, setPiece, clearSquare, setSide, setRights, setEnPassant};
 ghost use Rattle.board_builder.specs.Getters.{pieceOn, sideOf, rightsOf, enPassantSquare};
 
@@ -285,5 +286,31 @@ impl BoardBuilder {
         }
         self.en_passant = file;
         self.stepped(ACCEPTED)
+    }
+
+    fn bytes(self) -> [u8; 68]
+        ensures { λ r. ⌜ r ≡ numbers self ⌝ }
+    {
+        let pieces = self.pieces;
+        let mut text = [0u8; 68];
+        let mut i: usize = 0;
+        while i < SQUARES {
+            text[i] = pieces[i];
+            i += 1;
+        }
+        text[SIDE_AT] = self.side_to_move;
+        text[WHITE_RIGHTS_AT] = self.white_castle_rights;
+        text[BLACK_RIGHTS_AT] = self.black_castle_rights;
+        text[EN_PASSANT_AT] = self.en_passant;
+        text
+    }
+
+    // Writes the record's numbers to the front of `out`, a byte each, or answers 7 with their count.
+    pub fn to_bytes(self, out: &mut [u8]) -> Answer
+        ensures answer { λ r. ⌜ r ≡ writeAnswer 0 (numbers self) (length (now (out .entry))) ⌝ }
+        ensures bytes { λ r. ⌜ now (out .exit) ≡ writeBytes 0 (numbers self) (now (out .entry)) ⌝ }
+    {
+        let text = self.bytes();
+        square::write_text(&text, out)
     }
 }

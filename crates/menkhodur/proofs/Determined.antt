@@ -51,6 +51,10 @@ use Rattle.menkhodur.proofs.menkhodur_game_result.Reads as menkhodur-ga
 use Rattle.menkhodur.proofs.menkhodur_game_result.Kinds as menkhodur-game-result·k
 use Rattle.menkhodur.proofs.menkhodur_game_can_declare_draw.Reads as menkhodur-game-can-declare-draw
 use Rattle.menkhodur.proofs.menkhodur_game_can_declare_draw.Kinds as menkhodur-game-can-declare-draw·k
+use Rattle.menkhodur.proofs.menkhodur_roll_write.Reads as menkhodur-roll-write
+use Rattle.menkhodur.proofs.menkhodur_roll_write.Kinds as menkhodur-roll-write·k
+use Rattle.menkhodur.proofs.menkhodur_roll_read.Reads as menkhodur-roll-read
+use Rattle.menkhodur.proofs.menkhodur_roll_read.Kinds as menkhodur-roll-read·k
 
 pub menkhodur-version-answer : OneAnswer menkhodur-version·k.ps menkhodur-version·k.r menkhodur-version.Learnt
 menkhodur-version-answer κs a x y e f p q = p ∙ sym q
@@ -153,3 +157,15 @@ menkhodur-game-result-answer κs a x y e f p q = p ∙ sym q
 
 pub menkhodur-game-can-declare-draw-answer : OneAnswer menkhodur-game-can-declare-draw·k.ps menkhodur-game-can-declare-draw·k.r menkhodur-game-can-declare-draw.Learnt
 menkhodur-game-can-declare-draw-answer κs a x y e f p q = p ∙ sym q
+
+pub menkhodur-roll-write-answer : OneAnswer menkhodur-roll-write·k.ps menkhodur-roll-write·k.r menkhodur-roll-write.Learnt
+menkhodur-roll-write-answer κs a x y e f p q = p .0 ∙ sym (q .0)
+
+pub menkhodur-roll-write-out : OnePart menkhodur-roll-write·k.ps menkhodur-roll-write·k.r (λ κs x e. now (e .1 .1 .1 .0)) menkhodur-roll-write.Learnt
+menkhodur-roll-write-out κs a x y e f p q = p .1 ∙ sym (q .1)
+
+pub menkhodur-roll-read-answer : OneAnswer menkhodur-roll-read·k.ps menkhodur-roll-read·k.r menkhodur-roll-read.Learnt
+menkhodur-roll-read-answer κs a x y e f p q = p .0 ∙ sym (q .0)
+
+pub menkhodur-roll-read-acts : OnePart menkhodur-roll-read·k.ps menkhodur-roll-read·k.r (λ κs x e. now (e .1 .0)) menkhodur-roll-read.Learnt
+menkhodur-roll-read-acts κs a x y e f p q = p .1 ∙ sym (q .1)

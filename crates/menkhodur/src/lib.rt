@@ -3,6 +3,7 @@ use board_builder::BoardBuilder;
 use board_builder::Stepped;
 use fen_text::Fen;
 use game_rules::Counts;
+use roll_text::Roll;
 use square::Answer;
 ghost use mathlib.Core.Path.{_≡_};
 ghost use lib.ListN.{length};
@@ -19,6 +20,7 @@ ghost use Rattle.stored_position.specs.Bytes.{positionGiven};
 ghost use Rattle.game_rules.specs.Limits.{limits};
 ghost use Rattle.game_rules.specs.Rules.{makeMove, offerDraw, acceptDraw, declareDraw, resign};
 ghost use Rattle.game_rules.specs.Calls.{callAnswer, counts, countsAfter, actionsAfter, positionsAfter, startAnswer, positionsBegun, resultAnswer, claimAnswer};
+ghost use Rattle.roll_text.specs.Calls.{writeCheck, gameText, judged, rollAnswer, rollOver};
 
 #[no_mangle]
 pub extern "C" fn menkhodur_version() -> u64
@@ -228,4 +230,25 @@ pub extern "C" fn menkhodur_game_can_declare_draw(acts: &[u8], ps: &[u8], n: u64
     ensures { λ r. ⌜ r ≡ claimAnswer limits (now (acts .entry)) (now (ps .entry)) n m ⌝ }
 {
     game::can_declare_draw(acts, ps, n, m)
+}
+
+#[no_mangle]
+pub extern "C" fn menkhodur_roll_write(
+    b: BoardBuilder,
+    acts: &[u8],
+    n: u64,
+    out: &mut [u8],
+) -> Answer
+    ensures answer { λ r. ⌜ r ≡ writeAnswer (writeCheck limits b (now (acts .entry)) n) (gameText b (now (acts .entry)) n) (length (now (out .entry))) ⌝ }
+    ensures bytes { λ r. ⌜ now (out .exit) ≡ writeBytes (writeCheck limits b (now (acts .entry)) n) (gameText b (now (acts .entry)) n) (now (out .entry)) ⌝ }
+{
+    roll_writer::write(b, acts, n, out)
+}
+
+#[no_mangle]
+pub extern "C" fn menkhodur_roll_read(roll: &[u8], acts: &mut [u8]) -> Roll
+    ensures answer { λ r. ⌜ r ≡ rollAnswer (judged limits (now (roll .entry)) (length (now (acts .entry)))) ⌝ }
+    ensures bytes { λ r. ⌜ now (acts .exit) ≡ rollOver (judged limits (now (roll .entry)) (length (now (acts .entry)))) (now (acts .entry)) ⌝ }
+{
+    roll_reader::read(roll, acts)
 }

@@ -15,13 +15,13 @@ use Rattle.square.proofs.Numbers.{most-cons, most-drop}
 use Rattle.chess_move.specs.Number.{lastMove}
 use Rattle.action.specs.Layout.{actionSize, fields}
 use Rattle.game_rules.specs.Limits.{Limits}
-use Rattle.actions.specs.Part.{oneIfMove, movesIn}
+use Rattle.actions.specs.Part.{oneIfMove, movesIn, actionsHeld}
 use Rattle.roll_text.specs.declared.Number.{Number}
 use Rattle.roll_text.specs.declared.Number.the-variants.{Got, Bad}
 use Rattle.roll_text.specs.declared.Entry.{Entry}
 use Rattle.roll_text.specs.declared.Entry.the-variants.{Move, Plain, Stop}
 use Rattle.roll_text.specs.Number.{numberText, readNumber}
-use Rattle.roll_text.specs.Roll.{actionsHeld, Front, stopped, front, Acts, halted, acts, refusal, rolled, largestNumbers, withinBounds, numbersText, actionText, actionsText, rollText, isCode, putNumber, oneNumber, readNumbers, movedBy, coded, readEntry, putAction, next, readActions, withActions, withCount, withFront, readRoll}
+use Rattle.roll_text.specs.Roll.{Front, stopped, front, Acts, halted, acts, refusal, rolled, largestNumbers, withinBounds, numbersText, actionText, actionsText, rollText, isCode, putNumber, oneNumber, readNumbers, movedBy, coded, readEntry, putAction, next, readActions, withActions, withCount, withFront, readRoll}
 use Rattle.roll_text.proofs.ByFields.{moveInRange, actionInRange, actionsInRange, movesAmong, held-in-range, as-many-moves}
 use Rattle.roll_text.specs.Promises.{WrittenBack, AcceptedWrittenBack, OneRoll, OneGame}
 use Rattle.roll_text.proofs.Numbers.{accepted-is-shortest}

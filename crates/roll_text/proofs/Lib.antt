@@ -4,3 +4,4 @@ pub mod Back
 pub mod Forth
 pub mod Bounds
 pub mod ByFields
+pub mod Plain

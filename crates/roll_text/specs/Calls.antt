@@ -8,11 +8,11 @@ use lib.ListN.{length}
 use Rattle.square.specs.Answer.{outOfRange, logFull, partTooShort, badRoll, overwrite}
 use Rattle.board_builder.specs.declared.BoardBuilder.{BoardBuilder}
 use Rattle.board_builder.specs.BoardBuilder.{boardOf, emptyBoard, inRange, numbers}
-use Rattle.actions.specs.Part.{movesIn}
+use Rattle.actions.specs.Part.{movesIn, actionsHeld}
 use Rattle.game_rules.specs.Limits.{Limits, actionsLength}
 use Rattle.roll_text.specs.declared.Fields.{Fields}
 use Rattle.roll_text.specs.declared.Roll.{Roll}
-use Rattle.roll_text.specs.Roll.{Front, stopped, front, Acts, halted, acts, Rolled, refusal, rolled, kindAt, colourAt, moveNumberAt, actionsHeld, rollText, readRoll}
+use Rattle.roll_text.specs.Roll.{Front, stopped, front, Acts, halted, acts, Rolled, refusal, rolled, kindAt, colourAt, moveNumberAt, rollText, readRoll}
 
 abbrev pub fieldsAt : List ℕ → Fields
 fieldsAt bs = record { kind = kindAt bs; colour = colourAt bs; number = moveNumberAt bs }
@@ -56,8 +56,8 @@ writeCheck L b part n =
     (cond (actionsHeld part n) 0 badRoll)))
     outOfRange)
 
-abbrev pub written : BoardBuilder → List ℕ → ℕ → List ℕ
-written b part n = rollText (numbers b) n part
+abbrev pub gameText : BoardBuilder → List ℕ → ℕ → List ℕ
+gameText b part n = rollText (numbers b) n part
 
 -- no refusal
 unfoldable pub isActs : Acts → Bool

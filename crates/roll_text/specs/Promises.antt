@@ -8,10 +8,10 @@ use lib.ListN.{length}
 use Rattle.square.specs.Numbers.{allAtMost}
 use Rattle.board_builder.specs.BoardBuilder.{numbersInRange}
 use Rattle.action.specs.Layout.{actionSize}
-use Rattle.actions.specs.Part.{movesIn}
+use Rattle.actions.specs.Part.{movesIn, actionsHeld}
 use Rattle.game_rules.specs.Limits.{Limits}
 use Rattle.roll_text.specs.Number.{mostGroups, reach}
-use Rattle.roll_text.specs.Roll.{rolled, largestNumbers, withinBounds, rollText, actionsHeld, readRoll}
+use Rattle.roll_text.specs.Roll.{rolled, largestNumbers, withinBounds, rollText, readRoll}
 
 -- a start with n actions in range, within the limits: each of the bytes is one, and there are no others
 pub record Game (L : Limits) (numbers : List ℕ) (n : ℕ) (bs : List ℕ) : Type 0 where

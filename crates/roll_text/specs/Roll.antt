@@ -9,10 +9,7 @@ use lib.ListN.{drop, getD, replicate}
 use Rattle.square.specs.Answer.{outOfRange, logFull, badRoll}
 use Rattle.board_builder.specs.BoardBuilder.{squares}
 use Rattle.chess_move.specs.Number.{lastMove, ofBytes}
-use Rattle.action.specs.declared.Stored.{Stored}
-use Rattle.action.specs.declared.Stored.the-variants.{Holds, Nothing}
 use Rattle.action.specs.Layout.{actionSize, fields}
-use Rattle.actions.specs.Part.{actionAt}
 use Rattle.game_rules.specs.Limits.{Limits}
 use Rattle.roll_text.specs.declared.Number.{Number}
 use Rattle.roll_text.specs.declared.Number.the-variants.{Got, Bad}
@@ -63,18 +60,6 @@ actionsText (suc n) bs = actionText (kindAt bs) (colourAt bs) (moveNumberAt bs) 
 
 unfoldable pub rollText : List ℕ → ℕ → List ℕ → List ℕ
 rollText numbers n bs = numbersText numbers ++ (numberText n ++ actionsText n bs)
-
--- ---- the actions of a part, as the log has them
-
--- some bytes hold an action
-abbrev pub isHeld : Stored → Bool
-isHeld (Holds a) = true
-isHeld Nothing = false
-
--- the first n are actions in range
-unfoldable pub actionsHeld : List ℕ → ℕ → Bool
-actionsHeld acts zero = true
-actionsHeld acts (suc i) = actionsHeld acts i && isHeld (actionAt acts i)
 
 -- the codes: 2 is a move's; 4 and 5 offers, 6 accept, 8 declare, 10 and 11 resignations
 unfoldable pub isCode : ℕ → Bool

@@ -11,6 +11,10 @@ use Rattle.square.proofs.refused.Reads as refused
 use Rattle.square.proofs.refused.Kinds as refused·k
 use Rattle.square.proofs.write_text.Reads as write-text
 use Rattle.square.proofs.write_text.Kinds as write-text·k
+use Rattle.square.proofs.front.Reads as front
+use Rattle.square.proofs.front.Kinds as front·k
+use Rattle.square.proofs.rest.Reads as rest
+use Rattle.square.proofs.rest.Kinds as rest·k
 use Rattle.square.proofs.same_bytes.Reads as same-bytes
 use Rattle.square.proofs.same_bytes.Kinds as same-bytes·k
 use Rattle.square.proofs.make_square.Reads as make-square
@@ -56,6 +60,12 @@ write-text-answer κs a x y e f p q = p .0 ∙ sym (q .0)
 
 pub write-text-out : OnePart write-text·k.ps write-text·k.r (λ κs x e. now (e .1 .0)) write-text.Learnt
 write-text-out κs a x y e f p q = p .1 ∙ sym (q .1)
+
+pub front-answer : OnePart front·k.ps front·k.r (λ κs x e. now x) front.Learnt
+front-answer κs a x y e f p q = p ∙ sym q
+
+pub rest-answer : OnePart rest·k.ps rest·k.r (λ κs x e. now x) rest.Learnt
+rest-answer κs a x y e f p q = p ∙ sym q
 
 pub same-bytes-answer : OneAnswer same-bytes·k.ps same-bytes·k.r same-bytes.Learnt
 same-bytes-answer κs a x y e f p q = p ∙ sym q

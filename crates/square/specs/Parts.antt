@@ -11,3 +11,10 @@ item size part k = take size (drop (size * k) part)
 -- the part with some bytes over what stood from a place on
 abbrev pub written : List ℕ → ℕ → List ℕ → List ℕ
 written part at bytes = take at part ++ bytes ++ drop (at + length bytes) part
+
+-- the first n bytes of a part, or all there are, and what is left behind them
+abbrev pub frontOf : List ℕ → ℕ → List ℕ
+frontOf part n = take n part
+
+abbrev pub restOf : List ℕ → ℕ → List ℕ
+restOf part n = drop n part

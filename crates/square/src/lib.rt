@@ -6,6 +6,7 @@ ghost use lib.ListN.{length};
 ghost use Rattle.square.specs.Answer.{accepted, refused, writeAnswer, writeBytes};
 ghost use Rattle.square.specs.Numbers.{allAtMost, numberAt, same, either, both};
 ghost use Rattle.square.specs.Square.{makeSquare, rankOf, fileOf, backRank, squareNamed, readSquare, squareText, squareCheck};
+ghost use Rattle.square.specs.Parts.{frontOf, restOf};
 ghost use Rattle.square.specs.Piece.{pieceOf, letterOf, kindOf};
 
 // What a call answers: its number in document 01's table, and the value that comes with it.
@@ -90,6 +91,20 @@ pub fn write_text(text: &[u8], out: &mut [u8]) -> Answer
         i += 1;
     }
     accepted(needed as u64)
+}
+
+// The first `n` bytes, or all there are.
+pub fn front(s: &[u8], n: usize) -> &[u8]
+    ensures { λ r. ⌜ now r ≡ frontOf (now (s .entry)) n ⌝ }
+{
+    if n <= s.len() { &s[..n] } else { s }
+}
+
+// What is left after `n` bytes.
+pub fn rest(s: &[u8], n: usize) -> &[u8]
+    ensures { λ r. ⌜ now r ≡ restOf (now (s .entry)) n ⌝ }
+{
+    if n <= s.len() { &s[n..] } else { &s[..0] }
 }
 
 pub fn same_bytes(a: &[u8], b: &[u8]) -> bool

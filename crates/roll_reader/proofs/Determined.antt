@@ -1,0 +1,13 @@
+-- Each public function's contract, as the toolchain reads it off the source, permits one answer, and one content of each slice that is lent to be written.
+-- Assumes nothing.
+use mathlib.Core.Path.{sym, _∙_}
+use denote.Ref.{now}
+use Rattle.square.specs.Determined.{OneAnswer, OnePart}
+use Rattle.roll_reader.proofs.read.Reads as read
+use Rattle.roll_reader.proofs.read.Kinds as read·k
+
+pub read-answer : OneAnswer read·k.ps read·k.r read.Learnt
+read-answer κs a x y e f p q = p .0 ∙ sym (q .0)
+
+pub read-part : OnePart read·k.ps read·k.r (λ κs x e. now (e .1 .0)) read.Learnt
+read-part κs a x y e f p q = p .1 ∙ sym (q .1)

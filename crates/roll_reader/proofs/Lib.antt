@@ -1,0 +1,6 @@
+pub mod Laws
+pub mod Reading
+pub mod Fronts
+pub mod Answers
+pub mod Writing
+pub mod Determined

@@ -1,0 +1,91 @@
+use mathlib.Core.Path.{_≡_, ap, sym, _∙_}
+use native.Mathlib.Omega.{arith}
+use Prim.Native.Nat.{_-_, _≤_}
+use lib.ListN.{length, drop}
+use borrow.Author.Needs.{needs}
+use Rattle.roll_text.specs.Roll.{readActions}
+use Rattle.roll_text.specs.Calls.{actsNumber}
+use Rattle.roll_reader.proofs.Reading.{move-turn, plain-turn, stop-turn, judged-move, judged-plain, judged-end, judged-long, number-halted}
+use Rattle.roll_reader.proofs.judge_actions.Statement.{statement}
+use Rattle.roll_reader.proofs.judge_actions.Tie as tie
+
+abbrev Inv-loop : tie.InvT-loop
+Inv-loop s n most at₀ left₀ i₀ at left i = (i ≤ n) × (at ≤ length s) × (actsNumber (readActions n most s) ≡ actsNumber (readActions (n - i) left (drop at s)))
+
+abbrev μ-loop : tie.MeasureT-loop
+μ-loop s n most at₀ left₀ i₀ at left i = n - i
+
+loop-holds : tie.Need-loop-holds Inv-loop μ-loop
+loop-holds c = (omega arith, omega arith, (let z : c .before .args .n - 0 ≡ c .before .args .n = omega arith in rw z))
+
+rest-requires : tie.Need-rest-requires Inv-loop μ-loop
+rest-requires c κs = search needs
+
+read-entry-requires : tie.Need-read-entry-requires Inv-loop μ-loop
+read-entry-requires c κs = search needs
+
+add-i : tie.Need-add-i Inv-loop μ-loop
+add-i c = search needs
+
+enum-known-e : tie.Need-enum-known-e Inv-loop μ-loop
+enum-known-e c = search needs
+
+add-at : tie.Need-add-at Inv-loop μ-loop
+add-at c = let t = move-turn (c .before .before .before .before .before .before .before .before .args .n - c .before .before .before .before .before .before .loop .i) (c .before .before .before .before .before .before .loop .left) (c .before .before .before .before .before .before .loop .at) (c .before .before .before .before .before .before .before .before .args .s .now) _ _ (omega (arith, c .before .before .before .before .before .loop-test .taken)) (c .before .before .before .before .before .before .loop .inv .1) (c .before .before .before .before .rest .ensures) (c .before .before .before .read-entry .ensures) _ _ (c .before .e .given .1) in omega (arith, t .inside)
+
+sub-left : tie.Need-sub-left Inv-loop μ-loop
+sub-left c = let t = move-turn (c .before .before .before .before .before .before .before .before .args .n - c .before .before .before .before .before .before .loop .i) (c .before .before .before .before .before .before .loop .left) (c .before .before .before .before .before .before .loop .at) (c .before .before .before .before .before .before .before .before .args .s .now) _ _ (omega (arith, c .before .before .before .before .before .loop-test .taken)) (c .before .before .before .before .before .before .loop .inv .1) (c .before .before .before .before .rest .ensures) (c .before .before .before .read-entry .ensures) _ _ (c .before .e .given .1) in t .some
+
+loop-less : tie.Need-loop-less Inv-loop μ-loop
+loop-less c = omega (arith, c .before .before .before .before .before .loop-test .taken)
+
+loop-again : tie.Need-loop-again Inv-loop μ-loop
+loop-again c = let t = move-turn (c .before .before .before .before .before .before .before .before .args .n - c .before .before .before .before .before .before .loop .i) (c .before .before .before .before .before .before .loop .left) (c .before .before .before .before .before .before .loop .at) (c .before .before .before .before .before .before .before .before .args .s .now) _ _ (omega (arith, c .before .before .before .before .before .loop-test .taken)) (c .before .before .before .before .before .before .loop .inv .1) (c .before .before .before .before .rest .ensures) (c .before .before .before .read-entry .ensures) _ _ (c .before .e .given .1) in (omega (arith, c .before .before .before .before .before .loop-test .taken), t .inside, judged-move (actsNumber (readActions (c .before .before .before .before .before .before .before .before .args .n) (c .before .before .before .before .before .before .before .before .args .most) (c .before .before .before .before .before .before .before .before .args .s .now))) (c .before .before .before .before .before .before .before .before .args .n) (c .before .before .before .before .before .before .loop .i) (c .before .before .before .before .before .before .loop .left) (c .before .before .before .before .before .before .loop .at) (c .before .before .before .before .before .before .before .before .args .s .now) _ _ t (c .before .before .before .before .before .before .loop .inv .2))
+
+enum-known-e-2 : tie.Need-enum-known-e-2 Inv-loop μ-loop
+enum-known-e-2 c = search needs
+
+add-at-2 : tie.Need-add-at-2 Inv-loop μ-loop
+add-at-2 c = let t = plain-turn (c .before .before .before .before .before .before .before .before .args .n - c .before .before .before .before .before .before .loop .i) (c .before .before .before .before .before .before .loop .left) (c .before .before .before .before .before .before .loop .at) (c .before .before .before .before .before .before .before .before .args .s .now) _ _ (omega (arith, c .before .before .before .before .before .loop-test .taken)) (c .before .before .before .before .before .before .loop .inv .1) (c .before .before .before .before .rest .ensures) (c .before .before .before .read-entry .ensures) _ _ (c .before .e2 .given .1) in omega (arith, t .inside)
+
+loop-less-2 : tie.Need-loop-less-2 Inv-loop μ-loop
+loop-less-2 c = omega (arith, c .before .before .before .before .before .loop-test .taken)
+
+loop-again-2 : tie.Need-loop-again-2 Inv-loop μ-loop
+loop-again-2 c = let t = plain-turn (c .before .before .before .before .before .before .before .before .args .n - c .before .before .before .before .before .before .loop .i) (c .before .before .before .before .before .before .loop .left) (c .before .before .before .before .before .before .loop .at) (c .before .before .before .before .before .before .before .before .args .s .now) _ _ (omega (arith, c .before .before .before .before .before .loop-test .taken)) (c .before .before .before .before .before .before .loop .inv .1) (c .before .before .before .before .rest .ensures) (c .before .before .before .read-entry .ensures) _ _ (c .before .e2 .given .1) in (omega (arith, c .before .before .before .before .before .loop-test .taken), t .inside, judged-plain (actsNumber (readActions (c .before .before .before .before .before .before .before .before .args .n) (c .before .before .before .before .before .before .before .before .args .most) (c .before .before .before .before .before .before .before .before .args .s .now))) (c .before .before .before .before .before .before .before .before .args .n) (c .before .before .before .before .before .before .loop .i) (c .before .before .before .before .before .before .loop .left) (c .before .before .before .before .before .before .loop .at) (c .before .before .before .before .before .before .before .before .args .s .now) _ _ t (c .before .before .before .before .before .before .loop .inv .2))
+
+enum-known-e-3 : tie.Need-enum-known-e-3 Inv-loop μ-loop
+enum-known-e-3 c = search needs
+
+returns : tie.Need-returns Inv-loop μ-loop
+returns c = sym (c .before .before .before .before .before .before .loop .inv .2 ∙ ap actsNumber (stop-turn (c .before .before .before .before .before .before .before .before .args .n - c .before .before .before .before .before .before .loop .i) (c .before .before .before .before .before .before .loop .left) (c .before .before .before .before .before .before .loop .at) (c .before .before .before .before .before .before .before .before .args .s .now) _ _ (omega (arith, c .before .before .before .before .before .loop-test .taken)) (c .before .before .before .before .before .before .loop .inv .1) (c .before .before .before .before .rest .ensures) (c .before .before .before .read-entry .ensures) _ (c .before .e3 .given .1)) ∙ number-halted _)
+
+returns-2 : tie.Need-returns-2 Inv-loop μ-loop
+returns-2 c = judged-long (actsNumber (readActions (c .before .before .before .before .args .n) (c .before .before .before .before .args .most) (c .before .before .before .before .args .s .now))) (c .before .before .before .before .args .n) (c .before .before .loop .i) (c .before .before .loop .left) (c .before .before .loop .at) (c .before .before .before .before .args .s .now) (c .before .loop-test .left) (c .if1 .taken) (c .before .before .loop .inv .2)
+
+returns-3 : tie.Need-returns-3 Inv-loop μ-loop
+returns-3 c = judged-end (actsNumber (readActions (c .before .before .before .before .args .n) (c .before .before .before .before .args .most) (c .before .before .before .before .args .s .now))) (c .before .before .before .before .args .n) (c .before .before .loop .i) (c .before .before .loop .left) (c .before .before .loop .at) (c .before .before .before .before .args .s .now) (c .before .loop-test .left) (c .if1 .left) (c .before .before .loop .inv .2)
+
+pub judge-actions-spec : {M : Type 1} → statement M
+judge-actions-spec =
+    tie.close
+    (tie.spec
+    Inv-loop
+    μ-loop
+    loop-holds
+    rest-requires
+    read-entry-requires
+    add-i
+    enum-known-e
+    add-at
+    sub-left
+    loop-less
+    loop-again
+    enum-known-e-2
+    add-at-2
+    loop-less-2
+    loop-again-2
+    enum-known-e-3
+    returns
+    returns-2
+    returns-3)

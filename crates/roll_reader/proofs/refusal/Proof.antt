@@ -1,0 +1,14 @@
+use borrow.Author.Needs.{needs}
+use Rattle.roll_text.specs.Calls.{rollAnswer}
+use Rattle.roll_reader.proofs.refusal.Statement.{statement}
+use Rattle.roll_reader.proofs.refusal.Tie as tie
+
+new-requires : tie.Need-new-requires
+new-requires c κs = search needs
+
+returns : tie.Need-returns
+unfolding rollAnswer
+returns c = rw (c .new .ensures)
+
+pub refusal-spec : {M : Type 1} → statement M
+refusal-spec = tie.close (tie.spec new-requires returns)

@@ -1,0 +1,5 @@
+pub mod Laws
+pub mod Counting
+pub mod Checks
+pub mod Whole
+pub mod Determined
