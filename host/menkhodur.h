@@ -1,7 +1,8 @@
 /* The host's side of target/staticlib/libmenkhodur.a, for C (from C99) and C++ (from C++11).
  *
- * Numbers, records, moves, logs and texts are those of docs/papers/01-scope.md ("document 01"); the names and the order of the
- * parameters are those of docs/papers/HOST-ABI.md. tools/abi compares them, and the constants below, with the crates.
+ * Numbers, records, moves, logs and texts are those of docs/papers/01-scope.md ("document 01"), rolls those of
+ * docs/papers/02-change-requests.md ("document 02"); the names and the order of the parameters are those of docs/papers/HOST-ABI.md.
+ * tools/abi compares them, and the constants below, with the crates.
  *
  * What every function does: it answers for every value of its numbers, it ends, it keeps nothing between calls and allocates
  * nothing, and it reads and writes only what it was lent. A refused call (a number other than 0) changes no lent byte.
@@ -13,13 +14,13 @@
  * (docs/SPEED.md has 10 for a query after 1,024 moves).
  *
  * What a caller owes:
- *   - A pointer is valid for its length: readable, and writable where it is not const. `room` and the lengths of parts and texts
- *     count bytes, `entries` counts moves.
- *   - A `const uint16_t *` list is aligned to 2 bytes. Parts and texts are bytes and need no alignment.
+ *   - A pointer is valid for its length: readable, and writable where it is not const. `room` and the lengths of parts, texts
+ *     and rolls count bytes, `entries` counts moves.
+ *   - A `const uint16_t *` list is aligned to 2 bytes. Parts, texts and rolls are bytes and need no alignment.
  *   - What a call only reads (its const pointers) may overlap, or be the same memory. What it may write (a room, a part that is not
  *     const) overlaps nothing else that is lent to it.
- *   - NULL with length 0 is an empty text, list, part or room. This was tried for each of them (host/c/nulls.c): each works, and is
- *     answered like any other pointer with length 0. NULL with any other length is an invalid pointer; no function tests for it.
+ *   - NULL with length 0 is an empty text, list, part, roll or room. This was tried for each of them (host/c/nulls.c): each works, and
+ *     is answered like any other pointer with length 0. NULL with any other length is an invalid pointer; no function tests for it.
  */
 #ifndef MENKHODUR_H
 #define MENKHODUR_H
@@ -29,13 +30,13 @@
 
 /* Rises by one with each landing that adds or changes a function. CHANGELOG.md tells what a host must change, and a struct that has
  * changed says beside it since which version it is so. */
-#define MENKHODUR_VERSION 1
+#define MENKHODUR_VERSION 2
 
 #ifdef __cplusplus
 extern "C" {
 #endif
 
-/* Answer numbers: document 01's table. */
+/* Answer numbers: document 01's table, and from 17 on document 02's. */
 enum {
     MENKHODUR_ACCEPTED = 0,
     MENKHODUR_INVALID_FEN = 1,
@@ -50,10 +51,11 @@ enum {
     MENKHODUR_GAME_OVER = 10,
     MENKHODUR_NOT_LISTED = 11,
     MENKHODUR_WRONG_SIDE = 12,      /* next position has the wrong side to move */
-    MENKHODUR_LOG_FULL = 13,        /* 2,048 actions reached, or for a move 1,024 moves */
+    MENKHODUR_LOG_FULL = 13,        /* 2,048 actions reached, or for a move 1,024 moves; a roll with more */
     MENKHODUR_NO_OFFER = 14,
     MENKHODUR_NO_CLAIM = 15,
-    MENKHODUR_PART_TOO_SHORT = 16
+    MENKHODUR_PART_TOO_SHORT = 16,
+    MENKHODUR_BAD_ROLL = 17         /* no roll, or bytes for one that are no action */
 };
 
 /* Results of a game: the order of `GameResult`, 0 for none. */
@@ -170,6 +172,11 @@ enum {
     MENKHODUR_LONGEST_COORDINATE = 5
 };
 
+/* Bytes of the longest roll: 68 numbers of one byte, a count of two, 1,024 moves of four and 1,024 other actions of one. */
+enum {
+    MENKHODUR_LONGEST_ROLL = 5190
+};
+
 /* The board record: 68 numbers in document 01's order. A square is a rank of 0 to 7 times 8 plus a file of 0 to 7, a1 = 0. */
 typedef struct {
     uint8_t pieces[64];          /* men: 0 empty, 1..6 white pawn knight bishop rook queen king, 7..12 black */
@@ -184,6 +191,7 @@ typedef struct { uint64_t number; uint64_t value; } menkhodur_answer;
 typedef struct { uint64_t number; menkhodur_board board; } menkhodur_stepped;
 typedef struct { uint64_t number; uint64_t offset; menkhodur_board board; } menkhodur_fen;
 typedef struct { uint64_t number; uint64_t actions; uint64_t moves; } menkhodur_counts;
+typedef struct { uint64_t number; uint64_t actions; menkhodur_board board; } menkhodur_roll;
 
 #if defined(__cplusplus)
 #define MENKHODUR_ASSERT(fact, text) static_assert(fact, text)
@@ -196,6 +204,7 @@ MENKHODUR_ASSERT(sizeof(menkhodur_answer) == 16, "a number and a value");
 MENKHODUR_ASSERT(offsetof(menkhodur_stepped, board) == 8 && sizeof(menkhodur_stepped) == 80, "a number and a board, filled up to 8 bytes");
 MENKHODUR_ASSERT(offsetof(menkhodur_fen, board) == 16 && sizeof(menkhodur_fen) == 88, "two numbers and a board, filled up to 8 bytes");
 MENKHODUR_ASSERT(sizeof(menkhodur_counts) == 24, "a number and two counts");
+MENKHODUR_ASSERT(offsetof(menkhodur_roll, board) == 16 && sizeof(menkhodur_roll) == 88, "two numbers and a board, filled up to 8 bytes");
 MENKHODUR_ASSERT(sizeof(size_t) == 8, "lengths have 64 bits");
 #undef MENKHODUR_ASSERT
 #endif
@@ -328,6 +337,33 @@ menkhodur_answer menkhodur_game_result(const uint8_t *actions, size_t actions_le
 menkhodur_answer menkhodur_game_can_declare_draw(const uint8_t *actions, size_t actions_length,
                                                  const uint8_t *positions, size_t positions_length,
                                                  uint64_t action_count, uint64_t move_count);
+
+/* ---- Rolls -------------------------------------------------------------------------------------------------------------------- */
+/* A roll is a game without its positions, for a store (document 02, order 1): the 68 numbers of the start's record in the order of
+ * menkhodur_board, the count of the actions, then for each action its kind * 2 + its colour and, for a move, the move's number. Every
+ * number is written in groups of seven bits, a byte each, the lowest group first, the top bit set on all but the last, in the fewest
+ * groups. So a roll has 69 to 5,190 bytes, and a code of an action is 2 for a move, 4 or 5 for an offer by white or black, 6 for an
+ * accepted draw, 8 for a declared one, 10 or 11 for a resignation. One start with one list of actions has one roll, and every roll that
+ * is read is written back as it came.
+ * The actions lie in a part as a log has them, of at least 8,192 bytes. Only bounds are judged: whether the actions make a game, only a
+ * log with its positions can tell. */
+
+/* Writes the roll of a start and of the first `action_count` actions. 0: it is at the front of `out`, and the value is its length; the
+ * bytes of `out` behind it are left alone. Refused, in this order, with all of `out` left alone: 16: `actions` is shorter than 8,192
+ * bytes; 5: a record number out of range; 13: the count is over 2,048, at any size, or more than 1,024 of the counted actions are moves;
+ * 17: the bytes of a counted action are not an action's: kind, colour or move is out of range, or a field that the kind does not use is
+ * not 0; 7: `room` is shorter than the roll, whose length is the value. The actions are left alone; those past the count are not looked
+ * at. */
+menkhodur_answer menkhodur_roll_write(menkhodur_board b, const uint8_t *actions, size_t actions_length, uint64_t action_count,
+                                      uint8_t *out, size_t room);
+
+/* Reads a roll. 0: the board is the start, the answer's `actions` is the count, and that many actions of 4 bytes are at the front of the
+ * part; the bytes of the part behind them are left alone. Refused, with all of the part left alone, a count of 0 and a board of 68 zeros:
+ * 16: the part is shorter than 8,192 bytes; then whichever comes first from the left: 5: a record number out of range; 13: a count over
+ * 2,048, or the code of a 1,025th move; 17: the roll ends too early, or goes on behind its last action; a number is not in the fewest
+ * groups, or has more than five, before its size is judged; a code is no action's; a move's number is over 28,671. The roll is left
+ * alone. */
+menkhodur_roll menkhodur_roll_read(const uint8_t *roll, size_t length, uint8_t *actions, size_t actions_length);
 
 #ifdef __cplusplus
 }

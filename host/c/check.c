@@ -24,6 +24,23 @@ uint64_t wide_over(unsigned i, uint64_t low)
     return (wide[i] & ~UINT64_C(65535)) + low;
 }
 
+unsigned any(unsigned below)
+{
+    static uint64_t seed = UINT64_C(88172645463325252);
+    seed ^= seed << 13;
+    seed ^= seed >> 7;
+    seed ^= seed << 17;
+    return (unsigned)(seed >> 33) % below;
+}
+
+uint64_t first_of(unsigned faults, const uint64_t *numbers)
+{
+    unsigned i = 0;
+    if (!faults) return MENKHODUR_ACCEPTED;
+    while (!(faults >> i & 1)) i++;
+    return numbers[i];
+}
+
 void about(const char *function, const char *format, ...)
 {
     va_list list;

@@ -56,6 +56,12 @@ enum { WIDE = 8 };
 extern const uint64_t wide[WIDE];
 uint64_t wide_over(unsigned i, uint64_t low);
 
+/* A number below the bound that looks random and is the same each time. */
+unsigned any(unsigned below);
+
+/* The answer number of a call with a set of faults, a bit for each: that of the lowest bit, or 0 of none. */
+uint64_t first_of(unsigned faults, const uint64_t *numbers);
+
 /* The checks, by subject. */
 void check_base(void);
 void check_steps(void);
@@ -66,6 +72,7 @@ void check_log(void);
 void check_orders(void);
 void check_games(void);
 void check_nulls(void);
+void check_rolls(void);
 void check_layout(void);
 void check_overlaps(void);
 void check_threads(void);

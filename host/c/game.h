@@ -44,6 +44,9 @@ void append(struct game *g, struct request r);
 void append_round(struct game *g, uint64_t moves, bool fresh);
 void append_offers(struct game *g, uint64_t offers, uint8_t colour);
 
+/* The roll of a start and its actions, as document 02 gives its bytes. */
+struct part lend_roll(menkhodur_board start, const uint8_t *actions, uint64_t count);
+
 /* Calls the library and checks number, value, counts and every lent byte. An accepted action is then in the log. */
 void start(struct game *g, const struct position *p, uint64_t number);
 void play(struct game *g, struct request r, uint64_t number);

@@ -10,16 +10,6 @@ struct record {
     unsigned actions, moves;
 };
 
-static uint64_t seed = UINT64_C(88172645463325252);
-
-static unsigned any(unsigned below)
-{
-    seed ^= seed << 13;
-    seed ^= seed >> 7;
-    seed ^= seed << 17;
-    return (unsigned)(seed >> 33) % below;
-}
-
 /* ---- Document 01 ---- */
 
 static uint64_t result_of(const struct record *r)

@@ -10,9 +10,9 @@
 
 #define N(number) (UINT32_C(1) << (number))
 
-enum { FUNCTIONS = 24 };
+enum { FUNCTIONS = 26 };
 
-/* Document 01, "Order of checks": all that each function can answer. The version is no answer. */
+/* Document 01, "Order of checks", and document 02: all that each function can answer. The version is no answer. */
 static const uint32_t range = N(0) | N(5);
 static const uint32_t query = N(0) | N(9) | N(16);
 static const uint32_t coloured = N(0) | N(5) | N(9) | N(10) | N(13) | N(16);
@@ -44,6 +44,8 @@ static bool report_all(void)
         { "menkhodur_game_declare_draw", N(0) | N(9) | N(10) | N(13) | N(15) | N(16) },
         { "menkhodur_game_result", query },
         { "menkhodur_game_can_declare_draw", query },
+        { "menkhodur_roll_write", N(0) | N(5) | N(7) | N(13) | N(16) | N(17) },
+        { "menkhodur_roll_read", N(0) | N(5) | N(13) | N(16) | N(17) },
     };
     return report(all, FUNCTIONS);
 }
@@ -63,6 +65,7 @@ int main(int argc, char **argv)
     check_log();
     check_orders();
     check_games();
+    check_rolls();
     check_nulls();
     check_layout();
     check_overlaps();

@@ -1,4 +1,4 @@
-/* NULL with length 0, for each parameter that is a pointer and a length: an empty text, list, part or room. */
+/* NULL with length 0, for each parameter that is a pointer and a length: an empty text, list, part, roll or room. */
 #include "game.h"
 
 static const uint16_t one_move[1] = { 1153 };
@@ -47,6 +47,30 @@ static void check_rooms(void)
     expect_answer(MENKHODUR_OUTPUT_TOO_SHORT, 3, menkhodur_san_name(knight(), one_move, 1, 1153, NULL, 0));
 }
 
+/* A roll, the part that its actions go to or come from, and the room for it. */
+static void check_rolls_of_null(void)
+{
+    struct part actions = lend(MENKHODUR_ACTIONS_LENGTH), out = lend(MENKHODUR_LONGEST_ROLL);
+    menkhodur_roll no_roll = menkhodur_roll_read(NULL, 0, actions.bytes, actions.length);
+    menkhodur_roll no_part = menkhodur_roll_read(NULL, 0, NULL, 0);
+    about("menkhodur_roll_read", "NULL roll");
+    expect("number", MENKHODUR_BAD_ROLL, no_roll.number);
+    expect("actions counted", 0, no_roll.actions);
+    expect_board(&no_board, &no_roll.board);
+    about("menkhodur_roll_read", "NULL part");
+    expect("number", MENKHODUR_PART_TOO_SHORT, no_part.number);
+    expect("actions counted", 0, no_part.actions);
+    expect_board(&no_board, &no_part.board);
+    about("menkhodur_roll_write", "NULL part, NULL room");
+    expect_answer(MENKHODUR_PART_TOO_SHORT, 0, menkhodur_roll_write(initial, NULL, 0, 0, out.bytes, out.length));
+    expect_answer(MENKHODUR_PART_TOO_SHORT, 0, menkhodur_roll_write(initial, NULL, 0, 0, NULL, 0));
+    expect_answer(MENKHODUR_OUTPUT_TOO_SHORT, 69, menkhodur_roll_write(initial, actions.bytes, actions.length, 0, NULL, 0));
+    expect_unchanged("actions", &actions);
+    expect_unchanged("room", &out);
+    give_back(&actions);
+    give_back(&out);
+}
+
 /* An empty list is a list: the game that starts with it, or comes to it, has ended. */
 static void check_empty_lists(void)
 {
@@ -82,6 +106,7 @@ void check_nulls(void)
     check_texts();
     check_lists();
     check_rooms();
+    check_rolls_of_null();
     check_empty_lists();
     check_part(true, false);
     check_part(false, true);

@@ -4,14 +4,6 @@
 /* How a log is full: not, by 2,048 actions, or by 1,024 moves. */
 enum full { HAS_ROOM, BY_ACTIONS, BY_MOVES };
 
-static uint64_t first_of(unsigned faults, const uint64_t *numbers)
-{
-    unsigned i = 0;
-    if (!faults) return MENKHODUR_ACCEPTED;
-    while (!(faults >> i & 1)) i++;
-    return numbers[i];
-}
-
 /* ---- A start: 16, 5, 6 ---- */
 
 static void check_start_order(unsigned faults)

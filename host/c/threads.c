@@ -1,4 +1,5 @@
-/* Every function from several threads at once: on a text, a list and a log that all of them read, and on rooms and logs of their own. */
+/* Every function from several threads at once: on a text, a list, a log and a roll that all of them read, and on rooms and logs of their
+ * own. */
 #include "game.h"
 
 #include <pthread.h>
@@ -12,7 +13,7 @@ static const char key[] = "rnbqkbnr/pppppppp/8/8/8/8/PPPPPPPP/RNBQKBNR w KQkq - 
 
 /* What all threads read. */
 static struct game log_of_all;
-static struct part key_of_all, name_of_all, list_of_all;
+static struct part key_of_all, name_of_all, list_of_all, roll_of_all;
 
 /* A thread's own log, and how often it saw something else than one thread alone would. */
 struct worker {
@@ -74,6 +75,18 @@ static unsigned wrong_queries(const struct game *g, uint64_t result, uint64_t cl
     return wrong + !is(MENKHODUR_ACCEPTED, claim, menkhodur_game_can_declare_draw(a, al, p, pl, g->action_count, g->move_count));
 }
 
+/* The log that all read has the roll that all read, from the start to the end of each. */
+static unsigned wrong_rolls(void)
+{
+    uint8_t room[MENKHODUR_LONGEST_ROLL], actions[MENKHODUR_ACTIONS_LENGTH];
+    const struct game *g = &log_of_all;
+    menkhodur_answer written = menkhodur_roll_write(initial, g->actions.bytes, g->actions.length, g->action_count, room, sizeof room);
+    menkhodur_roll read = menkhodur_roll_read(roll_of_all.bytes, roll_of_all.length, actions, sizeof actions);
+    unsigned wrong = !is(MENKHODUR_ACCEPTED, roll_of_all.length, written) || memcmp(room, roll_of_all.bytes, roll_of_all.length) != 0;
+    wrong += !is_board(&initial, (menkhodur_stepped){ read.number, read.board }) || read.actions != g->action_count;
+    return wrong + (memcmp(actions, g->actions.bytes, MENKHODUR_ACTION_SIZE * g->action_count) != 0);
+}
+
 static unsigned wrong_counts(struct game *g, menkhodur_counts c, uint64_t number, uint64_t actions, uint64_t moves)
 {
     g->action_count = c.actions;
@@ -104,7 +117,7 @@ static void *work(void *worker)
 {
     struct worker *w = worker;
     for (unsigned i = 0; i < (exact ? ROUNDS_EXACT : ROUNDS); i++)
-        w->wrong += wrong_numbers() + wrong_texts() + wrong_queries(&log_of_all, MENKHODUR_GOES_ON, 1) + wrong_own(&w->own);
+        w->wrong += wrong_numbers() + wrong_texts() + wrong_queries(&log_of_all, MENKHODUR_GOES_ON, 1) + wrong_rolls() + wrong_own(&w->own);
     return NULL;
 }
 
@@ -135,6 +148,7 @@ void check_threads(void)
     list_of_all = lend_bytes(p.list, 2 * p.entries);
     start(&log_of_all, &p, MENKHODUR_ACCEPTED);
     play_round(&log_of_all, 40, false);
+    roll_of_all = lend_roll(initial, log_of_all.actions.bytes, log_of_all.action_count);
     run_workers();
     about("threads", "what all of them read");
     expect_unchanged("actions", &log_of_all.actions);
@@ -142,8 +156,10 @@ void check_threads(void)
     expect_unchanged("text", &key_of_all);
     expect_unchanged("name", &name_of_all);
     expect_unchanged("list", &list_of_all);
+    expect_unchanged("roll", &roll_of_all);
     give_back_game(&log_of_all);
     give_back(&key_of_all);
     give_back(&name_of_all);
     give_back(&list_of_all);
+    give_back(&roll_of_all);
 }

@@ -1,14 +1,14 @@
 //! What a log holds: its actions and positions, and how they are read where they lie.
 
 use crate::board::Board;
-use crate::lent::{Given, POSITION_BYTES};
+use crate::lent::{ACTION_BYTES, Given, POSITION_BYTES};
 use crate::moves::Move;
 use crate::piece::{ALL_COLORS, Color};
 use std::fmt;
 use std::iter::FusedIterator;
 use std::slice::{self, ChunksExact};
 
-/// What a log holds an entry for.
+/// What a log or a roll holds an entry for.
 ///
 /// ```
 /// use menkhodur::{Action, Board, Color, Log, Move, Position};
@@ -35,7 +35,8 @@ pub enum Action {
 }
 
 impl Action {
-    fn of_good_log(bytes: &[u8]) -> Action {
+    /// The action of 4 bytes that the archive has judged or written.
+    pub(crate) fn of_good_log(bytes: &[u8]) -> Action {
         let color = ALL_COLORS[usize::from(bytes[1])];
         match bytes[0] {
             1 => Action::MakeMove(Move::of_list(u16::from_le_bytes([bytes[2], bytes[3]]))),
@@ -43,6 +44,20 @@ impl Action {
             3 => Action::AcceptDraw,
             4 => Action::DeclareDraw,
             _ => Action::Resign(color),
+        }
+    }
+
+    /// The 4 bytes that a log has for the action.
+    pub(crate) fn bytes(self) -> [u8; ACTION_BYTES] {
+        match self {
+            Action::MakeMove(made) => {
+                let [low, high] = made.number().to_le_bytes();
+                [1, 0, low, high]
+            }
+            Action::OfferDraw(color) => [2, color as u8, 0, 0],
+            Action::AcceptDraw => [3, 0, 0, 0],
+            Action::DeclareDraw => [4, 0, 0, 0],
+            Action::Resign(color) => [5, color as u8, 0, 0],
         }
     }
 }

@@ -1,8 +1,8 @@
-//! The refusals, by the answer numbers of document 01.
+//! The refusals, by the answer numbers of documents 01 and 02.
 
 use std::fmt;
 
-/// Why a call was refused: one variant for each answer number of document 01.
+/// Why a call was refused: one variant for each answer number of document 01, and of the orders of document 02 that have landed.
 ///
 /// A refused call has changed nothing: neither the bytes that were lent to it nor the log it was asked of.
 ///
@@ -30,9 +30,9 @@ pub enum Error {
     OutOfRange,
     /// 6: the list is longer than 255, or one of its moves, or the move to write in coordinates, is over 28,671.
     ListOutOfRange,
-    /// 7: the room for the text is too short.
+    /// 7: the room for the text or the roll is too short.
     OutputTooShort {
-        /// How many bytes the text has.
+        /// How many bytes the text or the roll has.
         needed: usize,
     },
     /// 8: no SAN text is read as this move, given this list.
@@ -45,20 +45,23 @@ pub enum Error {
     MoveNotListed,
     /// 12: the position after the move has the side to move that has just moved.
     WrongSideToMove,
-    /// 13: the log has 2,048 actions, or, for a move, 1,024 moves.
+    /// 13: the log has 2,048 actions, or, for a move, 1,024 moves; or a roll has more.
     LogFull,
     /// 14: there is no offer to accept.
     NoDrawOffer,
     /// 15: no draw can be claimed.
     NoClaim,
-    /// 16: a part of the log is too short.
+    /// 16: the part of the actions or that of the positions is too short.
     PartTooShort,
+    /// 17: a roll ends too early or goes on behind its last action, or a number in it is not in the fewest groups, has more than five or is
+    /// out of range; or bytes to write one from are no action.
+    BadRoll,
     /// Any other number: the archive is a later one than this package knows.
     Unknown(u64),
 }
 
 impl Error {
-    /// The answer number of document 01.
+    /// The answer number of documents 01 and 02.
     ///
     /// ```
     /// use menkhodur::Error;
@@ -85,6 +88,7 @@ impl Error {
             Error::NoDrawOffer => 14,
             Error::NoClaim => 15,
             Error::PartTooShort => 16,
+            Error::BadRoll => 17,
             Error::Unknown(number) => number,
         }
     }
@@ -98,7 +102,7 @@ impl Error {
             4 => Error::InvalidSanMove,
             5 => Error::OutOfRange,
             6 => Error::ListOutOfRange,
-            // No text has more than 85 bytes, so nothing is cut here on any target.
+            // No text has more than 85 bytes and no roll more than 5,190, so nothing is cut here on any target.
             7 => Error::OutputTooShort { needed: value as usize },
             8 => Error::NoName,
             9 => Error::LogNotGood,
@@ -109,6 +113,7 @@ impl Error {
             14 => Error::NoDrawOffer,
             15 => Error::NoClaim,
             16 => Error::PartTooShort,
+            17 => Error::BadRoll,
             other => Error::Unknown(other),
         })
     }
@@ -130,16 +135,17 @@ impl Error {
             Error::InvalidSanMove => "the text is no SAN text, fits no listed move or more than one, or is wrong about a capture",
             Error::OutOfRange => "a number of the board, a square, rank, file, colour, rights number or in-check byte is out of range",
             Error::ListOutOfRange => "the list has more than 255 moves, or a move's number is over 28,671",
-            Error::OutputTooShort { .. } => "the room for the text is too short",
+            Error::OutputTooShort { .. } => "the room for the text or the roll is too short",
             Error::NoName => "no text names this move among the listed ones",
             Error::LogNotGood => "no sequence of accepted calls makes this log, or a count is over its limit",
             Error::GameOver => "the game is over",
             Error::MoveNotListed => "the move is not in the list",
             Error::WrongSideToMove => "the position after the move has the wrong side to move",
-            Error::LogFull => "the log is full: it has 2,048 actions or, for a move, 1,024 moves",
+            Error::LogFull => "a log or a roll has at most 2,048 actions, and at most 1,024 of them are moves",
             Error::NoDrawOffer => "there is no draw offer to accept",
             Error::NoClaim => "no draw can be claimed",
-            Error::PartTooShort => "a part of the log is too short",
+            Error::PartTooShort => "the part of the actions or that of the positions is too short",
+            Error::BadRoll => "the bytes are not a roll, or not the actions of one",
             Error::Unknown(_) => "the archive refused for a reason that this package does not know",
         }
     }
@@ -174,7 +180,7 @@ mod tests {
     #[test]
     fn every_number_has_its_own_variant_and_text() {
         let mut texts = HashSet::new();
-        for number in 1..=16 {
+        for number in 1..=17 {
             let error = Error::judge(number, 85).unwrap_err();
             assert_eq!(error.number(), number);
             assert!(!matches!(error, Error::Unknown(_)));
@@ -196,7 +202,7 @@ mod tests {
     fn the_needed_length_is_kept_and_told() {
         let error = Error::judge(7, 85).unwrap_err();
         assert_eq!(error, Error::OutputTooShort { needed: 85 });
-        assert_eq!(error.to_string(), "the room for the text is too short, 85 bytes are needed (answer 7)");
+        assert_eq!(error.to_string(), "the room for the text or the roll is too short, 85 bytes are needed (answer 7)");
     }
 
     #[test]

@@ -45,6 +45,14 @@ pub(crate) struct Counts {
     pub(crate) moves: u64,
 }
 
+#[repr(C)]
+#[derive(Clone, Copy)]
+pub(crate) struct Roll {
+    pub(crate) number: u64,
+    pub(crate) actions: u64,
+    pub(crate) board: Board,
+}
+
 impl Board {
     pub(crate) fn of(record: &lent::Record) -> Board {
         let [pieces @ .., side_to_move, white_castle_rights, black_castle_rights, en_passant] = *record;
@@ -80,6 +88,12 @@ impl Fen {
 impl Counts {
     pub(crate) fn judged(self) -> Result<lent::Counts, Error> {
         Error::judge(self.number, 0).map(|()| lent::Counts { actions: self.actions, moves: self.moves })
+    }
+}
+
+impl Roll {
+    pub(crate) fn judged(self) -> Result<lent::Rolled, Error> {
+        Error::judge(self.number, 0).map(|()| lent::Rolled { record: self.board.record(), actions: self.actions })
     }
 }
 
@@ -180,6 +194,16 @@ unsafe extern "C" {
         action_count: u64,
         move_count: u64,
     ) -> Answer;
+
+    pub(crate) fn menkhodur_roll_write(
+        board: Board,
+        actions: *const u8,
+        actions_length: usize,
+        action_count: u64,
+        out: *mut u8,
+        room: usize,
+    ) -> Answer;
+    pub(crate) fn menkhodur_roll_read(roll: *const u8, length: usize, actions: *mut u8, actions_length: usize) -> Roll;
 }
 
 #[cfg(test)]

@@ -42,6 +42,9 @@ fn structs_lie_as_the_header_has_them() {
 
     assert_eq!((size_of::<Counts>(), align_of::<Counts>()), (24, 8));
     assert_eq!((offset_of!(Counts, number), offset_of!(Counts, actions), offset_of!(Counts, moves)), (0, 8, 16));
+
+    assert_eq!((size_of::<Roll>(), align_of::<Roll>()), (88, 8));
+    assert_eq!((offset_of!(Roll, number), offset_of!(Roll, actions), offset_of!(Roll, board)), (0, 8, 16));
 }
 
 #[test]
@@ -115,6 +118,48 @@ fn a_refused_value_is_zero_but_for_the_length_needed() {
     assert_eq!((answer.number, answer.value), (4, 0));
     let squares = [menkhodur_make_square(8, 0), menkhodur_rights_add(4, 0), menkhodur_rights_remove(0, 4), menkhodur_square_rights(2, 0)];
     assert!(squares.iter().all(|answer| (answer.number, answer.value) == (5, 0)));
+}
+
+#[test]
+fn a_refused_roll_hands_out_nothing() {
+    let mut actions = vec![0xA5; ACTIONS_PART];
+    let mut read = |roll: &[u8], room: usize| {
+        // SAFETY: each pointer and length are those of one slice or of its front, and the one that is written is borrowed mutably.
+        let rolled = unsafe { menkhodur_roll_read(roll.as_ptr(), roll.len(), actions[..room].as_mut_ptr(), room) };
+        (rolled.number, rolled.actions, rolled.board.record())
+    };
+    // A start with a pawn on each square, and an offer; then the same, spoilt.
+    let mut roll = [1; 70];
+    roll[69] = 5;
+    let none = |number: u64| (number, 0, [0; 68]);
+    assert_eq!(read(&roll, ACTIONS_PART - 1), none(16));
+    assert_eq!(read(&roll[..69], ACTIONS_PART), none(17));
+    assert_eq!(read(&[&roll[..], &[0]].concat(), ACTIONS_PART), none(17));
+    roll[69] = 7;
+    assert_eq!(read(&roll, ACTIONS_PART), none(17));
+    roll[64] = 2;
+    assert_eq!(read(&roll, ACTIONS_PART), none(5));
+    roll[64] = 1;
+    roll[68..].copy_from_slice(&[0x81, 0x10]);
+    assert_eq!(read(&roll, ACTIONS_PART), none(13));
+    roll[68..].copy_from_slice(&[1, 5]);
+    assert_eq!(read(&roll, ACTIONS_PART), (0, 1, [1; 68]));
+    assert_eq!(actions[..5], [2, 1, 0, 0, 0xA5]);
+}
+
+#[test]
+fn a_refused_roll_has_no_length_but_the_one_needed() {
+    let actions = vec![0; ACTIONS_PART];
+    let write = |part: &[u8], record: &lent::Record, count: u64| {
+        // SAFETY: each pointer and length are those of one slice; the room of none is not written.
+        let answer = unsafe { menkhodur_roll_write(Board::of(record), part.as_ptr(), part.len(), count, [].as_mut_ptr(), 0) };
+        (answer.number, answer.value)
+    };
+    assert_eq!(write(&actions, &[0; 68], 0), (7, 69));
+    assert_eq!(write(&actions, &[0; 68], 1), (17, 0));
+    assert_eq!(write(&actions, &[0; 68], 1 << 32), (13, 0));
+    assert_eq!(write(&actions, &bad_record(), 1 << 32), (5, 0));
+    assert_eq!(write(&actions[1..], &bad_record(), 1 << 32), (16, 0));
 }
 
 #[test]

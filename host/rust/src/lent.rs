@@ -35,6 +35,8 @@ pub const MAX_LIST: usize = 255;
 pub const ACTIONS_PART: usize = MAX_ACTIONS * ACTION_BYTES;
 /// The length that the part of the positions must have: a start and one after each move.
 pub const POSITIONS_PART: usize = (MAX_MOVES + 1) * POSITION_BYTES;
+/// The most bytes that a roll has: the record's, two of the count, one of each action, and three more of each move.
+pub const MAX_ROLL: usize = 68 + 2 + MAX_ACTIONS + 3 * MAX_MOVES;
 
 /// How many actions a log has, and how many of them are moves: what the next call on its parts is handed.
 #[must_use = "the next call on the log's parts must be handed these counts"]
@@ -55,6 +57,16 @@ pub struct Given<'a> {
     pub in_check: u8,
     /// The numbers of the moves that can be made.
     pub list: &'a [u16],
+}
+
+/// What a roll says besides the actions themselves, as [`roll_read`] gives it.
+#[must_use = "the start is given here alone, and only the count tells which bytes of the part are the roll's"]
+#[derive(Clone, Copy, Debug, PartialEq, Eq, Hash)]
+pub struct Rolled {
+    /// The start.
+    pub record: Record,
+    /// How many actions were written to the front of the part, 4 bytes each.
+    pub actions: u64,
 }
 
 /// The version of the archive that is linked. `build.rs` has refused any other than [`VERSION`](crate::VERSION).
@@ -386,7 +398,50 @@ pub fn game_can_declare_draw(actions: &[u8], positions: &[u8], counts: Counts) -
     Ok(answer.judged()? == 1)
 }
 
-// The contracts bound the values: squares to 63, rights to 3, results to 7, moves to 28,671, lengths to 85. The casts cut nothing.
+/// Writes the roll of a start and of the first `count` actions of a part, 69 to 5,190 bytes, and gives its length. Refused: 16, 5, 13, 17,
+/// 7.
+///
+/// ```
+/// use menkhodur::Error;
+/// use menkhodur::lent::{self, ACTIONS_PART, MAX_ROLL};
+///
+/// let (mut actions, mut room) = (vec![0; ACTIONS_PART], [0; MAX_ROLL]);
+/// actions[..8].copy_from_slice(&[1, 0, 12, 7, 5, 1, 0, 0]);
+/// assert_eq!(lent::roll_write(&[0; 68], &actions, 2, &mut room), Ok(73));
+/// assert_eq!(room[..68], [0; 68]);
+/// // Two actions: the move 1,804, which is 12 + 128 * 14, and black resigns.
+/// assert_eq!(room[68..73], [2, 2, 128 + 12, 14, 11]);
+/// assert_eq!(lent::roll_write(&[0; 68], &actions, 3, &mut room), Err(Error::BadRoll));
+/// ```
+pub fn roll_write(record: &Record, actions: &[u8], count: u64, out: &mut [u8]) -> Result<usize, Error> {
+    let (board, part, room) = (ffi::Board::of(record), actions.as_ptr(), out.len());
+    // SAFETY: each pointer and length are those of one slice. The room, all that is written, is borrowed mutably for the call, so that the
+    // actions cannot lie in it.
+    length(unsafe { ffi::menkhodur_roll_write(board, part, actions.len(), count, out.as_mut_ptr(), room) })
+}
+
+/// Reads a roll: the start and the count are given, and the actions are written to the front of the part. Refused: 16, then the first
+/// from the left of 5, 13 and 17.
+///
+/// ```
+/// use menkhodur::Error;
+/// use menkhodur::lent::{self, ACTIONS_PART};
+///
+/// let mut roll = vec![0; 68];
+/// roll.extend([2, 2, 128 + 12, 14, 11]);
+/// let mut actions = vec![0xA5; ACTIONS_PART];
+/// let rolled = lent::roll_read(&roll, &mut actions).unwrap();
+/// assert_eq!((rolled.record, rolled.actions), ([0; 68], 2));
+/// assert_eq!(actions[..9], [1, 0, 12, 7, 5, 1, 0, 0, 0xA5]);
+/// assert_eq!(lent::roll_read(&roll[1..], &mut actions), Err(Error::BadRoll));
+/// ```
+pub fn roll_read(roll: &[u8], actions: &mut [u8]) -> Result<Rolled, Error> {
+    // SAFETY: each pointer and length are those of one slice. The actions, all that is written, are borrowed mutably for the call, so that
+    // the roll cannot lie in them.
+    unsafe { ffi::menkhodur_roll_read(roll.as_ptr(), roll.len(), actions.as_mut_ptr(), actions.len()) }.judged()
+}
+
+// The contracts bound the values: squares to 63, rights to 3, results to 7, moves to 28,671, lengths to 5,190. The casts cut nothing.
 
 fn byte(answer: ffi::Answer) -> Result<u8, Error> {
     answer.judged().map(|value| value as u8)

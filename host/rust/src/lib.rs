@@ -1,8 +1,8 @@
-//! Chess positions, move texts and game logs, done by a proved archive: one position has one name.
+//! Chess positions, move texts, game logs and rolls, done by a proved archive: one position has one name, and one game has one roll.
 //!
 //! This package is a safe cover for `libmenkhodur.a`, which `rt staticlib menkhodur` writes. "Document 01" is the repository's
-//! `docs/papers/01-scope.md`, and "the original" is the Rust crate chess 3.2.0, whose names are kept where the meaning is the same.
-//! There is no move generator: whoever calls lends the list of moves that a position has.
+//! `docs/papers/01-scope.md`, "document 02" is `02-change-requests.md` beside it, and "the original" is the Rust crate chess 3.2.0, whose
+//! names are kept where the meaning is the same. There is no move generator: whoever calls lends the list of moves that a position has.
 //!
 //! ```
 //! use menkhodur::{Board, Color, Error, Log, Move, Position, Square};
@@ -23,7 +23,7 @@
 //! it is missing or older than a source. An archive of another version than [`VERSION`] is refused there.
 //!
 //! Two layers: the types here, whose numbers are in range by construction, and [`lent`], the archive's functions over slices that the
-//! caller keeps. Either way a refusal is an [`Error`] with document 01's number, and has changed nothing.
+//! caller keeps. Either way a refusal is an [`Error`] with the number that the documents give it, and has changed nothing.
 
 #![deny(missing_docs)]
 #![deny(clippy::undocumented_unsafe_blocks)]
@@ -37,6 +37,7 @@ pub mod lent;
 mod log;
 mod moves;
 mod piece;
+mod roll;
 mod square;
 mod version;
 
@@ -47,5 +48,6 @@ pub use lent::{Counts, version};
 pub use log::{GameResult, Log};
 pub use moves::{MAX_MOVE, Move};
 pub use piece::{ALL_CASTLE_RIGHTS, ALL_COLORS, ALL_PIECES, CastleRights, Color, Piece};
+pub use roll::Roll;
 pub use square::{ALL_FILES, ALL_RANKS, File, Rank, Square};
 pub use version::VERSION;

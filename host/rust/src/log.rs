@@ -6,6 +6,7 @@ use crate::error::{Error, certain};
 use crate::lent::{self, ACTION_BYTES, ACTIONS_PART, Counts, MAX_ACTIONS, MAX_MOVES, POSITION_BYTES};
 use crate::moves::Move;
 use crate::piece::Color;
+use crate::roll;
 use std::fmt;
 
 /// How a game has ended, in the order of document 01's numbers 1 to 7.
@@ -364,6 +365,25 @@ impl Log {
     /// ```
     pub fn counts(&self) -> Counts {
         self.counts
+    }
+
+    /// The game's roll: its start and what was done, without the positions after it, in at most 5,190 bytes. [`Roll`](crate::Roll) reads
+    /// it again.
+    ///
+    /// ```
+    /// use menkhodur::{Action, Board, Color, Log, Move, Position, Roll};
+    ///
+    /// let list = [Move::from_text("b1c3").unwrap()];
+    /// let mut log = Log::start(&Position { board: Board::default(), in_check: false, list: &list }).unwrap();
+    /// log.resign(Color::Black).unwrap();
+    /// let roll = log.to_roll();
+    /// assert_eq!(roll[68..], [1, 11]);
+    /// assert_eq!(Roll::from_bytes(&roll).unwrap().actions, [Action::Resign(Color::Black)]);
+    /// ```
+    #[must_use]
+    pub fn to_roll(&self) -> Vec<u8> {
+        let start = Position::of_good_log(&self.positions[..POSITION_PAIRS]).board;
+        certain(roll::written(&start, &self.actions, self.counts.actions))
     }
 
     /// The used bytes of the actions' part, 4 for each. [`Log::from_parts`] has an example.

@@ -5,6 +5,8 @@
 //! where it makes the list, by the stand-in generator, before it looks at it.
 
 mod keys;
+mod plain;
+mod rolls;
 
 use both::abi::{self, Answer, Log, Record};
 use both::games::{board_of, different_positions, moves_of, random_move, STARTS};
@@ -205,7 +207,7 @@ fn lines(places: &[Place]) {
     }
 }
 
-const PARTS: [&str; 5] = ["fen", "coordinates", "san", "log", "keys"];
+const PARTS: [&str; 6] = ["fen", "coordinates", "san", "log", "rolls", "keys"];
 
 /// The parts that were named, or all.
 fn parts() -> Vec<String> {
@@ -232,6 +234,7 @@ fn main() {
             "coordinates" => coordinates(&places),
             "san" => san(&places),
             "log" => games(&mut random),
+            "rolls" => rolls::rolls(&mut random),
             _ => lines(&places),
         }
     }

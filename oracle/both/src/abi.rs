@@ -35,6 +35,15 @@ pub struct Counts {
     pub moves: u64,
 }
 
+/// What the reader of rolls answers: how many actions it wrote, and the start.
+#[repr(C)]
+#[derive(Clone, Copy, PartialEq, Eq, Debug)]
+pub struct Roll {
+    pub number: u64,
+    pub actions: u64,
+    pub board: Record,
+}
+
 /// Bytes of the actions part and of the positions part.
 pub const ACTIONS_LENGTH: usize = 8_192;
 pub const POSITIONS_LENGTH: usize = 594_500;
@@ -75,6 +84,9 @@ extern "C" {
     fn menkhodur_game_declare_draw(a: *mut u8, al: usize, p: *const u8, pl: usize, n: u64, m: u64) -> Counts;
     fn menkhodur_game_result(a: *const u8, al: usize, p: *const u8, pl: usize, n: u64, m: u64) -> Answer;
     fn menkhodur_game_can_declare_draw(a: *const u8, al: usize, p: *const u8, pl: usize, n: u64, m: u64) -> Answer;
+
+    fn menkhodur_roll_write(b: Record, a: *const u8, al: usize, n: u64, out: *mut u8, room: usize) -> Answer;
+    fn menkhodur_roll_read(roll: *const u8, length: usize, a: *mut u8, al: usize) -> Roll;
 }
 
 pub fn make_square(rank: u8, file: u8) -> Answer {
@@ -135,6 +147,14 @@ pub fn san_read(b: Record, list: &[u16], text: &[u8]) -> Answer {
 
 pub fn san_name(b: Record, list: &[u16], number: u64, out: &mut [u8]) -> Answer {
     unsafe { menkhodur_san_name(b, list.as_ptr(), list.len(), number, out.as_mut_ptr(), out.len()) }
+}
+
+pub fn roll_write(b: Record, actions: &[u8], count: u64, out: &mut [u8]) -> Answer {
+    unsafe { menkhodur_roll_write(b, actions.as_ptr(), actions.len(), count, out.as_mut_ptr(), out.len()) }
+}
+
+pub fn roll_read(roll: &[u8], actions: &mut [u8]) -> Roll {
+    unsafe { menkhodur_roll_read(roll.as_ptr(), roll.len(), actions.as_mut_ptr(), actions.len()) }
 }
 
 /// What stands on the board, as the host gives it to the log.

@@ -1,5 +1,6 @@
 //! What is compared, part by part. The crate's answers alone are also what `vectors` writes down.
 
+mod damage;
 pub mod fen;
 mod lent;
 pub mod log;
@@ -8,6 +9,9 @@ pub mod names;
 pub mod pair;
 pub mod part;
 pub mod records;
+pub mod roll;
+pub mod rolls;
+mod rollwork;
 pub mod rules;
 pub mod san;
 pub mod script;

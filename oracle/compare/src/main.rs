@@ -5,13 +5,13 @@ mod args;
 use args::{Options, Request};
 use compare::part::{self, run, Outcome, Part};
 use compare::rules::RULES;
-use compare::{fen, log, moves, names, san, steps, tests};
+use compare::{fen, log, moves, names, rolls, san, steps, tests};
 use std::process::exit;
 
 /// Runs the part that has this name.
 type Runner = fn(&Options) -> Outcome;
 
-const PARTS: [(&str, Runner); 9] = [
+const PARTS: [(&str, Runner); 10] = [
     (fen::FenRead::NAME, |o| run(fen::FenRead::default(), o.seed, o.budget)),
     (fen::FenWrite::NAME, |o| run(fen::FenWrite::default(), o.seed, o.budget)),
     (moves::Moves::NAME, |o| run(moves::Moves, o.seed, o.budget)),
@@ -19,6 +19,7 @@ const PARTS: [(&str, Runner); 9] = [
     (san::SanAny::NAME, |o| run(san::SanAny::new(), o.seed, o.budget)),
     (names::Names::NAME, |o| run(names::Names::new(), o.seed, o.budget)),
     (log::LogPart::NAME, |o| run(log::LogPart::new(), o.seed, o.budget)),
+    (rolls::Rolls::NAME, |o| run(rolls::Rolls::new(), o.seed, o.budget)),
     (steps::Steps::NAME, |o| run(steps::Steps, o.seed, o.budget)),
     (tests::Tests::NAME, |o| run(tests::Tests::new(), o.seed, o.budget)),
 ];

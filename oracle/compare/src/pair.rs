@@ -7,7 +7,7 @@ use both::numbers::{colour_of, number_of, position_of, result_number};
 use both::random::Random;
 use chess::{Action, Board, Game};
 
-fn action_bytes(action: &Action) -> [u8; 4] {
+pub fn action_bytes(action: &Action) -> [u8; 4] {
     match action {
         Action::MakeMove(m) => {
             let [low, high] = number_of(*m).to_le_bytes();
@@ -57,6 +57,13 @@ impl Pair {
 
     /// A new game in parts full of noise, for nothing past their used bytes may be looked at or changed.
     pub fn start(&mut self, board: Board, tally: &mut Tally) -> Result<(), String> {
+        self.begin(board)?;
+        tally.count("log: start", true);
+        self.ask(tally)
+    }
+
+    /// The same without the questions.
+    pub fn begin(&mut self, board: Board) -> Result<(), String> {
         self.game = Game::new_with_board(board);
         self.board = board;
         for part in [&mut self.actions, &mut self.positions] {
@@ -71,12 +78,19 @@ impl Pair {
             return Err(format!("start: ours {:?}", counts));
         }
         self.positions[..POSITION_LENGTH].copy_from_slice(&position_bytes(&position));
-        tally.count("log: start", true);
-        self.ask(tally)
+        Ok(())
+    }
+
+    /// Gives the action to both and asks both. Says whether it was accepted.
+    pub fn act(&mut self, act: Act, tally: &mut Tally) -> Result<bool, String> {
+        let yes = self.give(act)?;
+        tally.count(act.label(), yes);
+        self.ask(tally)?;
+        Ok(yes)
     }
 
     /// Gives the action to both. Says whether it was accepted.
-    pub fn act(&mut self, act: Act, tally: &mut Tally) -> Result<bool, String> {
+    pub fn give(&mut self, act: Act) -> Result<bool, String> {
         let (n, m) = (self.log.action_count, self.log.move_count);
         let (number, counts) = self.call(act);
         let yes = number == 0;
@@ -88,8 +102,6 @@ impl Pair {
         if yes {
             self.append(n as usize, owed.moves as usize, moved == 1);
         }
-        tally.count(act.label(), yes);
-        self.ask(tally)?;
         Ok(yes)
     }
 
@@ -156,6 +168,10 @@ impl Pair {
             true => Ok(()),
             false => Err("the used actions are not the crate's".to_string()),
         }
+    }
+
+    pub fn game(&self) -> &Game {
+        &self.game
     }
 
     pub fn board(&self) -> Board {

@@ -7,6 +7,7 @@ use borrow.Fn.PlainCycle.{Measures, is, falls, and}
 use Rattle.roll_reader.proofs.read_groups.Reads as read-groups
 use Rattle.roll_reader.proofs.read_groups.Kinds as read-groups-kinds
 use Rattle.roll_reader.proofs.+read_groups.Lts-read_groups as read-groups-lts
+use Rattle.square.proofs.rest.Reads as rest-reads
 use Rattle.roll_reader.proofs.+read_groups.{statement}
 use Rattle.roll_reader.proofs.+read_groups.Tie.{close}
 

@@ -9,6 +9,7 @@ mod must_use;
 mod paper;
 mod refused;
 mod refused_logs;
+mod rolls;
 mod rulings;
 mod threads;
 mod typed;

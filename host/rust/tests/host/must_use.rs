@@ -39,11 +39,16 @@ fn answers() -> Result<(), Error> {
     #[expect(unused_must_use)]
     log.positions();
     #[expect(unused_must_use)]
+    log.to_roll();
+    #[expect(unused_must_use)]
     Error::GameOver.meaning();
 
     // The counts are the new log: the question mark must not be the end of them.
     let mut parts = Parts::of(&log);
     #[expect(unused_must_use)]
     lent::game_offer_draw(&mut parts.actions, &parts.positions, parts.counts, 0)?;
+    // The start of a roll that is read is given here alone.
+    #[expect(unused_must_use)]
+    lent::roll_read(&log.to_roll(), &mut parts.actions)?;
     Ok(())
 }

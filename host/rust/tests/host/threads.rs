@@ -1,7 +1,7 @@
 //! The archive keeps nothing between calls, so what is owned can be sent and what is shared can be asked.
 
 use crate::common::play;
-use menkhodur::{ALL_COLORS, Action, Actions, Board, Error, GameResult, Log, Move, Position, Positions, Square};
+use menkhodur::{ALL_COLORS, Action, Actions, Board, Error, GameResult, Log, Move, Position, Positions, Roll, Square};
 use std::thread;
 
 #[test]
@@ -12,6 +12,7 @@ fn everything_is_send_and_sync() {
     both::<Square>();
     both::<Log>();
     both::<Action>();
+    both::<Roll>();
     both::<GameResult>();
     both::<Error>();
     both::<Position<'static>>();

@@ -1,0 +1,520 @@
+/* Rolls (document 02, order 1): both functions beside a writer and a reader made from the order's own words, with every lent byte looked
+ * at. */
+#include "game.h"
+
+#include <string.h>
+
+enum { RECORD = 68, COUNT = RECORD, BEHIND = 64, GAMES = 150, GAMES_EXACT = 5, CHANGES = 40 };
+
+/* There is room behind the longest one for what makes it too long. */
+struct roll {
+    uint8_t bytes[MENKHODUR_LONGEST_ROLL + BEHIND];
+    size_t length;
+};
+
+/* What a roll holds, with the actions as a part has them. */
+struct finished {
+    menkhodur_board start;
+    uint64_t count;
+    uint8_t actions[MENKHODUR_ACTIONS_LENGTH + BEHIND];
+};
+
+static const struct finished nothing;
+
+/* ---- A writer, by the order's words ---- */
+
+static void add_bytes(struct roll *r, const uint8_t *bytes, size_t length)
+{
+    memcpy(r->bytes + r->length, bytes, length);
+    r->length += length;
+}
+
+/* "in groups of seven bits, lowest group first, top bit set on all but the last group, in the fewest groups" */
+static void add_number(struct roll *r, uint64_t n)
+{
+    for (; n > 127; n /= 128) r->bytes[r->length++] = (uint8_t)(128 + n % 128);
+    r->bytes[r->length++] = (uint8_t)n;
+}
+
+/* "the 68 record numbers of the start, the action count" */
+static struct roll roll_front(menkhodur_board start, uint64_t count)
+{
+    struct roll r = { { 0 }, 0 };
+    for (unsigned which = 0; which < RECORD; which++) add_number(&r, *number_of(&start, which));
+    add_number(&r, count);
+    return r;
+}
+
+/* "then for each action kind × 2 + colour and, for a move, the move number" */
+static struct roll written(const struct finished *f)
+{
+    struct roll r = roll_front(f->start, f->count);
+    for (const uint8_t *a = f->actions; a < f->actions + 4 * f->count; a += 4) {
+        add_number(&r, a[0] * 2u + a[1]);
+        if (a[0] == 1) add_number(&r, a[2] + 256u * a[3]);
+    }
+    return r;
+}
+
+static void add_action(struct finished *f, unsigned kind, unsigned colour, uint64_t move)
+{
+    const uint8_t bytes[4] = { (uint8_t)kind, (uint8_t)colour, (uint8_t)(move % 256), (uint8_t)(move / 256) };
+    memcpy(f->actions + 4 * f->count++, bytes, sizeof bytes);
+}
+
+struct part lend_roll(menkhodur_board start, const uint8_t *actions, uint64_t count)
+{
+    struct finished f = { .start = start, .count = count };
+    struct roll r;
+    memcpy(f.actions, actions, 4 * count);
+    r = written(&f);
+    return lend_bytes(r.bytes, r.length);
+}
+
+/* ---- A reader, by the order's words ---- */
+
+/* "a number not shortest or over five groups (before its size is judged)", and one that is cut short */
+static bool next_number(const struct roll *r, size_t *at, uint64_t *n)
+{
+    unsigned groups = 0;
+    uint8_t group = 255;
+    for (*n = 0; group > 127; groups++) {
+        if (*at == r->length || groups == 5) return false;
+        group = r->bytes[(*at)++];
+        *n += (uint64_t)(group % 128) << 7 * groups;
+    }
+    return groups == 1 || group > 0;
+}
+
+static bool is_code(uint64_t code)
+{
+    return code == 4 || code == 5 || code == 6 || code == 8 || code == 10 || code == 11;
+}
+
+/* "13 for a count or a move past the limit, and 17 for .. another number out of range" */
+static uint64_t judge_actions(const struct roll *r, size_t at, uint64_t count, struct finished *f)
+{
+    uint64_t n, moves = 0;
+    while (f->count < count) {
+        if (!next_number(r, &at, &n)) return MENKHODUR_BAD_ROLL;
+        if (n == 2) {
+            if (++moves > 1024) return MENKHODUR_LOG_FULL;
+            if (!next_number(r, &at, &n) || n > 28671) return MENKHODUR_BAD_ROLL;
+            add_action(f, 1, 0, n);
+        } else {
+            if (!is_code(n)) return MENKHODUR_BAD_ROLL;
+            add_action(f, (unsigned)n / 2, (unsigned)n % 2, 0);
+        }
+    }
+    return at == r->length ? MENKHODUR_ACCEPTED : MENKHODUR_BAD_ROLL;
+}
+
+static uint64_t judge(const struct roll *r, struct finished *f)
+{
+    size_t at = 0;
+    uint64_t n;
+    *f = nothing;
+    for (unsigned which = 0; which < RECORD; which++) {
+        if (!next_number(r, &at, &n)) return MENKHODUR_BAD_ROLL;
+        if (n > limit_of(which)) return MENKHODUR_OUT_OF_RANGE;
+        *number_of(&f->start, which) = (uint8_t)n;
+    }
+    if (!next_number(r, &at, &n)) return MENKHODUR_BAD_ROLL;
+    return n > 2048 ? MENKHODUR_LOG_FULL : judge_actions(r, at, n, f);
+}
+
+/* ---- Calls ---- */
+
+/* An accepted call writes the roll and nothing behind it, a refused one nothing. */
+static void check_write(const struct finished *f, size_t part_length, size_t room, uint64_t number, const struct roll *want)
+{
+    struct part actions = lend_bytes(f->actions, part_length), out = lend(room);
+    bool told = number == MENKHODUR_ACCEPTED || number == MENKHODUR_OUTPUT_TOO_SHORT;
+    about("menkhodur_roll_write", "%llu actions in %zu bytes, room of %zu", (unsigned long long)f->count, part_length, room);
+    expect_answer(number, told ? want->length : 0, menkhodur_roll_write(f->start, actions.bytes, part_length, f->count, out.bytes, room));
+    expect_written("room", &out, 0, want->bytes, number == MENKHODUR_ACCEPTED ? want->length : 0);
+    expect_unchanged("actions", &actions);
+    give_back(&actions);
+    give_back(&out);
+}
+
+/* An accepted call writes 4 bytes an action; a refused one nothing, and it hands out nothing. */
+static void check_read(const struct roll *r, size_t part_length, uint64_t number, const struct finished *f)
+{
+    struct part roll = lend_bytes(r->bytes, r->length), actions = lend(part_length);
+    const struct finished *want = number == MENKHODUR_ACCEPTED ? f : &nothing;
+    menkhodur_roll got;
+    about("menkhodur_roll_read", "%zu bytes, part of %zu", r->length, part_length);
+    got = menkhodur_roll_read(roll.bytes, roll.length, actions.bytes, actions.length);
+    expect("number", number, got.number);
+    expect("actions counted", want->count, got.actions);
+    expect_board(&want->start, &got.board);
+    expect_written("actions", &actions, 0, want->actions, 4 * want->count);
+    expect_unchanged("roll", &roll);
+    give_back(&roll);
+    give_back(&actions);
+}
+
+/* What is accepted is written back as it came. */
+static void check_number(const struct roll *r, uint64_t number)
+{
+    static struct finished f;
+    about("menkhodur_roll_read", "%zu bytes", r->length);
+    expect("number by the order's words", number, judge(r, &f));
+    check_read(r, MENKHODUR_ACTIONS_LENGTH, number, &f);
+    if (number == MENKHODUR_ACCEPTED) check_write(&f, MENKHODUR_ACTIONS_LENGTH, r->length, number, r);
+}
+
+static void check_roll(const struct roll *r)
+{
+    static struct finished f;
+    check_number(r, judge(r, &f));
+}
+
+static void check_finished(const struct finished *f)
+{
+    struct roll r = written(f);
+    check_write(f, MENKHODUR_ACTIONS_LENGTH, r.length + BEHIND, MENKHODUR_ACCEPTED, &r);
+    check_number(&r, MENKHODUR_ACCEPTED);
+}
+
+/* ---- One game, whose bytes were written out by hand ---- */
+
+enum { E2E4 = 1804, HAND_ACTIONS = 9, HAND_NUMBERS = RECORD + 1 + HAND_ACTIONS + 3, HAND_LENGTH = RECORD + 16 };
+
+static const uint8_t by_hand[HAND_LENGTH] = {
+    4, 2, 3, 5, 6, 3, 2, 4, 1, 1, 1, 1, 1, 1, 1, 1, 0, 0, 0, 0, 0, 0, 0, 0, 0, 0, 0, 0, 0, 0, 0, 0,
+    0, 0, 0, 0, 0, 0, 0, 0, 0, 0, 0, 0, 0, 0, 0, 0, 7, 7, 7, 7, 7, 7, 7, 7, 10, 8, 9, 11, 12, 9, 8, 10,
+    0, 3, 3, 0,
+    9,                                     /* actions */
+    2, 0x8C, 0x0E,                         /* the move 1,804, which is 12 + 128 * 14 */
+    4, 5,                                  /* offers by white and by black */
+    2, 0xFF, 0xDF, 0x01,                   /* the move 28,671, which is 127 + 128 * 95 + 16,384 */
+    6, 8, 10, 11,                          /* accepted, declared, both resign */
+    2, 0,                                  /* the move 0 */
+};
+
+static const uint8_t actions_by_hand[4 * HAND_ACTIONS] = {
+    1, 0, 12, 7, 2, 0, 0, 0, 2, 1, 0, 0, 1, 0, 255, 111, 3, 0, 0, 0, 4, 0, 0, 0, 5, 0, 0, 0, 5, 1, 0, 0, 1, 0, 0, 0,
+};
+
+static struct roll hand_roll(void)
+{
+    struct roll r = { { 0 }, 0 };
+    add_bytes(&r, by_hand, HAND_LENGTH);
+    return r;
+}
+
+static struct finished hand_game(void)
+{
+    struct finished f = { .start = initial, .count = HAND_ACTIONS };
+    memcpy(f.actions, actions_by_hand, sizeof actions_by_hand);
+    return f;
+}
+
+static void check_hand(void)
+{
+    struct finished f = hand_game();
+    struct roll r = hand_roll();
+    check_number(&r, MENKHODUR_ACCEPTED);
+    for (size_t more = 0; more <= BEHIND; more += 4) {
+        check_read(&r, MENKHODUR_ACTIONS_LENGTH + more, MENKHODUR_ACCEPTED, &f);
+        check_write(&f, MENKHODUR_ACTIONS_LENGTH + more, HAND_LENGTH + more, MENKHODUR_ACCEPTED, &r);
+    }
+    for (size_t room = 0; room < HAND_LENGTH; room++) check_write(&f, MENKHODUR_ACTIONS_LENGTH, room, MENKHODUR_OUTPUT_TOO_SHORT, &r);
+    for (size_t length = 0; length < MENKHODUR_ACTIONS_LENGTH; length += length < 40 ? 1 : 1019) {
+        check_write(&f, length, HAND_LENGTH, MENKHODUR_PART_TOO_SHORT, &r);
+        check_read(&r, length, MENKHODUR_PART_TOO_SHORT, &f);
+    }
+    check_read(&r, MENKHODUR_ACTIONS_LENGTH - 1, MENKHODUR_PART_TOO_SHORT, &f);
+    check_write(&f, MENKHODUR_ACTIONS_LENGTH - 1, HAND_LENGTH, MENKHODUR_PART_TOO_SHORT, &r);
+    f.count = 0;
+    check_finished(&f);
+}
+
+/* Every cut, every byte behind, every other byte in each place, and every place without its byte. */
+static void check_changes(void)
+{
+    struct roll r;
+    for (size_t length = 0; length < HAND_LENGTH; length++) {
+        r = hand_roll();
+        r.length = length;
+        check_number(&r, MENKHODUR_BAD_ROLL);
+        r = hand_roll();
+        memmove(r.bytes + length, r.bytes + length + 1, --r.length - length);
+        check_roll(&r);
+    }
+    for (unsigned byte = 0; byte < 256; byte++) {
+        r = hand_roll();
+        add_bytes(&r, (uint8_t[]){ (uint8_t)byte }, 1);
+        check_number(&r, MENKHODUR_BAD_ROLL);
+    }
+    for (unsigned i = 0; i < 256 * HAND_LENGTH; i += exact ? 7 : 1) {
+        r = hand_roll();
+        r.bytes[i / 256] = (uint8_t)i;
+        check_roll(&r);
+    }
+}
+
+/* ---- Numbers as they must not be, in every place ---- */
+
+struct spelling {
+    uint8_t bytes[6];
+    size_t length;
+    uint64_t in_record, as_count, in_action;
+};
+
+/* A number of five groups is judged by its size, which must not be cut; one of six, or with a last group of 0, is 17 whatever its size. */
+static const struct spelling spellings[] = {
+    { { 128, 0 }, 2, 17, 17, 17 },
+    { { 255, 0 }, 2, 17, 17, 17 },
+    { { 130, 128, 0 }, 3, 17, 17, 17 },
+    { { 128, 128, 128, 128, 0 }, 5, 17, 17, 17 },
+    { { 255, 255, 255, 255, 255, 127 }, 6, 17, 17, 17 },
+    { { 130, 128, 128, 128, 128, 1 }, 6, 17, 17, 17 },
+    { { 128, 128, 128, 128, 128, 0 }, 6, 17, 17, 17 },
+    { { 255, 255, 255, 255, 127 }, 5, 5, 13, 17 },
+    { { 130, 128, 128, 128, 16 }, 5, 5, 13, 17 },
+    { { 128, 128, 128, 128, 8 }, 5, 5, 13, 17 },
+    { { 130, 128, 128, 4 }, 4, 5, 13, 17 },
+    { { 130, 128, 4 }, 3, 5, 13, 17 },
+    { { 128, 224, 1 }, 3, 5, 13, 17 },
+};
+
+/* The roll by hand, with the number in one place spelled so. */
+static struct roll respelled(unsigned place, const struct spelling *s)
+{
+    struct roll from = hand_roll(), r = { { 0 }, 0 };
+    size_t at = 0;
+    for (unsigned i = 0; i < HAND_NUMBERS; i++) {
+        size_t first = at;
+        uint64_t n;
+        next_number(&from, &at, &n);
+        add_bytes(&r, i == place ? s->bytes : from.bytes + first, i == place ? s->length : at - first);
+    }
+    return r;
+}
+
+static void check_spellings(void)
+{
+    for (unsigned place = 0; place < HAND_NUMBERS; place++)
+        for (size_t i = 0; i < sizeof spellings / sizeof *spellings; i++) {
+            const struct spelling *s = &spellings[i];
+            struct roll r = respelled(place, s);
+            check_number(&r, place < RECORD ? s->in_record : place == COUNT ? s->as_count : s->in_action);
+        }
+}
+
+/* ---- The writer's numbers ---- */
+
+static bool is_action(uint64_t kind, uint64_t colour, uint64_t move)
+{
+    if (kind == MENKHODUR_MAKE_MOVE) return colour == 0 && move <= MENKHODUR_LAST_MOVE;
+    if (kind == MENKHODUR_OFFER_DRAW || kind == MENKHODUR_RESIGN) return colour < 2 && move == 0;
+    return (kind == MENKHODUR_ACCEPT_DRAW || kind == MENKHODUR_DECLARE_DRAW) && colour == 0 && move == 0;
+}
+
+/* The action is the second of three; past the count it is not looked at. */
+static void check_action(unsigned kind, unsigned colour, unsigned move)
+{
+    struct finished f = { .start = initial };
+    struct roll r;
+    add_action(&f, MENKHODUR_MAKE_MOVE, 0, E2E4);
+    add_action(&f, kind, colour, move);
+    f.count = 1;
+    check_finished(&f);
+    f.count = 2;
+    add_action(&f, MENKHODUR_RESIGN, 1, 0);
+    r = written(&f);
+    check_write(&f, MENKHODUR_ACTIONS_LENGTH, r.length, is_action(kind, colour, move) ? MENKHODUR_ACCEPTED : MENKHODUR_BAD_ROLL, &r);
+}
+
+static void check_actions(void)
+{
+    static const unsigned kinds[10] = { 0, 1, 2, 3, 4, 5, 6, 7, 128, 255 }, colours[4] = { 0, 1, 2, 255 };
+    static const unsigned moves[7] = { 0, 1, 256, E2E4, MENKHODUR_LAST_MOVE, MENKHODUR_LAST_MOVE + 1, 65535 };
+    for (unsigned i = 0; i < 10 * 4 * 7; i++) check_action(kinds[i / 28], colours[i / 7 % 4], moves[i % 7]);
+}
+
+static void check_records_and_counts(void)
+{
+    struct finished f = hand_game();
+    struct roll r = hand_roll();
+    for (unsigned i = 0; i < 2 * RECORD; i++) {
+        f = hand_game();
+        *number_of(&f.start, i / 2) = (uint8_t)(i % 2 ? 255 : limit_of(i / 2) + 1);
+        check_write(&f, MENKHODUR_ACTIONS_LENGTH, HAND_LENGTH, MENKHODUR_OUT_OF_RANGE, &r);
+    }
+    f = hand_game();
+    for (unsigned i = 0; i < 3 * WIDE; i++) {
+        f.count = i < WIDE ? wide[i] : i < 2 * WIDE ? wide_over(i - WIDE, HAND_ACTIONS) : MENKHODUR_MAX_ACTIONS + 1 + i - 2 * WIDE;
+        check_write(&f, MENKHODUR_ACTIONS_LENGTH, HAND_LENGTH, MENKHODUR_LOG_FULL, &r);
+    }
+}
+
+/* ---- Orders of checks, over every set of faults ---- */
+
+static void check_write_order(unsigned faults)
+{
+    static const uint64_t numbers[] = { MENKHODUR_PART_TOO_SHORT, MENKHODUR_OUT_OF_RANGE, MENKHODUR_LOG_FULL, MENKHODUR_LOG_FULL,
+                                        MENKHODUR_BAD_ROLL, MENKHODUR_OUTPUT_TOO_SHORT };
+    struct finished f = { .start = initial };
+    struct roll r;
+    if (faults & 2) f.start.en_passant = 9;
+    add_action(&f, MENKHODUR_OFFER_DRAW, faults & 16 ? 2 : 1, 0);
+    for (unsigned i = 0; i < (faults & 8 ? MENKHODUR_MAX_MOVES + 1 : 3); i++) add_action(&f, MENKHODUR_MAKE_MOVE, 0, E2E4);
+    r = written(&f);
+    if (faults & 4) f.count = MENKHODUR_MAX_ACTIONS + 1;
+    check_write(&f, MENKHODUR_ACTIONS_LENGTH - (faults & 1), r.length - (faults >> 5 & 1), first_of(faults, numbers), &r);
+}
+
+/* The faults stand in the roll in this order. */
+static void check_read_order(unsigned faults)
+{
+    static const uint64_t numbers[] = { MENKHODUR_PART_TOO_SHORT, MENKHODUR_OUT_OF_RANGE, MENKHODUR_BAD_ROLL, MENKHODUR_LOG_FULL,
+                                        MENKHODUR_BAD_ROLL, MENKHODUR_LOG_FULL, MENKHODUR_BAD_ROLL };
+    struct roll r = { { 0 }, 0 };
+    unsigned moves = faults & 32 ? MENKHODUR_MAX_MOVES + 1 : 3;
+    struct finished f;
+    for (unsigned which = 0; which < RECORD; which++) {
+        if (which == 40 && faults & 4) add_bytes(&r, (uint8_t[]){ 128, 0 }, 2);
+        else add_number(&r, which == 20 && faults & 2 ? 13 : by_hand[which]);
+    }
+    add_number(&r, faults & 8 ? MENKHODUR_MAX_ACTIONS + 1 : moves + 2);
+    add_number(&r, faults & 16 ? 3 : 4);
+    for (unsigned i = 0; i < moves; i++) add_bytes(&r, (uint8_t[]){ 2, 0x8C, 0x0E }, 3);
+    add_number(&r, 6);
+    if (faults & 64) r.length--;
+    about("menkhodur_roll_read", "faults %u", faults);
+    expect("number by the order's words", first_of(faults >> 1, numbers + 1), judge(&r, &f));
+    check_read(&r, MENKHODUR_ACTIONS_LENGTH - (faults & 1), first_of(faults, numbers), &f);
+}
+
+/* ---- Limits ---- */
+
+/* The 1,025th move is refused at its code: what stands for its number is not read. */
+static void check_last_move(const uint8_t *tail, size_t length, uint64_t number)
+{
+    struct roll r = roll_front(initial, MENKHODUR_MAX_MOVES + 1);
+    for (unsigned i = 0; i < MENKHODUR_MAX_MOVES; i++) add_bytes(&r, (uint8_t[]){ 2, 0 }, 2);
+    add_bytes(&r, tail, length);
+    check_number(&r, number);
+}
+
+static void check_limits(void)
+{
+    struct roll none = roll_front(initial, MENKHODUR_MAX_ACTIONS), over = roll_front(initial, MENKHODUR_MAX_ACTIONS + 1);
+    check_number(&none, MENKHODUR_BAD_ROLL);
+    check_number(&over, MENKHODUR_LOG_FULL);
+    check_last_move((uint8_t[]){ 0 }, 0, MENKHODUR_BAD_ROLL);
+    check_last_move((uint8_t[]){ 4 }, 1, MENKHODUR_ACCEPTED);
+    check_last_move((uint8_t[]){ 3 }, 1, MENKHODUR_BAD_ROLL);
+    check_last_move((uint8_t[]){ 2 }, 1, MENKHODUR_LOG_FULL);
+    check_last_move((uint8_t[]){ 2, 0 }, 2, MENKHODUR_LOG_FULL);
+    check_last_move((uint8_t[]){ 2, 128, 0 }, 3, MENKHODUR_LOG_FULL);
+    check_last_move((uint8_t[]){ 130, 0 }, 2, MENKHODUR_BAD_ROLL);
+}
+
+/* Moves past the limit among bytes that are no action: these are no moves, and 13 stands before 17. */
+static void check_moves_counted(unsigned moves, uint64_t number)
+{
+    struct finished f = { .start = initial };
+    struct roll r = hand_roll();
+    for (unsigned i = 0; i < moves; i++) add_action(&f, MENKHODUR_MAKE_MOVE, 0, MENKHODUR_LAST_MOVE);
+    for (unsigned i = 0; i < 9; i++) add_action(&f, MENKHODUR_MAKE_MOVE, i % 2, i % 2 ? 0 : MENKHODUR_LAST_MOVE + 1);
+    check_write(&f, MENKHODUR_ACTIONS_LENGTH, MENKHODUR_LONGEST_ROLL, number, &r);
+}
+
+static void check_longest(void)
+{
+    struct finished f = { .start = initial };
+    struct roll r;
+    while (f.count < MENKHODUR_MAX_ACTIONS) {
+        add_action(&f, MENKHODUR_MAKE_MOVE, 0, MENKHODUR_LAST_MOVE);
+        add_action(&f, MENKHODUR_OFFER_DRAW, MENKHODUR_BLACK, 0);
+    }
+    check_finished(&f);
+    r = written(&f);
+    expect("longest", MENKHODUR_LONGEST_ROLL, r.length);
+    check_write(&f, MENKHODUR_ACTIONS_LENGTH, r.length - 1, MENKHODUR_OUTPUT_TOO_SHORT, &r);
+    while (r.length > 0) {
+        r.length -= exact && r.length > 97 ? 97 : 1;
+        check_number(&r, MENKHODUR_BAD_ROLL);
+    }
+}
+
+/* ---- Rolls of logs that calls have made ---- */
+
+static void check_log_roll(const struct game *g)
+{
+    struct finished f = { .start = initial, .count = g->action_count };
+    memcpy(f.actions, g->actions.bytes, MENKHODUR_ACTIONS_LENGTH);
+    check_finished(&f);
+}
+
+static void check_logs(void)
+{
+    static const struct request last[] = { { OFFER_DRAW, 0, 1, NULL }, { ACCEPT_DRAW, 0, 0, NULL } };
+    struct game g = lend_game(MENKHODUR_ACTIONS_LENGTH, MENKHODUR_POSITIONS_LENGTH);
+    struct position p = round_position(0, false);
+    start(&g, &p, MENKHODUR_ACCEPTED);
+    check_log_roll(&g);
+    play_round(&g, 3, false);
+    check_log_roll(&g);
+    for (unsigned i = 0; i < 2; i++) {
+        play(&g, last[i], MENKHODUR_ACCEPTED);
+        check_log_roll(&g);
+    }
+    g.action_count = g.move_count = 0;
+    start(&g, &p, MENKHODUR_ACCEPTED);
+    play(&g, (struct request){ OFFER_DRAW, 0, 0, NULL }, MENKHODUR_ACCEPTED);
+    play_round(&g, 150, false);
+    play(&g, (struct request){ DECLARE_DRAW, 0, 0, NULL }, MENKHODUR_ACCEPTED);
+    check_log_roll(&g);
+    give_back_game(&g);
+}
+
+/* ---- Random games, and changes of their rolls ---- */
+
+static struct finished some_game(void)
+{
+    struct finished f = nothing;
+    unsigned actions = any(4) ? any(30) : any(MENKHODUR_MAX_ACTIONS + 1);
+    for (unsigned which = 0; which < RECORD; which++) *number_of(&f.start, which) = (uint8_t)any(limit_of(which) + 1u);
+    for (unsigned i = 0; i < actions; i++) {
+        unsigned kind = i < MENKHODUR_MAX_MOVES && any(3) ? MENKHODUR_MAKE_MOVE : 2 + any(4);
+        bool coloured = kind == MENKHODUR_OFFER_DRAW || kind == MENKHODUR_RESIGN;
+        add_action(&f, kind, coloured ? any(2) : 0, kind == MENKHODUR_MAKE_MOVE ? any(any(2) ? 200 : MENKHODUR_LAST_MOVE + 1) : 0);
+    }
+    return f;
+}
+
+static void check_some(void)
+{
+    struct finished f = some_game();
+    struct roll whole = written(&f), r;
+    check_finished(&f);
+    for (unsigned i = 0; i < CHANGES; i++) {
+        r = whole;
+        r.bytes[any((unsigned)r.length)] = (uint8_t)any(256);
+        if (any(2)) r.bytes[RECORD + any((unsigned)r.length - RECORD)] = (uint8_t)any(256);
+        check_roll(&r);
+    }
+}
+
+void check_rolls(void)
+{
+    check_hand();
+    check_changes();
+    check_spellings();
+    check_actions();
+    check_records_and_counts();
+    for (unsigned faults = 0; faults < 64; faults++) check_write_order(faults);
+    for (unsigned faults = 0; faults < 128; faults++) check_read_order(faults);
+    check_limits();
+    check_moves_counted(MENKHODUR_MAX_MOVES, MENKHODUR_BAD_ROLL);
+    check_moves_counted(MENKHODUR_MAX_MOVES + 1, MENKHODUR_LOG_FULL);
+    check_longest();
+    check_logs();
+    for (unsigned i = 0; i < (exact ? GAMES_EXACT : GAMES); i++) check_some();
+}

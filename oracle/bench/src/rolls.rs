@@ -1,0 +1,85 @@
+//! Rolls of games, read and written by us and by the same job in plain safe Rust.
+
+use crate::plain;
+use crate::{long_game, row, times};
+use both::abi::{self, Record, ACTIONS_LENGTH, POSITION_LENGTH};
+use both::games::{board_of, STARTS};
+use both::numbers::{number_of, record_of};
+use both::random::Random;
+use chess::BoardBuilder;
+
+const LENGTHS: [usize; 7] = [20, 40, 80, 160, 300, 600, 1_024];
+const GAMES: usize = 32;
+/// Bytes of the longest roll: a record, a count, 1,024 moves of three groups and 1,024 other actions.
+const ROOM: usize = 68 + 2 + 1_024 * 4 + 1_024;
+
+/// A game in both shapes.
+struct Rolled {
+    start: Record,
+    actions: Vec<u8>,
+    count: u64,
+    roll: Vec<u8>,
+}
+
+/// The actions part of a game of so many moves: an offer after one move in twenty, and a resignation at its end.
+fn rolled(length: usize, random: &mut Random) -> Rolled {
+    let mut actions = vec![];
+    for m in long_game(length, random) {
+        let [low, high] = number_of(m).to_le_bytes();
+        actions.extend([1, 0, low, high]);
+        if random.once_in(20) {
+            actions.extend([2, random.below(2) as u8, 0, 0]);
+        }
+    }
+    actions.extend([5, random.below(2) as u8, 0, 0]);
+    let count = actions.len() as u64 / 4;
+    actions.resize(ACTIONS_LENGTH, 0);
+    let start = record_of(&BoardBuilder::from(board_of(STARTS[0])));
+    let mut roll = vec![0; ROOM];
+    let answer = abi::roll_write(start, &actions, count, &mut roll);
+    assert_eq!(answer.number, 0);
+    roll.truncate(answer.value as usize);
+    Rolled { start, actions, count, roll }
+}
+
+/// What is timed must be right: both write the same roll, and both read the game back.
+fn check(game: &Rolled) {
+    let mut room = vec![0; ROOM];
+    let answer = plain::write(game.start, &game.actions, game.count, &mut room);
+    assert_eq!((answer.number, &room[..answer.value as usize]), (0, &game.roll[..]));
+    for read in [abi::roll_read, plain::read, plain::read_gathering] {
+        let mut part = vec![0; ACTIONS_LENGTH];
+        let got = read(&game.roll, &mut part);
+        assert_eq!((got.number, got.actions, got.board, &part), (0, game.count, game.start, &game.actions));
+    }
+}
+
+/// How much of a log's bytes its roll has.
+fn share(length: usize, games: &[Rolled]) {
+    let rolls: usize = games.iter().map(|g| g.roll.len()).sum();
+    let logs: usize = games.iter().map(|g| 4 * g.count as usize + POSITION_LENGTH * (length + 1)).sum();
+    let each = |sum: usize| sum as f64 / games.len() as f64;
+    let percent = 100.0 * rolls as f64 / logs as f64;
+    println!("a roll of {} moves has {:.0} bytes, its log {:.0}: {:.2} percent", length, each(rolls), each(logs), percent);
+}
+
+pub fn rolls(random: &mut Random) {
+    println!("(rolls: the column `crate` is the same job in plain safe Rust)");
+    for length in LENGTHS {
+        let games: Vec<Rolled> = (0..GAMES).map(|_| rolled(length, random)).collect();
+        games.iter().for_each(check);
+        let (mut part, mut other, mut room, mut another) = ([0; ACTIONS_LENGTH], [0; ACTIONS_LENGTH], [0; ROOM], [0; ROOM]);
+        let (theirs, ours) =
+            times(&games, |g| plain::read(&g.roll, &mut other), |g| abi::roll_read(&g.roll, &mut part));
+        row(&format!("roll read, {} moves", length), games.len(), theirs, ours, "1");
+        let (theirs, ours) =
+            times(&games, |g| plain::read_gathering(&g.roll, &mut other), |g| abi::roll_read(&g.roll, &mut part));
+        row(&format!("roll read, {} moves, gathering", length), games.len(), theirs, ours, "1");
+        let write = |g: &Rolled| abi::roll_write(g.start, &g.actions, g.count, &mut room);
+        let (theirs, ours) = times(&games, |g| plain::write(g.start, &g.actions, g.count, &mut another), write);
+        row(&format!("roll write, {} moves", length), games.len(), theirs, ours, "1");
+        if length == 300 {
+            share(length, &games);
+        }
+    }
+}
