@@ -13,7 +13,8 @@ const INITIAL: &str = "rnbqkbnr/pppppppp/8/8/8/8/PPPPPPPP/RNBQKBNR w KQkq - 0 1"
 /// A position's record: 64 squares, the side to move, both sides' rights and the en passant file, every one in range.
 ///
 /// As with the original's `BoardBuilder`, nothing asks whether such a position can come up in a game. The steps take the board and hand
-/// back the next one.
+/// back the next one. Boards are ordered by their numbers, the first that differs deciding, so that they can be kept in sorted lists and
+/// trees; the order says nothing about the game.
 ///
 /// ```
 /// use menkhodur::{Board, Color, Piece, Square};
@@ -21,8 +22,9 @@ const INITIAL: &str = "rnbqkbnr/pppppppp/8/8/8/8/PPPPPPPP/RNBQKBNR w KQkq - 0 1"
 /// let board = Board::new().piece(Square::B1, Piece::Knight, Color::White).side_to_move(Color::Black);
 /// assert_eq!(board.to_fen(), "8/8/8/8/8/8/8/1N6 b - - 0 1");
 /// assert_eq!(Board::from_fen("8/8/8/8/8/8/8/1N6 B - e9"), Ok(board));
+/// assert!(Board::new() < board);
 /// ```
-#[derive(Clone, Copy, PartialEq, Eq, Hash)]
+#[derive(Clone, Copy, PartialEq, Eq, PartialOrd, Ord, Hash)]
 #[doc(alias = "BoardBuilder")]
 pub struct Board(Record);
 
@@ -34,6 +36,7 @@ impl Board {
     /// ```
     // `default` is taken: as in the original it is the initial position.
     #[allow(clippy::new_without_default)]
+    #[must_use]
     pub fn new() -> Board {
         Board([0; 68])
     }
@@ -58,6 +61,7 @@ impl Board {
     /// let key = "rnbqkbnr/pppppppp/8/8/8/8/PPPPPPPP/RNBQKBNR w KQkq - 0 1";
     /// assert_eq!(Board::default().to_fen(), key);
     /// ```
+    #[must_use]
     pub fn to_fen(&self) -> String {
         let mut room = [0; 85];
         let length = certain(lent::fen_write(&self.0, &mut room));
@@ -82,6 +86,7 @@ impl Board {
     /// ```
     /// assert_eq!(menkhodur::Board::default().numbers()[..5], [4, 2, 3, 5, 6]);
     /// ```
+    #[must_use]
     pub fn numbers(&self) -> &Record {
         &self.0
     }
@@ -94,6 +99,7 @@ impl Board {
     /// let board = Board::new().piece(Square::A8, Piece::Rook, Color::Black);
     /// assert_eq!(board.piece_on(Square::A8), Some(Piece::Rook));
     /// ```
+    #[must_use = "a step leaves its board as it is and hands back the next one"]
     pub fn piece(self, square: Square, piece: Piece, color: Color) -> Board {
         let code = 1 + piece as u8 + 6 * color as u8;
         Board(certain(lent::piece(&self.0, square.to_int(), code)))
@@ -106,6 +112,7 @@ impl Board {
     ///
     /// assert_eq!(Board::default().clear_square(Square::A1).piece_on(Square::A1), None);
     /// ```
+    #[must_use = "a step leaves its board as it is and hands back the next one"]
     pub fn clear_square(self, square: Square) -> Board {
         Board(certain(lent::clear_square(&self.0, square.to_int())))
     }
@@ -117,6 +124,7 @@ impl Board {
     ///
     /// assert_eq!(Board::new().side_to_move(Color::Black).get_side_to_move(), Color::Black);
     /// ```
+    #[must_use = "a step leaves its board as it is and hands back the next one"]
     pub fn side_to_move(self, color: Color) -> Board {
         Board(certain(lent::side_to_move(&self.0, color as u8)))
     }
@@ -129,6 +137,7 @@ impl Board {
     /// let board = Board::new().castle_rights(Color::Black, CastleRights::QueenSide);
     /// assert_eq!(board.to_fen(), "8/8/8/8/8/8/8/8 w q - 0 1");
     /// ```
+    #[must_use = "a step leaves its board as it is and hands back the next one"]
     pub fn castle_rights(self, color: Color, rights: CastleRights) -> Board {
         Board(certain(lent::castle_rights(&self.0, color as u8, rights as u8)))
     }
@@ -142,6 +151,7 @@ impl Board {
     /// assert_eq!(board.to_fen(), "8/8/8/8/8/8/8/8 w - e6 0 1");
     /// assert_eq!(board.en_passant(None), Board::new());
     /// ```
+    #[must_use = "a step leaves its board as it is and hands back the next one"]
     pub fn en_passant(self, file: Option<File>) -> Board {
         Board(certain(lent::en_passant(&self.0, file.map_or(0, |file| file as u8 + 1))))
     }
@@ -153,6 +163,7 @@ impl Board {
     ///
     /// assert_eq!(Board::default().piece_on(Square::D8), Some(Piece::Queen));
     /// ```
+    #[must_use]
     pub fn piece_on(&self, square: Square) -> Option<Piece> {
         self.index_on(square).map(|index| ALL_PIECES[index % 6])
     }
@@ -165,6 +176,7 @@ impl Board {
     /// assert_eq!(Board::default().color_on(Square::D8), Some(Color::Black));
     /// assert_eq!(Board::default().color_on(Square::D4), None);
     /// ```
+    #[must_use]
     pub fn color_on(&self, square: Square) -> Option<Color> {
         self.index_on(square).map(|index| ALL_COLORS[index / 6])
     }
@@ -180,6 +192,7 @@ impl Board {
     ///
     /// assert_eq!(Board::default().get_side_to_move(), Color::White);
     /// ```
+    #[must_use]
     pub fn get_side_to_move(&self) -> Color {
         ALL_COLORS[usize::from(self.0[64])]
     }
@@ -191,6 +204,7 @@ impl Board {
     ///
     /// assert_eq!(Board::default().get_castle_rights(Color::Black), CastleRights::Both);
     /// ```
+    #[must_use]
     pub fn get_castle_rights(&self, color: Color) -> CastleRights {
         CastleRights::numbered(self.0[65 + color.to_index()])
     }
@@ -203,6 +217,7 @@ impl Board {
     /// assert_eq!(Board::from_fen(" b - d3").unwrap().en_passant_file(), Some(File::D));
     /// assert_eq!(Board::default().en_passant_file(), None);
     /// ```
+    #[must_use]
     pub fn en_passant_file(&self) -> Option<File> {
         usize::from(self.0[67]).checked_sub(1).map(|index| ALL_FILES[index])
     }

@@ -19,11 +19,12 @@ use std::fmt;
 pub enum Error {
     /// 1: the text is not a FEN.
     InvalidFen,
-    /// 2: a pair of bytes in a coordinate text is not a square.
+    /// 2: a pair of bytes in a coordinate text, or a text that should be a square, is not one.
     InvalidSquare,
     /// 3: the text is not a move in coordinates: a pair is missing, or a fifth and last byte is not q, r, n or b.
     InvalidUciMove,
-    /// 4: the SAN text names no listed move, or more than one.
+    /// 4: the text is no SAN text, fits no listed move (as castling that is not listed) or more than one, or is wrong about whether the
+    /// move captures.
     InvalidSanMove,
     /// 5: a record number, square, rank, file, colour, rights number or in-check byte is out of range.
     OutOfRange,
@@ -65,6 +66,7 @@ impl Error {
     /// assert_eq!(Error::GameOver.number(), 10);
     /// assert_eq!(Error::OutputTooShort { needed: 25 }.number(), 7);
     /// ```
+    #[must_use]
     pub fn number(&self) -> u64 {
         match *self {
             Error::InvalidFen => 1,
@@ -111,23 +113,32 @@ impl Error {
         })
     }
 
-    fn text(&self) -> &'static str {
+    /// What the number means, in words.
+    ///
+    /// ```
+    /// use menkhodur::Error;
+    ///
+    /// assert_eq!(Error::NoDrawOffer.meaning(), "there is no draw offer to accept");
+    /// assert_eq!(Error::NoDrawOffer.to_string(), "there is no draw offer to accept (answer 14)");
+    /// ```
+    #[must_use]
+    pub fn meaning(&self) -> &'static str {
         match *self {
             Error::InvalidFen => "the text is not a FEN",
             Error::InvalidSquare => "the text has something else where a square such as e4 should be",
             Error::InvalidUciMove => "the text is not a move such as e2e4 or e7e8q",
-            Error::InvalidSanMove => "the text names no move of the list, or more than one",
-            Error::OutOfRange => "a number of the position, or a square, colour, file or right, is out of range",
-            Error::ListOutOfRange => "the list has more than 255 moves, or a move number is over 28,671",
+            Error::InvalidSanMove => "the text is no SAN text, fits no listed move or more than one, or is wrong about a capture",
+            Error::OutOfRange => "a number of the board, a square, rank, file, colour, rights number or in-check byte is out of range",
+            Error::ListOutOfRange => "the list has more than 255 moves, or a move's number is over 28,671",
             Error::OutputTooShort { .. } => "the room for the text is too short",
             Error::NoName => "no text names this move among the listed ones",
-            Error::LogNotGood => "the log is not one that a game could have made, or a count is over its limit",
+            Error::LogNotGood => "no sequence of accepted calls makes this log, or a count is over its limit",
             Error::GameOver => "the game is over",
             Error::MoveNotListed => "the move is not in the list",
             Error::WrongSideToMove => "the position after the move has the wrong side to move",
-            Error::LogFull => "the log is full",
+            Error::LogFull => "the log is full: it has 2,048 actions or, for a move, 1,024 moves",
             Error::NoDrawOffer => "there is no draw offer to accept",
-            Error::NoClaim => "no draw can be claimed in this position",
+            Error::NoClaim => "no draw can be claimed",
             Error::PartTooShort => "a part of the log is too short",
             Error::Unknown(_) => "the archive refused for a reason that this package does not know",
         }
@@ -136,7 +147,7 @@ impl Error {
 
 impl fmt::Display for Error {
     fn fmt(&self, f: &mut fmt::Formatter<'_>) -> fmt::Result {
-        write!(f, "{}", self.text())?;
+        f.write_str(self.meaning())?;
         if let Error::OutputTooShort { needed } = self {
             write!(f, ", {needed} bytes are needed")?;
         }
@@ -167,7 +178,8 @@ mod tests {
             let error = Error::judge(number, 85).unwrap_err();
             assert_eq!(error.number(), number);
             assert!(!matches!(error, Error::Unknown(_)));
-            assert!(texts.insert(error.to_string()), "{error}");
+            assert!(texts.insert(error.meaning()), "{error}");
+            assert!(error.to_string().starts_with(error.meaning()));
             assert!(error.to_string().ends_with(&format!("(answer {number})")));
         }
     }

@@ -86,6 +86,8 @@ impl Counts {
 // The declarations are those of the archive's crate, which `host/menkhodur.h` repeats; the tests below and those of the package run each
 // of them. `safe` are those that take and give numbers alone: every number is judged, and none of the caller's memory is looked at.
 unsafe extern "C" {
+    pub(crate) safe fn menkhodur_version() -> u64;
+
     pub(crate) safe fn menkhodur_make_square(rank: u8, file: u8) -> Answer;
     pub(crate) safe fn menkhodur_rights_add(rights: u8, added: u8) -> Answer;
     pub(crate) safe fn menkhodur_rights_remove(rights: u8, removed: u8) -> Answer;

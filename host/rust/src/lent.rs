@@ -36,7 +36,8 @@ pub const ACTIONS_PART: usize = MAX_ACTIONS * ACTION_BYTES;
 /// The length that the part of the positions must have: a start and one after each move.
 pub const POSITIONS_PART: usize = (MAX_MOVES + 1) * POSITION_BYTES;
 
-/// How many actions a log has, and how many of them are moves.
+/// How many actions a log has, and how many of them are moves: what the next call on its parts is handed.
+#[must_use = "the next call on the log's parts must be handed these counts"]
 #[derive(Clone, Copy, Debug, Default, PartialEq, Eq, Hash)]
 pub struct Counts {
     /// All actions: moves, offers, acceptances, declarations and resignations.
@@ -54,6 +55,16 @@ pub struct Given<'a> {
     pub in_check: u8,
     /// The numbers of the moves that can be made.
     pub list: &'a [u16],
+}
+
+/// The version of the archive that is linked. `build.rs` has refused any other than [`VERSION`](crate::VERSION).
+///
+/// ```
+/// assert_eq!(menkhodur::lent::version(), menkhodur::VERSION);
+/// ```
+#[must_use]
+pub fn version() -> u64 {
+    ffi::menkhodur_version()
 }
 
 /// The number of the square on a rank (0 to 7) and a file (0 to 7). Refused: 5.

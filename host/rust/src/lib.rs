@@ -18,14 +18,19 @@
 //! # }
 //! ```
 //!
+//! The archive is linked at build time and is part of the program from then on. `build.rs` takes the one in the directory that
+//! `MENKHODUR_ARCHIVE_DIR` names; without that variable it takes the repository's own, and first has `rt staticlib menkhodur` build it if
+//! it is missing or older than a source. An archive of another version than [`VERSION`] is refused there.
+//!
 //! Two layers: the types here, whose numbers are in range by construction, and [`lent`], the archive's functions over slices that the
 //! caller keeps. Either way a refusal is an [`Error`] with document 01's number, and has changed nothing.
 
 #![deny(missing_docs)]
 #![deny(clippy::undocumented_unsafe_blocks)]
-#![warn(clippy::all)]
+#![warn(clippy::all, clippy::must_use_candidate)]
 
 mod board;
+mod entry;
 mod error;
 mod ffi;
 pub mod lent;
@@ -33,11 +38,14 @@ mod log;
 mod moves;
 mod piece;
 mod square;
+mod version;
 
 pub use board::Board;
+pub use entry::{Action, Actions, Position, Positions};
 pub use error::Error;
-pub use lent::Counts;
-pub use log::{Action, GameResult, Log, Position};
+pub use lent::{Counts, version};
+pub use log::{GameResult, Log};
 pub use moves::{MAX_MOVE, Move};
 pub use piece::{ALL_CASTLE_RIGHTS, ALL_COLORS, ALL_PIECES, CastleRights, Color, Piece};
 pub use square::{ALL_FILES, ALL_RANKS, File, Rank, Square};
+pub use version::VERSION;

@@ -1,10 +1,11 @@
 //! The game log: moves, offers, endings and claims.
 
 use crate::board::Board;
+use crate::entry::{Actions, POSITION_PAIRS, Position, Positions, bytes, bytes_mut};
 use crate::error::{Error, certain};
-use crate::lent::{self, ACTION_BYTES, ACTIONS_PART, Counts, Given, MAX_ACTIONS, MAX_MOVES, POSITION_BYTES, POSITIONS_PART};
+use crate::lent::{self, ACTION_BYTES, ACTIONS_PART, Counts, MAX_ACTIONS, MAX_MOVES, POSITION_BYTES};
 use crate::moves::Move;
-use crate::piece::{ALL_COLORS, Color};
+use crate::piece::Color;
 use std::fmt;
 
 /// How a game has ended, in the order of document 01's numbers 1 to 7.
@@ -14,6 +15,7 @@ use std::fmt;
 ///
 /// assert_eq!(GameResult::WhiteCheckmates.number(), 1);
 /// assert_eq!(GameResult::DrawDeclared.number(), 7);
+/// assert_eq!(GameResult::BlackResigns.to_string(), "black resigns");
 /// ```
 #[derive(Clone, Copy, Debug, PartialEq, Eq, PartialOrd, Ord, Hash)]
 pub enum GameResult {
@@ -49,72 +51,28 @@ impl GameResult {
     /// ```
     /// assert_eq!(menkhodur::GameResult::Stalemate.number(), 5);
     /// ```
+    #[must_use]
     pub fn number(self) -> u8 {
         self as u8 + 1
     }
 }
 
-/// What a log holds an entry for.
+/// Writes the result in words.
 ///
 /// ```
-/// use menkhodur::{Action, Board, Color, Log, Move, Position};
-///
-/// let list = [Move::from_text("b1c3").unwrap()];
-/// let mut log = Log::start(&Position { board: Board::default(), in_check: false, list: &list }).unwrap();
-/// log.offer_draw(Color::White).unwrap();
-/// log.resign(Color::Black).unwrap();
-/// let actions: Vec<Action> = log.actions().collect();
-/// assert_eq!(actions, [Action::OfferDraw(Color::White), Action::Resign(Color::Black)]);
+/// assert_eq!(menkhodur::GameResult::DrawAccepted.to_string(), "draw accepted");
 /// ```
-#[derive(Clone, Copy, Debug, PartialEq, Eq, Hash)]
-pub enum Action {
-    /// A move was made.
-    MakeMove(Move),
-    /// A colour has offered a draw.
-    OfferDraw(Color),
-    /// The offered draw was accepted.
-    AcceptDraw,
-    /// A draw was declared.
-    DeclareDraw,
-    /// A colour has resigned.
-    Resign(Color),
-}
-
-impl Action {
-    fn of_good_log(bytes: &[u8]) -> Action {
-        let color = ALL_COLORS[usize::from(bytes[1])];
-        match bytes[0] {
-            1 => Action::MakeMove(Move::of_list(u16::from_le_bytes([bytes[2], bytes[3]]))),
-            2 => Action::OfferDraw(color),
-            3 => Action::AcceptDraw,
-            4 => Action::DeclareDraw,
-            _ => Action::Resign(color),
-        }
-    }
-}
-
-/// A position as a log is given it: the board, whether its side to move is in check, and the moves that can be made. The library has no
-/// move generator: an empty list is what ends a game.
-///
-/// ```
-/// use menkhodur::{Board, GameResult, Log, Position};
-///
-/// let mated = Position { board: Board::new(), in_check: true, list: &[] };
-/// assert_eq!(Log::start(&mated).unwrap().result(), Some(GameResult::BlackCheckmates));
-/// ```
-#[derive(Clone, Copy, Debug, PartialEq, Eq)]
-pub struct Position<'a> {
-    /// The board.
-    pub board: Board,
-    /// Whether the side to move is in check.
-    pub in_check: bool,
-    /// The moves that can be made, at most 255.
-    pub list: &'a [Move],
-}
-
-impl Position<'_> {
-    fn given(&self) -> Given<'_> {
-        Given { record: self.board.numbers(), in_check: u8::from(self.in_check), list: Move::numbers(self.list) }
+impl fmt::Display for GameResult {
+    fn fmt(&self, f: &mut fmt::Formatter<'_>) -> fmt::Result {
+        f.pad(match self {
+            GameResult::WhiteCheckmates => "white checkmates",
+            GameResult::WhiteResigns => "white resigns",
+            GameResult::BlackCheckmates => "black checkmates",
+            GameResult::BlackResigns => "black resigns",
+            GameResult::Stalemate => "stalemate",
+            GameResult::DrawAccepted => "draw accepted",
+            GameResult::DrawDeclared => "draw declared",
+        })
     }
 }
 
@@ -136,12 +94,13 @@ impl Position<'_> {
 /// assert_eq!(log.offer_draw(Color::White), Err(Error::GameOver));
 /// ```
 // Boxed slices are made on the heap from the first; arrays would pass over the stack, and no thread's stack is known to have the room.
+// The positions are pairs of bytes for the sake of their lists (see `entry`).
 // Bytes past the used ones stay zero from the start on, so that comparing whole parts compares games.
 #[derive(Clone, PartialEq, Eq)]
 #[doc(alias = "Game")]
 pub struct Log {
     actions: Box<[u8]>,
-    positions: Box<[u8]>,
+    positions: Box<[u16]>,
     counts: Counts,
 }
 
@@ -157,7 +116,7 @@ impl Log {
     /// ```
     pub fn start(start: &Position<'_>) -> Result<Log, Error> {
         let mut log = Log::blank();
-        log.counts = lent::game_start(&log.actions, &mut log.positions, start.given())?;
+        log.counts = lent::game_start(&log.actions, bytes_mut(&mut log.positions), start.given())?;
         Ok(log)
     }
 
@@ -185,16 +144,16 @@ impl Log {
         let positions = positions.get(..positions_used).ok_or(Error::PartTooShort)?;
         let mut log = Log::blank();
         log.actions[..actions_used].copy_from_slice(actions);
-        log.positions[..positions_used].copy_from_slice(positions);
+        bytes_mut(&mut log.positions)[..positions_used].copy_from_slice(positions);
         log.counts = counts;
-        lent::game_result(&log.actions, &log.positions, counts)?;
+        lent::game_result(&log.actions, bytes(&log.positions), counts)?;
         Ok(log)
     }
 
     fn blank() -> Log {
         Log {
             actions: vec![0; ACTIONS_PART].into_boxed_slice(),
-            positions: vec![0; POSITIONS_PART].into_boxed_slice(),
+            positions: vec![0; (MAX_MOVES + 1) * POSITION_PAIRS].into_boxed_slice(),
             counts: Counts::default(),
         }
     }
@@ -216,7 +175,7 @@ impl Log {
     /// ```
     pub fn make_move(&mut self, chess_move: Move, next: &Position<'_>) -> Result<(), Error> {
         let number = u64::from(chess_move.number());
-        self.counts = lent::game_make_move(&mut self.actions, &mut self.positions, self.counts, number, next.given())?;
+        self.counts = lent::game_make_move(&mut self.actions, bytes_mut(&mut self.positions), self.counts, number, next.given())?;
         Ok(())
     }
 
@@ -232,7 +191,7 @@ impl Log {
     /// assert_eq!(log.result(), Some(GameResult::DrawAccepted));
     /// ```
     pub fn offer_draw(&mut self, color: Color) -> Result<(), Error> {
-        self.counts = lent::game_offer_draw(&mut self.actions, &self.positions, self.counts, color as u8)?;
+        self.counts = lent::game_offer_draw(&mut self.actions, bytes(&self.positions), self.counts, color as u8)?;
         Ok(())
     }
 
@@ -247,7 +206,7 @@ impl Log {
     /// assert_eq!(log.accept_draw(), Err(Error::NoDrawOffer));
     /// ```
     pub fn accept_draw(&mut self) -> Result<(), Error> {
-        self.counts = lent::game_accept_draw(&mut self.actions, &self.positions, self.counts)?;
+        self.counts = lent::game_accept_draw(&mut self.actions, bytes(&self.positions), self.counts)?;
         Ok(())
     }
 
@@ -262,7 +221,7 @@ impl Log {
     /// assert_eq!(log.declare_draw(), Err(Error::NoClaim));
     /// ```
     pub fn declare_draw(&mut self) -> Result<(), Error> {
-        self.counts = lent::game_declare_draw(&mut self.actions, &self.positions, self.counts)?;
+        self.counts = lent::game_declare_draw(&mut self.actions, bytes(&self.positions), self.counts)?;
         Ok(())
     }
 
@@ -277,7 +236,7 @@ impl Log {
     /// assert_eq!(log.result(), Some(GameResult::WhiteResigns));
     /// ```
     pub fn resign(&mut self, color: Color) -> Result<(), Error> {
-        self.counts = lent::game_resign(&mut self.actions, &self.positions, self.counts, color as u8)?;
+        self.counts = lent::game_resign(&mut self.actions, bytes(&self.positions), self.counts, color as u8)?;
         Ok(())
     }
 
@@ -289,8 +248,9 @@ impl Log {
     /// let log = Log::start(&Position { board: Board::default(), in_check: false, list: &[] }).unwrap();
     /// assert_eq!(log.result(), Some(GameResult::Stalemate));
     /// ```
+    #[must_use]
     pub fn result(&self) -> Option<GameResult> {
-        let number = certain(lent::game_result(&self.actions, &self.positions, self.counts));
+        let number = certain(lent::game_result(&self.actions, bytes(&self.positions), self.counts));
         usize::from(number).checked_sub(1).map(|index| ALL_RESULTS[index])
     }
 
@@ -302,13 +262,34 @@ impl Log {
     /// let log = Log::start(&Position { board: Board::default(), in_check: false, list: &[] }).unwrap();
     /// assert!(!log.can_declare_draw());
     /// ```
+    #[must_use]
     pub fn can_declare_draw(&self) -> bool {
-        certain(lent::game_can_declare_draw(&self.actions, &self.positions, self.counts))
+        certain(lent::game_can_declare_draw(&self.actions, bytes(&self.positions), self.counts))
     }
 
-    /// What was done, in order. [`Action`] has an example.
-    pub fn actions(&self) -> impl Iterator<Item = Action> + '_ {
-        self.used_actions().chunks_exact(ACTION_BYTES).map(Action::of_good_log)
+    /// What was done, in order. [`Action`](crate::Action) has an example.
+    pub fn actions(&self) -> Actions<'_> {
+        Actions(self.used_actions().chunks_exact(ACTION_BYTES))
+    }
+
+    /// The positions that came up: the start, and the one after each move. They are equal to those that the log was given, and the lists
+    /// are lent from it.
+    ///
+    /// ```
+    /// use menkhodur::{Action, Board, Error, Log, Move, Position};
+    ///
+    /// let list = [Move::from_text("b1c3").unwrap()];
+    /// let mut log = Log::start(&Position { board: Board::default(), in_check: false, list: &list }).unwrap();
+    /// let after = Board::from_fen("rnbqkbnr/pppppppp/8/8/8/2N5/PPPPPPPP/R1BQKBNR b KQkq -").unwrap();
+    /// log.make_move(list[0], &Position { board: after, in_check: false, list: &[] }).unwrap();
+    /// assert_eq!(log.positions().map(|position| position.board).collect::<Vec<_>>(), [Board::default(), after]);
+    ///
+    /// let made = log.actions().filter_map(|action| if let Action::MakeMove(made) = action { Some(made) } else { None });
+    /// let names: Result<Vec<String>, Error> = log.positions().zip(made).map(|(from, made)| from.board.name(from.list, made)).collect();
+    /// assert_eq!(names.unwrap(), ["Nc3"]);
+    /// ```
+    pub fn positions(&self) -> Positions<'_> {
+        Positions(self.used_pairs().chunks_exact(POSITION_PAIRS))
     }
 
     /// The board of the current position.
@@ -319,10 +300,9 @@ impl Log {
     /// let log = Log::start(&Position { board: Board::default(), in_check: false, list: &[] }).unwrap();
     /// assert_eq!(log.current_position(), Board::default());
     /// ```
+    #[must_use]
     pub fn current_position(&self) -> Board {
-        let mut record = [0; 68];
-        record.copy_from_slice(&self.last_position()[..68]);
-        Board::of_good_log(record)
+        self.last_position().board
     }
 
     /// The side to move in the current position.
@@ -333,6 +313,7 @@ impl Log {
     /// let log = Log::start(&Position { board: Board::default(), in_check: false, list: &[] }).unwrap();
     /// assert_eq!(log.side_to_move(), Color::White);
     /// ```
+    #[must_use]
     pub fn side_to_move(&self) -> Color {
         self.current_position().get_side_to_move()
     }
@@ -345,11 +326,12 @@ impl Log {
     /// let log = Log::start(&Position { board: Board::default(), in_check: true, list: &[] }).unwrap();
     /// assert!(log.in_check());
     /// ```
+    #[must_use]
     pub fn in_check(&self) -> bool {
-        self.last_position()[68] == 1
+        self.last_position().in_check
     }
 
-    /// The moves of the current position's list, in order.
+    /// The moves of the current position's list, in order, lent from the log.
     ///
     /// ```
     /// use menkhodur::{Board, Log, Move, Position};
@@ -358,15 +340,18 @@ impl Log {
     /// let log = Log::start(&Position { board: Board::default(), in_check: false, list: &list }).unwrap();
     /// assert_eq!(log.current_moves(), list);
     /// ```
-    pub fn current_moves(&self) -> Vec<Move> {
-        let position = self.last_position();
-        let listed = position[70..].chunks_exact(2).take(usize::from(position[69]));
-        listed.map(|bytes| Move::of_list(u16::from_le_bytes([bytes[0], bytes[1]]))).collect()
+    #[must_use]
+    pub fn current_moves(&self) -> &[Move] {
+        self.last_position().list
     }
 
-    fn last_position(&self) -> &[u8] {
-        let used = self.used_positions();
-        &used[used.len() - POSITION_BYTES..]
+    fn last_position(&self) -> Position<'_> {
+        let used = self.used_pairs();
+        Position::of_good_log(&used[used.len() - POSITION_PAIRS..])
+    }
+
+    fn used_pairs(&self) -> &[u16] {
+        &self.positions[..used(self.counts).1 / 2]
     }
 
     /// The counts of actions and moves, to be stored beside the used bytes.
@@ -382,13 +367,15 @@ impl Log {
     }
 
     /// The used bytes of the actions' part, 4 for each. [`Log::from_parts`] has an example.
+    #[must_use]
     pub fn used_actions(&self) -> &[u8] {
         &self.actions[..used(self.counts).0]
     }
 
     /// The used bytes of the positions' part, 580 for the start and for each move. [`Log::from_parts`] has an example.
+    #[must_use]
     pub fn used_positions(&self) -> &[u8] {
-        &self.positions[..used(self.counts).1]
+        bytes(self.used_pairs())
     }
 }
 

@@ -34,6 +34,7 @@ impl Move {
     ///
     /// assert_eq!(Move::new(Square::E2, Square::E4, None).number(), 1_804);
     /// ```
+    #[must_use]
     pub fn new(source: Square, dest: Square, promotion: Option<Piece>) -> Move {
         let promotion = promotion.map_or(0, |piece| piece as u16 + 1);
         Move(u16::from(source.to_int()) + 64 * u16::from(dest.to_int()) + 4_096 * promotion)
@@ -72,6 +73,7 @@ impl Move {
     ///
     /// assert_eq!(Move::new(Square::E2, Square::E4, None).get_source(), Square::E2);
     /// ```
+    #[must_use]
     pub fn get_source(self) -> Square {
         Square::low_six_bits(self.0)
     }
@@ -83,6 +85,7 @@ impl Move {
     ///
     /// assert_eq!(Move::new(Square::E2, Square::E4, None).get_dest(), Square::E4);
     /// ```
+    #[must_use]
     pub fn get_dest(self) -> Square {
         Square::low_six_bits(self.0 / 64)
     }
@@ -94,6 +97,7 @@ impl Move {
     ///
     /// assert_eq!(Move::new(Square::E7, Square::E8, Some(Piece::Rook)).get_promotion(), Some(Piece::Rook));
     /// ```
+    #[must_use]
     pub fn get_promotion(self) -> Option<Piece> {
         usize::from(self.0 / 4_096).checked_sub(1).map(|index| ALL_PIECES[index])
     }
@@ -103,6 +107,7 @@ impl Move {
     /// ```
     /// assert_eq!(menkhodur::Move::from_text("a1a1").unwrap().number(), 0);
     /// ```
+    #[must_use]
     pub fn number(self) -> u16 {
         self.0
     }
@@ -111,9 +116,17 @@ impl Move {
         Move(number)
     }
 
+    // Both ways a list is lent as it lies: `Move` is a transparent `u16`, so that the two slices have one layout.
+
     pub(crate) fn numbers(list: &[Move]) -> &[u16] {
-        // SAFETY: `Move` is a transparent `u16`, so both slices have one layout, and the new one borrows the old one's bytes as they are.
+        // SAFETY: the new slice has the old one's layout and length, and borrows its bytes as they are.
         unsafe { std::slice::from_raw_parts(list.as_ptr().cast(), list.len()) }
+    }
+
+    /// The moves with these numbers, which are those of a list that the archive has judged.
+    pub(crate) fn list(numbers: &[u16]) -> &[Move] {
+        // SAFETY: the new slice has the old one's layout and length, and borrows its bytes as they are. Any `u16` is sound in a `Move`.
+        unsafe { std::slice::from_raw_parts(numbers.as_ptr().cast(), numbers.len()) }
     }
 }
 

@@ -12,6 +12,7 @@ use std::ops::Not;
 /// use menkhodur::Color;
 ///
 /// assert_eq!(!Color::White, Color::Black);
+/// assert_eq!(Color::White.to_string(), "white");
 /// ```
 #[derive(Clone, Copy, Debug, PartialEq, Eq, PartialOrd, Ord, Hash)]
 pub enum Color {
@@ -30,6 +31,7 @@ impl Color {
     /// ```
     /// assert_eq!(menkhodur::Color::Black.to_index(), 1);
     /// ```
+    #[must_use]
     pub fn to_index(self) -> usize {
         self as usize
     }
@@ -46,7 +48,19 @@ impl Not for Color {
     }
 }
 
+impl fmt::Display for Color {
+    fn fmt(&self, f: &mut fmt::Formatter<'_>) -> fmt::Result {
+        f.pad(["white", "black"][self.to_index()])
+    }
+}
+
 /// A kind of piece.
+///
+/// ```
+/// use menkhodur::Piece;
+///
+/// assert_eq!(format!("{}{}", Piece::Rook, Piece::Knight), "rn");
+/// ```
 #[derive(Clone, Copy, Debug, PartialEq, Eq, PartialOrd, Ord, Hash)]
 pub enum Piece {
     /// A pawn, written p.
@@ -72,6 +86,7 @@ impl Piece {
     /// ```
     /// assert_eq!(menkhodur::Piece::King.to_index(), 5);
     /// ```
+    #[must_use]
     pub fn to_index(self) -> usize {
         self as usize
     }
@@ -84,6 +99,7 @@ impl Piece {
     /// assert_eq!(Piece::King.to_string(Color::White), "K");
     /// assert_eq!(Piece::Knight.to_string(Color::Black), "n");
     /// ```
+    #[must_use]
     pub fn to_string(self, color: Color) -> String {
         match color {
             Color::White => format!("{self}").to_uppercase(),
@@ -94,7 +110,7 @@ impl Piece {
 
 impl fmt::Display for Piece {
     fn fmt(&self, f: &mut fmt::Formatter<'_>) -> fmt::Result {
-        f.write_str(["p", "n", "b", "r", "q", "k"][self.to_index()])
+        f.pad(["p", "n", "b", "r", "q", "k"][self.to_index()])
     }
 }
 
@@ -123,6 +139,7 @@ impl CastleRights {
     ///
     /// assert_eq!(CastleRights::KingSide.add(CastleRights::QueenSide), CastleRights::Both);
     /// ```
+    #[must_use = "these rights stay as they are, and those with others added are handed back"]
     pub fn add(&self, add: CastleRights) -> CastleRights {
         CastleRights::numbered(certain(lent::rights_add(*self as u8, add as u8)))
     }
@@ -134,6 +151,7 @@ impl CastleRights {
     ///
     /// assert_eq!(CastleRights::Both.remove(CastleRights::KingSide), CastleRights::QueenSide);
     /// ```
+    #[must_use = "these rights stay as they are, and those with others removed are handed back"]
     pub fn remove(&self, remove: CastleRights) -> CastleRights {
         CastleRights::numbered(certain(lent::rights_remove(*self as u8, remove as u8)))
     }
@@ -146,6 +164,7 @@ impl CastleRights {
     /// assert_eq!(CastleRights::square_to_castle_rights(Color::White, Square::E1), CastleRights::Both);
     /// assert_eq!(CastleRights::square_to_castle_rights(Color::White, Square::A8), CastleRights::NoRights);
     /// ```
+    #[must_use]
     pub fn square_to_castle_rights(color: Color, square: Square) -> CastleRights {
         CastleRights::numbered(certain(lent::square_rights(color as u8, square.to_int())))
     }
@@ -155,6 +174,7 @@ impl CastleRights {
     /// ```
     /// assert!(menkhodur::CastleRights::Both.has_kingside());
     /// ```
+    #[must_use]
     pub fn has_kingside(self) -> bool {
         self.to_index() & 1 != 0
     }
@@ -164,6 +184,7 @@ impl CastleRights {
     /// ```
     /// assert!(!menkhodur::CastleRights::KingSide.has_queenside());
     /// ```
+    #[must_use]
     pub fn has_queenside(self) -> bool {
         self.to_index() & 2 != 0
     }
@@ -173,6 +194,7 @@ impl CastleRights {
     /// ```
     /// assert_eq!(menkhodur::CastleRights::QueenSide.to_index(), 2);
     /// ```
+    #[must_use]
     pub fn to_index(self) -> usize {
         self as usize
     }

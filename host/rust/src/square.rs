@@ -1,8 +1,10 @@
 //! Squares, ranks and files.
 
-use crate::error::certain;
+use crate::error::{Error, certain};
 use crate::lent;
+use crate::moves::text_of;
 use std::fmt;
+use std::str::FromStr;
 
 /// A rank of the board.
 #[derive(Clone, Copy, Debug, PartialEq, Eq, PartialOrd, Ord, Hash)]
@@ -35,6 +37,7 @@ impl Rank {
     /// ```
     /// assert_eq!(menkhodur::Rank::Eighth.to_index(), 7);
     /// ```
+    #[must_use]
     pub fn to_index(self) -> usize {
         self as usize
     }
@@ -70,6 +73,7 @@ impl File {
     /// ```
     /// assert_eq!(menkhodur::File::H.to_index(), 7);
     /// ```
+    #[must_use]
     pub fn to_index(self) -> usize {
         self as usize
     }
@@ -95,6 +99,7 @@ impl Square {
     ///
     /// assert_eq!(Square::make_square(Rank::First, File::A), Square::default());
     /// ```
+    #[must_use]
     pub fn make_square(rank: Rank, file: File) -> Square {
         Square(certain(lent::make_square(rank as u8, file as u8)))
     }
@@ -106,6 +111,7 @@ impl Square {
     ///
     /// assert_eq!(Square::D7.get_rank(), Rank::Seventh);
     /// ```
+    #[must_use]
     pub fn get_rank(self) -> Rank {
         ALL_RANKS[self.to_index() / 8]
     }
@@ -117,6 +123,7 @@ impl Square {
     ///
     /// assert_eq!(Square::D7.get_file(), File::D);
     /// ```
+    #[must_use]
     pub fn get_file(self) -> File {
         ALL_FILES[self.to_index() % 8]
     }
@@ -126,6 +133,7 @@ impl Square {
     /// ```
     /// assert_eq!(menkhodur::Square::H8.to_int(), 63);
     /// ```
+    #[must_use]
     pub fn to_int(self) -> u8 {
         self.0
     }
@@ -135,6 +143,7 @@ impl Square {
     /// ```
     /// assert_eq!(menkhodur::Square::H8.to_index(), 63);
     /// ```
+    #[must_use]
     pub fn to_index(self) -> usize {
         usize::from(self.0)
     }
@@ -144,9 +153,45 @@ impl Square {
     }
 }
 
+/// Reads a square such as `e4`: a letter a to h and a digit 1 to 8, and nothing more. The original drops what follows.
+///
+/// ```
+/// use menkhodur::{Error, Square};
+///
+/// assert_eq!("e4".parse(), Ok(Square::E4));
+/// assert_eq!("e4 ".parse::<Square>(), Err(Error::InvalidSquare));
+/// assert_eq!("E4".parse::<Square>(), Err(Error::InvalidSquare));
+/// ```
+impl FromStr for Square {
+    type Err = Error;
+
+    fn from_str(text: &str) -> Result<Square, Error> {
+        match *text.as_bytes() {
+            [file @ b'a'..=b'h', rank @ b'1'..=b'8'] => Ok(Square((rank - b'1') * 8 + (file - b'a'))),
+            _ => Err(Error::InvalidSquare),
+        }
+    }
+}
+
+/// The square with a number, 0 for a1 to 63 for h8. Refused: [`Error::OutOfRange`].
+///
+/// ```
+/// use menkhodur::{Error, Square};
+///
+/// assert_eq!(Square::try_from(28), Ok(Square::E4));
+/// assert_eq!(Square::try_from(64), Err(Error::OutOfRange));
+/// ```
+impl TryFrom<u8> for Square {
+    type Error = Error;
+
+    fn try_from(number: u8) -> Result<Square, Error> {
+        lent::make_square(number / 8, number % 8).map(Square)
+    }
+}
+
 impl fmt::Display for Square {
     fn fmt(&self, f: &mut fmt::Formatter<'_>) -> fmt::Result {
-        write!(f, "{}{}", char::from(b'a' + self.0 % 8), char::from(b'1' + self.0 / 8))
+        f.pad(&text_of(&[b'a' + self.0 % 8, b'1' + self.0 / 8]))
     }
 }
 

@@ -1,16 +1,11 @@
 //! Accepted answers of every function, and of the types over them.
 
-use crate::common::{Numbers, Parts, moves};
-use menkhodur::lent::{self, Given, Record};
+use crate::common::{Numbers, Parts, moves, random_record};
+use menkhodur::lent::{self, Given};
 use menkhodur::{
     ALL_CASTLE_RIGHTS, ALL_COLORS, ALL_FILES, ALL_PIECES, ALL_RANKS, Board, CastleRights, Color, Counts, Error, File, MAX_MOVE, Move,
     Piece, Square,
 };
-
-fn random_record(numbers: &mut Numbers) -> Record {
-    let bounds = |place: usize| [13, 2, 4, 4, 9][usize::max(place, 63) - 63];
-    std::array::from_fn(|place| numbers.below(bounds(place)) as u8)
-}
 
 #[test]
 fn squares() {

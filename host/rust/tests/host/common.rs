@@ -113,3 +113,9 @@ impl Numbers {
         self.0 % bound
     }
 }
+
+/// A record in range.
+pub fn random_record(numbers: &mut Numbers) -> Record {
+    let bounds = |place: usize| [13, 2, 4, 4, 9][usize::max(place, 63) - 63];
+    std::array::from_fn(|place| numbers.below(bounds(place)) as u8)
+}

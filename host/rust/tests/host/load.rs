@@ -78,7 +78,7 @@ fn damaged_bytes_are_refused_or_are_another_good_log() {
             Ok(other) => {
                 loaded += 1;
                 assert_eq!((other.used_actions(), other.used_positions()), (&actions[..], &positions[..]));
-                let _ = (other.result(), other.can_declare_draw(), other.actions().count(), other.current_moves());
+                let _ = (other.result(), other.can_declare_draw(), other.actions().count(), other.positions().count());
             }
             Err(error) => {
                 refused += 1;

@@ -2,9 +2,14 @@
 
 mod accepted;
 mod common;
+mod entries;
+mod keys;
 mod load;
+mod must_use;
 mod paper;
 mod refused;
 mod refused_logs;
 mod rulings;
 mod threads;
+mod typed;
+mod version;

@@ -50,7 +50,7 @@ fn a_game_that_ends_in_mate() {
     log.make_move(moves("d8h4")[0], &Position { board, in_check: true, list: &[] }).unwrap();
     assert_eq!(log.result(), Some(GameResult::BlackCheckmates));
     assert_eq!(log.current_position(), board);
-    assert_eq!((log.side_to_move(), log.in_check(), log.current_moves()), (Color::White, true, vec![]));
+    assert_eq!((log.side_to_move(), log.in_check(), log.current_moves()), (Color::White, true, &[][..]));
 }
 
 #[test]
@@ -86,7 +86,7 @@ fn a_third_equal_position_is_a_claim() {
     let pawn = moves("e2e4");
     assert_eq!(log.make_move(pawn[0], &Position { board: Board::default(), in_check: false, list: &pawn }), Err(Error::MoveNotListed));
     assert_eq!(log.declare_draw(), Ok(()));
-    assert_eq!(log.actions().last(), Some(Action::DeclareDraw));
+    assert_eq!(log.actions().next_back(), Some(Action::DeclareDraw));
 }
 
 /// A run of knight moves in which no two lists are equal, so that only the count can make a claim.

@@ -1,7 +1,7 @@
 //! The archive keeps nothing between calls, so what is owned can be sent and what is shared can be asked.
 
 use crate::common::play;
-use menkhodur::{ALL_COLORS, Action, Board, Error, GameResult, Log, Move, Position, Square};
+use menkhodur::{ALL_COLORS, Action, Actions, Board, Error, GameResult, Log, Move, Position, Positions, Square};
 use std::thread;
 
 #[test]
@@ -15,6 +15,8 @@ fn everything_is_send_and_sync() {
     both::<GameResult>();
     both::<Error>();
     both::<Position<'static>>();
+    both::<Actions<'static>>();
+    both::<Positions<'static>>();
     let _: Box<dyn std::error::Error + Send + Sync> = Error::GameOver.into();
 }
 

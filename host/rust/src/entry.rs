@@ -1,0 +1,177 @@
+//! What a log holds: its actions and positions, and how they are read where they lie.
+
+use crate::board::Board;
+use crate::lent::{Given, POSITION_BYTES};
+use crate::moves::Move;
+use crate::piece::{ALL_COLORS, Color};
+use std::fmt;
+use std::iter::FusedIterator;
+use std::slice::{self, ChunksExact};
+
+/// What a log holds an entry for.
+///
+/// ```
+/// use menkhodur::{Action, Board, Color, Log, Move, Position};
+///
+/// let list = [Move::from_text("b1c3").unwrap()];
+/// let mut log = Log::start(&Position { board: Board::default(), in_check: false, list: &list }).unwrap();
+/// log.offer_draw(Color::White).unwrap();
+/// log.resign(Color::Black).unwrap();
+/// let actions: Vec<Action> = log.actions().collect();
+/// assert_eq!(actions, [Action::OfferDraw(Color::White), Action::Resign(Color::Black)]);
+/// ```
+#[derive(Clone, Copy, Debug, PartialEq, Eq, Hash)]
+pub enum Action {
+    /// A move was made.
+    MakeMove(Move),
+    /// A colour has offered a draw.
+    OfferDraw(Color),
+    /// The offered draw was accepted.
+    AcceptDraw,
+    /// A draw was declared.
+    DeclareDraw,
+    /// A colour has resigned.
+    Resign(Color),
+}
+
+impl Action {
+    fn of_good_log(bytes: &[u8]) -> Action {
+        let color = ALL_COLORS[usize::from(bytes[1])];
+        match bytes[0] {
+            1 => Action::MakeMove(Move::of_list(u16::from_le_bytes([bytes[2], bytes[3]]))),
+            2 => Action::OfferDraw(color),
+            3 => Action::AcceptDraw,
+            4 => Action::DeclareDraw,
+            _ => Action::Resign(color),
+        }
+    }
+}
+
+/// A position as a log is given it and gives it back: the board, whether its side to move is in check, and the moves that can be made.
+/// The library has no move generator: an empty list is what ends a game.
+///
+/// ```
+/// use menkhodur::{Board, GameResult, Log, Position};
+///
+/// let mated = Position { board: Board::new(), in_check: true, list: &[] };
+/// assert_eq!(Log::start(&mated).unwrap().result(), Some(GameResult::BlackCheckmates));
+/// ```
+#[derive(Clone, Copy, Debug, PartialEq, Eq, Hash)]
+pub struct Position<'a> {
+    /// The board.
+    pub board: Board,
+    /// Whether the side to move is in check.
+    pub in_check: bool,
+    /// The moves that can be made, at most 255.
+    pub list: &'a [Move],
+}
+
+impl<'a> Position<'a> {
+    pub(crate) fn given(&self) -> Given<'_> {
+        Given { record: self.board.numbers(), in_check: u8::from(self.in_check), list: Move::numbers(self.list) }
+    }
+
+    pub(crate) fn of_good_log(pairs: &'a [u16]) -> Position<'a> {
+        let bytes = bytes(pairs);
+        let mut record = [0; 68];
+        record.copy_from_slice(&bytes[..IN_CHECK]);
+        let list = &pairs[LIST / 2..][..usize::from(bytes[ENTRIES])];
+        Position { board: Board::of_good_log(record), in_check: bytes[IN_CHECK] == 1, list: Move::list(list) }
+    }
+}
+
+// A log keeps its positions as pairs of bytes, not as bytes: then a list that lies among them is aligned, and its moves, low byte first,
+// are numbers that can be lent as they lie.
+#[cfg(not(target_endian = "little"))]
+compile_error!("the archive is made for x86-64, and a log lends its lists low byte first");
+
+/// Pairs of bytes that one position has.
+pub(crate) const POSITION_PAIRS: usize = POSITION_BYTES / 2;
+
+// Where a position has what comes after its record: the in-check byte, the length of its list, and the list.
+const IN_CHECK: usize = 68;
+const ENTRIES: usize = 69;
+const LIST: usize = 70;
+
+/// Pairs of bytes, as the archive and a store have them.
+pub(crate) fn bytes(pairs: &[u16]) -> &[u8] {
+    // SAFETY: a pair is two bytes without a gap, every one of which is some number, and they stay borrowed as the pairs were.
+    unsafe { slice::from_raw_parts(pairs.as_ptr().cast(), 2 * pairs.len()) }
+}
+
+/// The same, to be written: any two bytes are a pair.
+pub(crate) fn bytes_mut(pairs: &mut [u16]) -> &mut [u8] {
+    // SAFETY: as above, and whatever is written leaves each pair some number.
+    unsafe { slice::from_raw_parts_mut(pairs.as_mut_ptr().cast(), 2 * pairs.len()) }
+}
+
+/// The actions of a log, in order, as [`Log::actions`](crate::Log::actions) gives them.
+///
+/// ```
+/// use menkhodur::{Action, Board, Color, Log, Move, Position};
+///
+/// let list = [Move::from_text("b1c3").unwrap()];
+/// let mut log = Log::start(&Position { board: Board::default(), in_check: false, list: &list }).unwrap();
+/// log.offer_draw(Color::White).unwrap();
+/// log.resign(Color::Black).unwrap();
+/// assert_eq!(log.actions().len(), 2);
+/// assert_eq!(log.actions().next_back(), Some(Action::Resign(Color::Black)));
+/// ```
+#[must_use = "iterators are lazy and do nothing unless consumed"]
+#[derive(Clone)]
+pub struct Actions<'a>(pub(crate) ChunksExact<'a, u8>);
+
+/// The positions of a log, the start first and then one after each move, as [`Log::positions`](crate::Log::positions) gives them.
+///
+/// ```
+/// use menkhodur::{Board, Log, Move, Position};
+///
+/// let list = [Move::from_text("b1c3").unwrap()];
+/// let start = Position { board: Board::default(), in_check: false, list: &list };
+/// let log = Log::start(&start).unwrap();
+/// assert_eq!(log.positions().len(), 1);
+/// assert_eq!(log.positions().next(), Some(start));
+/// ```
+#[must_use = "iterators are lazy and do nothing unless consumed"]
+#[derive(Clone)]
+pub struct Positions<'a>(pub(crate) ChunksExact<'a, u16>);
+
+macro_rules! iterates {
+    ($name:ident, $item:ty) => {
+        impl<'a> Iterator for $name<'a> {
+            type Item = $item;
+
+            fn next(&mut self) -> Option<Self::Item> {
+                self.0.next().map(<Self::Item>::of_good_log)
+            }
+
+            fn size_hint(&self) -> (usize, Option<usize>) {
+                self.0.size_hint()
+            }
+
+            // Skipping must not cost a look at each entry: `nth` is how a position is had by its index.
+            fn nth(&mut self, index: usize) -> Option<Self::Item> {
+                self.0.nth(index).map(<Self::Item>::of_good_log)
+            }
+        }
+
+        impl DoubleEndedIterator for $name<'_> {
+            fn next_back(&mut self) -> Option<Self::Item> {
+                self.0.next_back().map(<Self::Item>::of_good_log)
+            }
+        }
+
+        impl ExactSizeIterator for $name<'_> {}
+
+        impl FusedIterator for $name<'_> {}
+
+        impl fmt::Debug for $name<'_> {
+            fn fmt(&self, f: &mut fmt::Formatter<'_>) -> fmt::Result {
+                f.debug_list().entries(self.clone()).finish()
+            }
+        }
+    };
+}
+
+iterates!(Actions, Action);
+iterates!(Positions, Position<'a>);

@@ -1,0 +1,49 @@
+//! A step or an answer that is dropped is warned of: the compiler must have something to say at each place below.
+
+#![deny(unfulfilled_lint_expectations)]
+
+use crate::common::{Parts, play};
+use menkhodur::{Board, CastleRights, Color, Error, Piece, Square, lent};
+
+#[test]
+fn steps() {
+    let (board, rights) = (Board::default(), CastleRights::Both);
+    #[expect(unused_must_use)]
+    board.piece(Square::E4, Piece::Pawn, Color::White);
+    #[expect(unused_must_use)]
+    board.clear_square(Square::E2);
+    #[expect(unused_must_use)]
+    board.side_to_move(Color::Black);
+    #[expect(unused_must_use)]
+    board.castle_rights(Color::White, CastleRights::NoRights);
+    #[expect(unused_must_use)]
+    board.en_passant(None);
+    #[expect(unused_must_use)]
+    rights.add(CastleRights::KingSide);
+    #[expect(unused_must_use)]
+    rights.remove(CastleRights::KingSide);
+    assert_eq!((board, rights), (Board::default(), CastleRights::Both));
+}
+
+#[test]
+fn answers() -> Result<(), Error> {
+    let log = play(Board::default(), "", "", "b1c3");
+    #[expect(unused_must_use)]
+    log.current_position().to_fen();
+    #[expect(unused_must_use)]
+    log.result();
+    #[expect(unused_must_use)]
+    log.can_declare_draw();
+    #[expect(unused_must_use)]
+    log.actions();
+    #[expect(unused_must_use)]
+    log.positions();
+    #[expect(unused_must_use)]
+    Error::GameOver.meaning();
+
+    // The counts are the new log: the question mark must not be the end of them.
+    let mut parts = Parts::of(&log);
+    #[expect(unused_must_use)]
+    lent::game_offer_draw(&mut parts.actions, &parts.positions, parts.counts, 0)?;
+    Ok(())
+}
