@@ -1,7 +1,10 @@
-//! Writes a sample of the crate's answers: a script for the proved program `replay`, and what that must print. Every answer is
-//! the crate's, by the rules of `compare`; nothing here asks the archive.
+//! Writes the crate's answers down: a script for the proved program `replay` and what that must print, a sample; and what the
+//! proved program `leaves` must print, everything in range. Every answer is the crate's, by the rules of `compare`; nothing here
+//! asks the archive.
 //!
-//!     vectors SCRIPT PRINTED      the two files to write; always the same bytes
+//!     vectors SCRIPT PRINTED LEAVES      the three files to write; always the same bytes
+
+mod leaves;
 
 use both::games::{board_of, Positions};
 use both::numbers::{builder_of, move_of, position_of, result_number, MOST_MOVE};
@@ -264,13 +267,15 @@ fn make() -> Result<Vectors, String> {
 
 fn main() {
     let paths: Vec<String> = std::env::args().skip(1).collect();
-    let [script, printed] = &paths[..] else {
-        eprintln!("usage: vectors SCRIPT PRINTED");
+    let [script, printed, leaves] = &paths[..] else {
+        eprintln!("usage: vectors SCRIPT PRINTED LEAVES");
         std::process::exit(2);
     };
+    let write = |path: &String, text: String| std::fs::write(path, text).map_err(|e| format!("{}: {}", path, e));
     let done = make().and_then(|v| {
-        std::fs::write(script, v.script).map_err(|e| format!("{}: {}", script, e))?;
-        std::fs::write(printed, v.printed).map_err(|e| format!("{}: {}", printed, e))
+        write(script, v.script)?;
+        write(printed, v.printed)?;
+        write(leaves, leaves::printed())
     });
     if let Err(why) = done {
         eprintln!("vectors: {}", why);
