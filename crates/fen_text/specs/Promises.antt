@@ -18,7 +18,7 @@ pub record Writer : Type 0 where
   pub answer : BoardBuilder → ℕ → Answer
   pub room : BoardBuilder → List ℕ → List ℕ
 
--- the writer of crate fen
+-- the writer of crate fen_writer
 abbrev pub fenWriter : Writer
 fenWriter = record { answer = λ (b : BoardBuilder) (room : ℕ). writeAnswer (fenCheck b) (fenText b) room; room = λ (b : BoardBuilder) (out : List ℕ). writeBytes (fenCheck b) (fenText b) out }
 
