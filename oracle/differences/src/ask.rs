@@ -6,7 +6,7 @@ use both::numbers::{code_of, move_of, number_of, position_of, result_number};
 use chess::{Board, BoardBuilder, Error, Game, Piece, Square, ALL_COLORS, ALL_PIECES};
 use compare::san::Place;
 use compare::script::Act;
-use compare::{moves, records};
+use compare::{moves, records, rules};
 use std::str::FromStr;
 
 /// What stands where the crate cannot be asked: its types do not hold the input.
@@ -20,6 +20,7 @@ pub fn both(what: &str, input: &str) -> Told {
         "bytes" => Ok((NOT_ASKED.to_string(), fen_of_ours(&[number(input)? as u8]))),
         "get_en_passant" => get_en_passant(input),
         "board" => board(input),
+        "filed" => filed(input),
         "rights" => Ok((NOT_ASKED.to_string(), answer(abi::rights_add(number(input)? as u8, 0)))),
         "move" => Ok((answer(moves::owed_read(input)?), answer(abi::move_read(input.as_bytes())))),
         "write" => write(number(input)?),
@@ -83,6 +84,23 @@ fn board(text: &str) -> Told {
     Ok((of_crate, fen_of_ours(text.as_bytes())))
 }
 
+/// The record without an en passant file that no enemy pawn stands beside, as docs/DIFFERENCES.md tells whoever files under keys.
+fn only_beside_a_pawn(record: Record) -> Record {
+    let r = &record.0;
+    let (rank, pawn) = if r[64] == 0 { (4, 1) } else { (3, 7) };
+    let file = r[67] as i32 - 1;
+    let mut beside = [file - 1, file + 1].into_iter().filter(|f| (0..8).contains(f));
+    let may_take = beside.any(|f| r[rank * 8 + f as usize] == pawn);
+    if file < 0 || may_take { record } else { abi::en_passant(record, 0).board }
+}
+
+/// The key to file under; the crate's is the text of its `Board`, by the rule of the rank.
+fn filed(text: &str) -> Told {
+    let board = Board::from_str(text).map_err(|e| e.to_string())?;
+    let (of_crate, _) = rules::en_passant_rank(&BoardBuilder::from(board).to_string());
+    Ok((of_crate, text_of_ours(only_beside_a_pawn(abi::fen_read(text.as_bytes()).board))))
+}
+
 fn write(number: u64) -> Told {
     let of_crate = if number <= 28_671 { move_of(number as u16).to_string() } else { NOT_ASKED.to_string() };
     let mut room = [0; 5];
@@ -126,6 +144,7 @@ fn act(word: &str, board: &Board) -> Result<Act, String> {
     match word {
         "offer-white" => Ok(Act::Offer(0)),
         "accept" => Ok(Act::Accept),
+        "declare" => Ok(Act::Declare),
         _ => {
             let named = |m: &chess::ChessMove| m.to_string() == word;
             let found = moves_of(board).into_iter().find(named).ok_or(format!("{} is not legal", word))?;
