@@ -66,13 +66,17 @@ fn different(count: usize, mut next: impl FnMut() -> Option<String>) -> Vec<Stri
 }
 
 /// The smallest inputs of docs/DIFFERENCES.md that a text can show. Those of the log are among the games that are told.
-const FENS: [&str; 10] = [
-    " w - e4", " w - -", " w - - 7 9", "PPPPPPPPN w - -", "P w - -", " W - -", " w kxK -", "8/8/8/8/8/8/8/8 b - z9",
-    " w - a1xx", "8/8/8/8/8/8/8/8  w - -",
+const FENS: [&str; 16] = [
+    " w - e4", " b - e4", " w - -", " w - - 7 9", "PPPPPPPPN w - -", "P w - -", " W - -", " w kxK -",
+    "8/8/8/8/8/8/8/8 b - z9", " w - a1xx", "8/8/8/8/8/8/8/8  w - -",
+    "rnbqkbnr/ppp1ppp1/7p/3pP3/8/8/PPPP1PPP/RNBQKBNR w KQkq d6 0 3",
+    "rnbqkbnr/pppp1ppp/8/4p3/4P3/5N2/PPPP1PPP/RNBQKB1R b KQkq - 1 2",
+    "rnbqkbnr/pppp1ppp/8/4p3/4P3/5N2/PPPP1PPP/RNBQKB1R b KQkq e3 0 2",
+    "4k3/8/8/8/4P3/8/8/4K3 b - e3", "8/8/8/8/8/8/8/4K3 w - -",
 ];
 const COORDINATES: [&str; 2] = ["e2e4p", "e2e4k"];
 /// Men, a list, and texts on them.
-const SANS: [(&[(usize, u8)], &[u16], &[&str]); 7] = [
+const SANS: [(&[(usize, u8)], &[u16], &[&str]); 8] = [
     (&[(52, 1)], &[24_372], &["e8=Q", "e8Q"]),
     (&[(36, 1)], &[2_788], &["exd6", "d6", "exd6 e.p."]),
     (&[(4, 4)], &[388], &["O-O", "O-O+"]),
@@ -80,6 +84,7 @@ const SANS: [(&[(usize, u8)], &[u16], &[&str]); 7] = [
     (&[(1, 2)], &[1_153], &["Nc3+?!", "Nb1c3", "Nc3x"]),
     (&[(1, 2), (18, 7)], &[1_153], &["Nc3x", "Nc3"]),
     (&[(1, 2)], &[21_633], &["Nc3Q", "Nc3"]),
+    (&[(28, 1), (35, 7)], &[2_268], &["exd5", "xd5", "4xd5"]),
 ];
 
 /// The crate's text of a record, by the rule of the en passant rank.
