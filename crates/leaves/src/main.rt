@@ -1,6 +1,6 @@
-// Asks the small functions of squares, rights and boards, most of which a host cannot call by themselves, of everything in range, and prints the answers.
-// A line is a function, its arguments, `=`, and each answer: its number, its value, and in brackets what was written. `stdout` has what the crate chess
-// 3.2.0 answers; oracle/remake-vectors makes it.
+// Asks the small functions of squares, rights and boards, which the archive does not have, of everything in range, and prints the answers. A line is a
+// function, its arguments, `=`, and each answer: its number, its value, and in brackets what was written. `stdout` has what the crate chess 3.2.0 answers;
+// oracle/remake-vectors makes it.
 mod boards;
 mod put;
 mod rights;

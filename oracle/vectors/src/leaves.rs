@@ -46,15 +46,22 @@ fn square(out: &mut String, n: usize) {
     }
 }
 
-/// All that the getters tell. The en passant square is the crate's text of it by the rule of the rank; 0 for none.
+/// The crate's en passant square by the rule of the rank, which is one of FEN tokens; 0 for none.
+fn en_passant(builder: &BoardBuilder) -> usize {
+    let Some(square) = builder.get_en_passant() else { return 0 };
+    let side = ["w", "b"][builder.get_side_to_move().to_index()];
+    let (tokens, _) = rules::en_passant_rank(&format!("8 {} - {}", side, square));
+    let owed = tokens.split(' ').nth(3).expect("a fourth token");
+    Square::from_str(owed).expect("a square").to_index()
+}
+
+/// All that the getters tell.
 fn board(builder: &BoardBuilder) -> String {
-    let text = rules::en_passant_rank(&builder.to_string()).0;
-    let square = text.split(' ').nth(3).and_then(|s| Square::from_str(s).ok());
     let mut told = accepted(builder.get_side_to_move().to_index());
     for color in [Color::White, Color::Black] {
         told += &accepted(builder.get_castle_rights(color).to_index());
     }
-    told += &accepted(square.map_or(0, |s| s.to_index()));
+    told += &accepted(en_passant(builder));
     let men = &record_of(builder).0[..64];
     men.iter().fold(told, |told, code| told + &accepted(*code as usize))
 }
