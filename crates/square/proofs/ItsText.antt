@@ -21,11 +21,13 @@ unfolding writeAnswer
 room-enough text = let h : length text ≤ length text = omega arith in rw (le-leb (length text) (length text) h)
 
 module _ (check : ℕ) (text : List ℕ) (before : check ≡ outputTooShort → ⊥) where
-  our-fitted : (out : List ℕ) → writeAnswer check text (length out) .number ≡ 0 → Fitted text out (writeAnswer check text (length out) .value) (writeBytes check text out)
+  our-fitted : (out : List ℕ) → writeAnswer check text (length out) .number ≡ 0
+      → Fitted text out (writeAnswer check text (length out) .value) (writeBytes check text out)
   unfolding writeAnswer writeBytes
   our-fitted out h = go (eqb check 0) (leb (length text) (length out)) refl refl
     where
-      go : (a b : Bool) → eqb check 0 ≡ a → leb (length text) (length out) ≡ b → Fitted text out (writeAnswer check text (length out) .value) (writeBytes check text out)
+      go : (a b : Bool) → eqb check 0 ≡ a → leb (length text) (length out) ≡ b
+          → Fitted text out (writeAnswer check text (length out) .value) (writeBytes check text out)
       go true true e f = record { room = leb-true _ _ f; long = simp (e, f); bytes = simp (e, f) }
       go true false e f = absurd (omega (arith, simp (e, f) at h))
       go false b e f = absurd (eqb-false check 0 e (simp e at h))

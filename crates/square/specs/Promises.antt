@@ -45,8 +45,7 @@ pub record ItsText (answer : ℕ → Answer) (bytes : List ℕ → List ℕ) : T
 
 -- it is kept by ours, whatever the text; a check before 7 does not give 7
 abbrev pub WritersKeepItsText : Type 0
-WritersKeepItsText =
-    (check : ℕ) (text : List ℕ) → (check ≡ outputTooShort → ⊥) → ItsText (λ (room : ℕ). writeAnswer check text room) (λ (out : List ℕ). writeBytes check text out)
+WritersKeepItsText = (check : ℕ) (text : List ℕ) → (check ≡ outputTooShort → ⊥) → ItsText (writeAnswer check text) (writeBytes check text)
 
 -- a length invented: the numbers and the bytes are those of another writer, and some room is told another value
 pub record Invented (theirs : ℕ → Answer) (left : List ℕ → List ℕ) (answer : ℕ → Answer) (bytes : List ℕ → List ℕ) : Type 0 where
