@@ -7,6 +7,7 @@ use mathlib.Core.List.{List}
 use lib.ListN.{length, take}
 use Rattle.square.specs.declared.Answer.{Answer}
 use Rattle.square.specs.Answer.{writeAnswer, writeBytes}
+use Rattle.square.specs.Promises.{ItsText, Invented}
 use Rattle.board_builder.specs.declared.BoardBuilder.{BoardBuilder}
 use Rattle.board_builder.specs.BoardBuilder.{inRange}
 use Rattle.fen_text.specs.declared.Fen.{Fen}
@@ -20,7 +21,10 @@ pub record Writer : Type 0 where
 
 -- the writer of crate fen
 abbrev pub fenWriter : Writer
-fenWriter = record { answer = λ (b : BoardBuilder) (room : ℕ). writeAnswer (fenCheck b) (fenText b) room; room = λ (b : BoardBuilder) (out : List ℕ). writeBytes (fenCheck b) (fenText b) out }
+fenWriter = record {
+  answer = λ (b : BoardBuilder) (room : ℕ). writeAnswer (fenCheck b) (fenText b) room;
+  room = λ (b : BoardBuilder) (out : List ℕ). writeBytes (fenCheck b) (fenText b) out;
+}
 
 -- a record written and read back: accepted, 25 to 85 bytes, and these bytes are read as the record
 pub record BackAgain (w : Writer) (read : List ℕ → Fen) (b : BoardBuilder) (out : List ℕ) : Type 0 where
@@ -37,18 +41,29 @@ ReadsBack w read = (b : BoardBuilder) (out : List ℕ) → inRange b ≡ true �
 abbrev pub FenReadsBack : Type 0
 FenReadsBack = ReadsBack fenWriter readFen
 
--- and not by a writer that takes no notice of the record, whatever reads ..
+-- and not by a writer that takes no notice of which record in range it is given (of another it may still say 5), whatever reads ..
 abbrev pub OneConstantTextFails : Type 0
 OneConstantTextFails =
     (w : Writer) (read : List ℕ → Fen)
-    → ((a b : BoardBuilder) (room : ℕ) → w .answer a room ≡ w .answer b room)
-    → ((a b : BoardBuilder) (out : List ℕ) → w .room a out ≡ w .room b out)
+    → ((a b : BoardBuilder) (room : ℕ) → inRange a ≡ true → inRange b ≡ true → w .answer a room ≡ w .answer b room)
+    → ((a b : BoardBuilder) (out : List ℕ) → inRange a ≡ true → inRange b ≡ true → w .room a out ≡ w .room b out)
     → ReadsBack w read
     → ⊥
 
 -- .. nor by a reader that always refuses, whatever writes
 abbrev pub AlwaysRefusingFails : Type 0
 AlwaysRefusingFails = (w : Writer) (read : List ℕ → Fen) → ((s : List ℕ) → read s .number ≡ 0 → ⊥) → ReadsBack w read → ⊥
+
+-- of each record, the promise that crate square has of any writer: the lengths told are those of its text
+abbrev pub TellsItsLength : Writer → Type 0
+TellsItsLength w = (b : BoardBuilder) → ItsText (w .answer b) (w .room b)
+
+-- it is kept by ours, and not by a writer that invents a length for any record
+abbrev pub FenTellsItsLength : Type 0
+FenTellsItsLength = TellsItsLength fenWriter
+
+abbrev pub InventedLengthFails : Type 0
+InventedLengthFails = (w : Writer) (b : BoardBuilder) → Invented (fenWriter .answer b) (fenWriter .room b) (w .answer b) (w .room b) → TellsItsLength w → ⊥
 
 -- each record in range has a text of 25 to 85 bytes
 abbrev pub TwentyFiveToEightyFive : Type 0

@@ -1,7 +1,7 @@
 -- What any writer tells of its text's length: kept by ours, and not where a length is invented, since the numbers and the bytes leave no choice of one.
 -- Assumes nothing.
 use mathlib.Core.Path.{_≡_, refl, sym, ap, _∙_}
-use mathlib.Core.Bool.{Bool, true, false}
+use mathlib.Core.Bool.{Bool, true, false, cond}
 use mathlib.Core.List.{List}
 use Prim.Native.Nat.{ℕ, _+_, _≤_, _<_}
 use native.Mathlib.Omega.{arith}
@@ -65,6 +65,11 @@ writers-keep-its-text check text before =
       nothing = our-nothing check text before;
       unchanged = refused-writes-nothing check text;
     }
+
+-- a check before 7 that is passed or gives one number
+pub passed-or : (t : Bool) (n : ℕ) → (n ≡ outputTooShort → ⊥) → cond t 0 n ≡ outputTooShort → ⊥
+passed-or true n h e = omega arith
+passed-or false n h e = h e
 
 -- ---- a length invented
 
