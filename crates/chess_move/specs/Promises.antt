@@ -57,4 +57,4 @@ RefusingReaderFails = (read : Reader) → ((text : List ℕ) → read text .numb
 
 -- of each move, the promise that crate square has of any writer: the lengths told are those of its text
 abbrev pub MoveTellsItsLength : Type 0
-MoveTellsItsLength = (n : ℕ) → ItsText (writeAnswer (moveCheck n) (moveText n)) (writeBytes (moveCheck n) (moveText n))
+MoveTellsItsLength = (n : ℕ) → ItsText (moveText n) (writeAnswer (moveCheck n) (moveText n)) (writeBytes (moveCheck n) (moveText n))

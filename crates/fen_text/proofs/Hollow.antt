@@ -78,5 +78,5 @@ pub fen-tells-its-length : FenTellsItsLength
 fen-tells-its-length b = writers-keep-its-text (fenCheck b) (fenText b) (passed-or (inRange b) outOfRange (λ z. omega arith))
 
 pub invented-length-fails : InventedLengthFails
-invented-length-fails w b i keeps =
-    its-text.invented-length-fails (fenWriter .answer b) (w .answer b) (fenWriter .room b) (w .room b) (fen-tells-its-length b) i (keeps b)
+invented-length-fails w b i text keeps =
+    its-text.invented-length-fails (fenWriter .answer b) (w .answer b) (fenWriter .room b) (w .room b) (fenText b) (text b) (fen-tells-its-length b) i (keeps b)

@@ -54,16 +54,18 @@ OneConstantTextFails =
 abbrev pub AlwaysRefusingFails : Type 0
 AlwaysRefusingFails = (w : Writer) (read : List ℕ → Fen) → ((s : List ℕ) → read s .number ≡ 0 → ⊥) → ReadsBack w read → ⊥
 
--- of each record, the promise that crate square has of any writer: the lengths told are those of its text
-abbrev pub TellsItsLength : Writer → Type 0
-TellsItsLength w = (b : BoardBuilder) → ItsText (w .answer b) (w .room b)
+-- of each record and its text, the promise that crate square has of any writer: the lengths told are those of the text
+abbrev pub TellsLengthsOf : (BoardBuilder → List ℕ) → Writer → Type 0
+TellsLengthsOf text w = (b : BoardBuilder) → ItsText (text b) (w .answer b) (w .room b)
 
--- it is kept by ours, and not by a writer that invents a length for any record
+-- it is kept by ours, and with no texts at all by a writer that invents a length for any record
 abbrev pub FenTellsItsLength : Type 0
-FenTellsItsLength = TellsItsLength fenWriter
+FenTellsItsLength = TellsLengthsOf fenText fenWriter
 
 abbrev pub InventedLengthFails : Type 0
-InventedLengthFails = (w : Writer) (b : BoardBuilder) → Invented (fenWriter .answer b) (fenWriter .room b) (w .answer b) (w .room b) → TellsItsLength w → ⊥
+InventedLengthFails =
+    (w : Writer) (b : BoardBuilder) → Invented (fenWriter .answer b) (fenWriter .room b) (w .answer b) (w .room b)
+    → (text : BoardBuilder → List ℕ) → TellsLengthsOf text w → ⊥
 
 -- each record in range has a text of 25 to 85 bytes
 abbrev pub TwentyFiveToEightyFive : Type 0

@@ -59,7 +59,6 @@ module _ (check : ℕ) (text : List ℕ) (before : check ≡ outputTooShort → 
 pub writers-keep-its-text : WritersKeepItsText
 writers-keep-its-text check text before =
     record {
-      text = text;
       fitted = our-fitted check text before;
       needed = our-needed check text before;
       nothing = our-nothing check text before;
@@ -90,24 +89,24 @@ shorter-differs s t n h k zeros ones =
     sym (getD-replicate n (length s) 0 0 i) ∙ inside (replicate n 0) zeros ∙ sym (inside (replicate n 1) ones) ∙ getD-replicate n (length s) 1 0 i in
     omega arith
 
-module _ (theirs answer : ℕ → Answer) (left bytes : List ℕ → List ℕ) (a : ItsText theirs left) (b : ItsText answer bytes)
+module _ (theirs answer : ℕ → Answer) (left bytes : List ℕ → List ℕ) (s t : List ℕ) (a : ItsText s theirs left) (b : ItsText t answer bytes)
     (numbers : (room : ℕ) → answer room .number ≡ theirs room .number) (writes : (out : List ℕ) → bytes out ≡ left out) where
-  their-fit : (room v : ℕ) → theirs room .number ≡ 0 → Fitted (a .text) (replicate room v) (theirs room .value) (left (replicate room v))
+  their-fit : (room v : ℕ) → theirs room .number ≡ 0 → Fitted s (replicate room v) (theirs room .value) (left (replicate room v))
   their-fit room v h = let l = length-replicate room v in rw l at (a .fitted (replicate room v) (rw l h))
 
-  own-fit : (room v : ℕ) → theirs room .number ≡ 0 → Fitted (b .text) (replicate room v) (answer room .value) (bytes (replicate room v))
+  own-fit : (room v : ℕ) → theirs room .number ≡ 0 → Fitted t (replicate room v) (answer room .value) (bytes (replicate room v))
   own-fit room v h = let l = length-replicate room v in rw l at (b .fitted (replicate room v) (rw l (numbers room ∙ h)))
 
   -- a room that both accept makes the two texts equally long
-  one-length : (room : ℕ) → theirs room .number ≡ 0 → length (b .text) ≡ length (a .text)
+  one-length : (room : ℕ) → theirs room .number ≡ 0 → length t ≡ length s
   one-length room h =
-      let same-bytes : (v : ℕ) → overwrite (a .text) (replicate room v) ≡ overwrite (b .text) (replicate room v)
+      let same-bytes : (v : ℕ) → overwrite s (replicate room v) ≡ overwrite t (replicate room v)
       = λ v. sym (their-fit room v h .bytes) ∙ sym (writes (replicate room v)) ∙ own-fit room v h .bytes in
       let l = length-replicate {A = ℕ} room 0 in
-      let ra : length (a .text) ≤ room = rw l at (their-fit room 0 h .room) in
-      let rb : length (b .text) ≤ room = rw l at (own-fit room 0 h .room) in
-      let x : length (a .text) < length (b .text) → ⊥ = λ k. shorter-differs (a .text) (b .text) room k rb (same-bytes 0) (same-bytes 1) in
-      let y : length (b .text) < length (a .text) → ⊥ = λ k. shorter-differs (b .text) (a .text) room k ra (sym (same-bytes 0)) (sym (same-bytes 1)) in
+      let ra : length s ≤ room = rw l at (their-fit room 0 h .room) in
+      let rb : length t ≤ room = rw l at (own-fit room 0 h .room) in
+      let x : length s < length t → ⊥ = λ k. shorter-differs s t room k rb (same-bytes 0) (same-bytes 1) in
+      let y : length t < length s → ⊥ = λ k. shorter-differs t s room k ra (sym (same-bytes 0)) (sym (same-bytes 1)) in
       omega arith
 
   -- so all values are the same
@@ -119,11 +118,11 @@ module _ (theirs answer : ℕ → Answer) (left bytes : List ℕ → List ℕ) (
       go false true e f =
           let h : theirs room .number ≡ outputTooShort = eqb-true _ _ f in
           let n = a .needed room h in
-          b .needed room (numbers room ∙ h) .long ∙ one-length (length (a .text)) (n .enough) ∙ sym (n .long)
+          b .needed room (numbers room ∙ h) .long ∙ one-length (length s) (n .enough) ∙ sym (n .long)
       go false false e f =
           let z : theirs room .number ≡ 0 → ⊥ = eqb-false _ _ e in
-          let s : theirs room .number ≡ outputTooShort → ⊥ = eqb-false _ _ f in
-          b .nothing room (λ k. z (sym (numbers room) ∙ k)) (λ k. s (sym (numbers room) ∙ k)) ∙ sym (a .nothing room z s)
+          let o : theirs room .number ≡ outputTooShort → ⊥ = eqb-false _ _ f in
+          b .nothing room (λ k. z (sym (numbers room) ∙ k)) (λ k. o (sym (numbers room) ∙ k)) ∙ sym (a .nothing room z o)
 
 pub invented-length-fails : InventedLengthFails
-invented-length-fails theirs answer left bytes a i b = i .another (one-value theirs answer left bytes a b (i .numbers) (i .writes) (i .room))
+invented-length-fails theirs answer left bytes s t a i b = i .another (one-value theirs answer left bytes s t a b (i .numbers) (i .writes) (i .room))

@@ -35,9 +35,8 @@ pub record Needed (text : List ℕ) (answer : ℕ → Answer) (room : ℕ) : Typ
   pub shorter : room < length text
   pub enough : answer (length text) .number ≡ 0
 
--- there is one text for all rooms; any other refusal has the value 0, and a refused call changes no byte
-pub record ItsText (answer : ℕ → Answer) (bytes : List ℕ → List ℕ) : Type 0 where
-  pub text : List ℕ
+-- its text, one for all rooms; any other refusal has the value 0, and a refused call changes no byte
+pub record ItsText (text : List ℕ) (answer : ℕ → Answer) (bytes : List ℕ → List ℕ) : Type 0 where
   pub fitted : (out : List ℕ) → answer (length out) .number ≡ 0 → Fitted text out (answer (length out) .value) (bytes out)
   pub needed : (room : ℕ) → answer room .number ≡ outputTooShort → Needed text answer room
   pub nothing : (room : ℕ) → (answer room .number ≡ 0 → ⊥) → (answer room .number ≡ outputTooShort → ⊥) → answer room .value ≡ 0
@@ -45,7 +44,7 @@ pub record ItsText (answer : ℕ → Answer) (bytes : List ℕ → List ℕ) : T
 
 -- it is kept by ours, whatever the text; a check before 7 does not give 7
 abbrev pub WritersKeepItsText : Type 0
-WritersKeepItsText = (check : ℕ) (text : List ℕ) → (check ≡ outputTooShort → ⊥) → ItsText (writeAnswer check text) (writeBytes check text)
+WritersKeepItsText = (check : ℕ) (text : List ℕ) → (check ≡ outputTooShort → ⊥) → ItsText text (writeAnswer check text) (writeBytes check text)
 
 -- a length invented: the numbers and the bytes are those of another writer, and some room is told another value
 pub record Invented (theirs : ℕ → Answer) (left : List ℕ → List ℕ) (answer : ℕ → Answer) (bytes : List ℕ → List ℕ) : Type 0 where
@@ -54,10 +53,11 @@ pub record Invented (theirs : ℕ → Answer) (left : List ℕ → List ℕ) (an
   pub room : ℕ
   pub another : answer room .value ≡ theirs room .value → ⊥
 
--- does not keep it where the other does, be the invented value any function of the room's length
+-- does not keep it with any text where the other keeps it, be the invented value any function of the room's length
 abbrev pub InventedLengthFails : Type 0
 InventedLengthFails =
-    (theirs answer : ℕ → Answer) (left bytes : List ℕ → List ℕ) → ItsText theirs left → Invented theirs left answer bytes → ItsText answer bytes → ⊥
+    (theirs answer : ℕ → Answer) (left bytes : List ℕ → List ℕ) (their-text text : List ℕ)
+    → ItsText their-text theirs left → Invented theirs left answer bytes → ItsText text answer bytes → ⊥
 
 -- a square's text reads back to it
 abbrev pub SquareReadsBack : Type 0
