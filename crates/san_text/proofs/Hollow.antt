@@ -69,7 +69,8 @@ refusing-namer-fails w refuses keeps = refuses king listed castling (length room
 
 -- no front of the room as it was reads as the move
 silent : (n : ℕ) → n < 12 → isMove (fromSan king listed (take n room)) castling ≡ false
-unfolding readAnswer inRange allAtMost listInRange among resolved castled castle castlingMove readText same readPiece readFile readRank readTakes readDest pieceKind promotionKind placeFrom squareAt after
+unfolding readAnswer inRange allAtMost listInRange among resolved castled castle castlingMove readText same readPiece readFile readRank readTakes
+    readDest pieceKind promotionKind placeFrom squareAt after
 silent n h = fails _ (below (λ (k : ℕ). not (isMove (fromSan king listed (take k room)) castling)) 12 tt n h)
 
 lt-suc : {n : ℕ} → n ≤ 11 → n < 12
