@@ -28,9 +28,9 @@ number-five m h =
     five-else (leb (m .source) 63 && (leb (m .dest) 63 && leb (m .promotion) 6)) (numberOf (m .source) (m .dest) (m .promotion)) h
 
 -- a third colour is refused with 5, and the room is as it was
-pub colour-refused : {kind colour : ℕ} {out : List ℕ} {r : Answer} → 1 < colour → r ≡ refused 5
+pub colour-refused : (kind colour : ℕ) (out : List ℕ) {r : Answer} → 1 < colour → r ≡ refused 5
     → (r ≡ writeAnswer (colourCheck colour) (fields kind colour 0) (length out)) × (out ≡ writeBytes (colourCheck colour) (fields kind colour 0) out)
-colour-refused {kind} {colour} {out} h e =
+colour-refused kind colour out h e =
     let k : colourCheck colour ≡ 5 = simp (lt-leb _ _ h) in
     let w = write-refused 5 (fields kind colour 0) out (λ z. omega arith) in
     rw k (e ∙ w .answer, w .bytes)

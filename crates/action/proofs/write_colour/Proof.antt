@@ -10,7 +10,7 @@ refused-requires : tie.Need-refused-requires
 refused-requires c κs = search needs
 
 returns : tie.Need-returns
-returns c = colour-refused (c .before .if1 .taken) (c .refused .ensures)
+returns c = colour-refused _ _ _ (c .before .if1 .taken) (c .refused .ensures)
 
 slice-aggregate-write-text : tie.Need-slice-aggregate-write-text
 slice-aggregate-write-text c = search needs
