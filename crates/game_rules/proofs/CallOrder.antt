@@ -9,13 +9,13 @@ use Rattle.position.specs.Layout.{movesFrom, positionOf}
 use Rattle.position.specs.Repeats.{times}
 use Rattle.stored_position.specs.Bytes.{moveBytes, positionBytes, positionCheck, isPosition}
 use Rattle.ending.specs.Ending.{resultOf, offerIn}
-use Rattle.game_rules.specs.Rules.{current, actions, moves, lastMade, lastButOne, result, offerStands, ruling, claimStands, firstRefusal, answer}
+use Rattle.game_rules.specs.Rules.{current, actions, lastMade, lastButOne, result, offerStands, ruling, claimStands, firstRefusal, answer}
 use Rattle.game_rules.specs.Good.{historyOf, sound, isGood}
 use Rattle.game_rules.specs.Calls.{logCheck, callAnswer}
 use Rattle.game_rules.specs.CallOrder.{ChecksInOrder}
 
 pub checks-in-order : ChecksInOrder
-unfolding same allAtMost among inRange numbersInRange listInRange movesIn movesFrom positionOf times moveBytes positionBytes positionCheck isPosition resultOf offerIn current actions moves lastMade lastButOne result offerStands ruling claimStands firstRefusal answer historyOf sound isGood logCheck callAnswer
+unfolding same allAtMost among inRange numbersInRange listInRange movesIn movesFrom positionOf times moveBytes positionBytes positionCheck isPosition resultOf offerIn current actions lastMade lastButOne result offerStands ruling claimStands firstRefusal answer historyOf sound isGood logCheck callAnswer
 checks-in-order = record {
   gives-16 = refl;
   gives-9 = refl;
