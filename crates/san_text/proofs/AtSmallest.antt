@@ -22,6 +22,9 @@ slips = record {
   takes-behind = refl;
   equal-entries = refl;
   mark-alone = refl;
+  check-then-mark = refl;
+  mate-then-mark = refl;
+  one-sign = refl;
   either-king = record { answer = refl; text = refl };
   no-king-promotion = refl;
 }
