@@ -15,7 +15,9 @@ use Rattle.game_rules.specs.Calls.{logCheck, callAnswer}
 use Rattle.game_rules.specs.CallOrder.{ChecksInOrder}
 
 pub checks-in-order : ChecksInOrder
-unfolding same allAtMost among inRange numbersInRange listInRange movesIn movesFrom positionOf times moveBytes positionBytes positionCheck isPosition resultOf offerIn current actions lastMade lastButOne result offerStands ruling claimStands firstRefusal answer historyOf sound isGood logCheck callAnswer
+unfolding same allAtMost among inRange numbersInRange listInRange movesIn movesFrom positionOf times moveBytes positionBytes positionCheck isPosition
+    resultOf offerIn current actions lastMade lastButOne result offerStands ruling claimStands firstRefusal answer historyOf sound isGood logCheck
+    callAnswer
 checks-in-order = record {
   gives-16 = refl;
   gives-9 = refl;

@@ -21,7 +21,8 @@ use Rattle.game_rules.specs.Limits.{Limits, actionsLength, positionsLeng
 use Rattle.game_rules.specs.Rules.{Call, History, begun, after, isMove, actionMade, actions, moves, answer}
 use Rattle.game_rules.specs.Good.{Accepted, positionMade, Holding, historyOf}
 use Rattle.game_rules.specs.Calls.{longEnough, logCheck, callAnswer, counts, startAnswer, positionsBegun, resultAnswer, claimAnswer}
-use Rattle.game_rules.specs.Promises.{EveryLogIsRuledAsPlayed, Left, leftBy, called, started, played, AllAnswered0, AcceptedPlays, RuledLeft, CallsAreRuledOn}
+use Rattle.game_rules.specs.Promises.{EveryLogIsRuledAsPlayed, Left, leftBy, called, started}
+use Rattle.game_rules.specs.Promises.{played, AllAnswered0, AcceptedPlays, RuledLeft, CallsAreRuledOn}
 use Rattle.game_rules.proofs.Checks.{first-passes, only-check, room-of-actions, log-says, log-passes, call-says, start-passes, actions-most, moves-most}
 use Rattle.game_rules.proofs.Decide.{positions-room, good-history, good-is-decided}
 use Rattle.game_rules.proofs.Keeps.{holding-begun, holding-after, left-accepted, answer-left, calls-are-stored}
