@@ -3,16 +3,19 @@
 use mathlib.Core.Path.{_≡_, refl, ap, _∙_}
 use mathlib.Core.Bool.{Bool, true, false, _&&_}
 use mathlib.Core.List.{List}
-use Prim.Native.Nat.{ℕ}
+use Prim.Native.Nat.{ℕ, _<_}
+use native.Mathlib.Omega.{arith}
 use lib.Dec.{leb}
 use lib.ListN.{length, getD}
-use borrow.Author.Tests.{eq-eqb, ne-eqb}
-use Rattle.square.specs.Answer.{inRangeOr5}
+use borrow.Author.Tests.{eq-eqb, ne-eqb, lt-leb}
+use Rattle.square.specs.declared.Answer.{Answer}
+use Rattle.square.specs.Answer.{refused, inRangeOr5, writeAnswer, writeBytes}
+use Rattle.square.proofs.Writes.{write-refused}
 use Rattle.chess_move.specs.declared.ChessMove.{ChessMove}
 use Rattle.chess_move.specs.Number.{numberOf, ofBytes, numberAnswer}
 use Rattle.action.specs.declared.Action.the-variants.{OfferDraw, AcceptDraw, DeclareDraw, Resign}
 use Rattle.action.specs.declared.Stored.the-variants.{Nothing}
-use Rattle.action.specs.Layout.{movesHere, standsAlone, actionOfFields, actionOf}
+use Rattle.action.specs.Layout.{fields, colourCheck, movesHere, standsAlone, actionOfFields, actionOf}
 
 -- what is not accepted is 5
 five-else : (ok : Bool) (v : ℕ) → (inRangeOr5 ok v .number ≡ 0 → ⊥) → inRangeOr5 ok v .number ≡ 5
@@ -23,6 +26,14 @@ five-else false v h = refl
 pub number-five : (m : ChessMove) → (numberAnswer m .number ≡ 0 → ⊥) → numberAnswer m .number ≡ 5
 number-five m h =
     five-else (leb (m .source) 63 && (leb (m .dest) 63 && leb (m .promotion) 6)) (numberOf (m .source) (m .dest) (m .promotion)) h
+
+-- a third colour is refused with 5, and the room is as it was
+pub colour-refused : (kind colour : ℕ) (out : List ℕ) {r : Answer} → 1 < colour → r ≡ refused 5
+    → (r ≡ writeAnswer (colourCheck colour) (fields kind colour 0) (length out)) × (out ≡ writeBytes (colourCheck colour) (fields kind colour 0) out)
+colour-refused kind colour out h e =
+    let k : colourCheck colour ≡ 5 = simp (lt-leb _ _ h) in
+    let w = write-refused 5 (fields kind colour 0) out (λ z. omega arith) in
+    rw k (e ∙ w .answer, w .bytes)
 
 pub not-four : (s : List ℕ) → (length s ≡ 4 → ⊥) → actionOf s ≡ Nothing
 unfolding actionOf

@@ -2,4 +2,5 @@ pub mod Numbers
 pub mod Ranges
 pub mod Ways
 pub mod ReadBack
+pub mod Hollow
 pub mod Determined

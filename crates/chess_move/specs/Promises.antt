@@ -6,6 +6,8 @@ use mathlib.Core.Bool.{Bool, cond, _||_}
 use mathlib.Core.List.{List}
 use lib.Dec.{eqb}
 use lib.ListN.{length, take}
+use Rattle.square.specs.declared.Answer.{Answer}
+use Rattle.square.specs.Promises.{ItsText}
 use Rattle.square.specs.Answer.{accepted, refused, invalidUciMove, writeAnswer, writeBytes}
 use Rattle.square.specs.Square.{between}
 use Rattle.chess_move.specs.declared.ChessMove.{ChessMove}
@@ -23,12 +25,36 @@ PartsOfNumber = (m : ChessMove) → numberAnswer m .number ≡ 0 → (numberAnsw
 abbrev pub readable : ℕ → Bool
 readable promotion = eqb promotion 0 || between 2 5 promotion
 
--- a written move with promotion none, knight, bishop, rook or queen reads back to itself, and every other promotion is refused with 3: over the
--- answers and the room of the two public calls
-pub record MoveBackAgain (n : ℕ) (out : List ℕ) : Type 0 where
+-- any reader of coordinate texts
+abbrev pub Reader : Type 0
+Reader = List ℕ → Answer
+
+-- demand 2 of such a reader: it answers as the definition does
+abbrev pub ReadsMoves : Reader → Type 0
+ReadsMoves read = (text : List ℕ) → read text ≡ readMove text
+
+-- and the read-back: a written move with promotion none, knight, bishop, rook or queen reads back to itself, and every other promotion is refused
+-- with 3, over the answers and the room of the writer's call
+pub record MoveBackAgain (read : Reader) (n : ℕ) (out : List ℕ) : Type 0 where
   pub accepts : writeAnswer (moveCheck n) (moveText n) (length out) .number ≡ 0
-  pub back : readMove (take (writeAnswer (moveCheck n) (moveText n) (length out) .value) (writeBytes (moveCheck n) (moveText n) out))
+  pub back : read (take (writeAnswer (moveCheck n) (moveText n) (length out) .value) (writeBytes (moveCheck n) (moveText n) out))
       ≡ cond (readable (promotionOf n)) (accepted n) (refused invalidUciMove)
 
+abbrev pub ReadsMovesBack : Reader → Type 0
+ReadsMovesBack read = (n : ℕ) (out : List ℕ) → n ≤ lastMove → 5 ≤ length out → MoveBackAgain read n out
+
+-- kept by ours
 abbrev pub MovesReadBack : Type 0
-MovesReadBack = (n : ℕ) (out : List ℕ) → n ≤ lastMove → 5 ≤ length out → MoveBackAgain n out
+MovesReadBack = ReadsMovesBack readMove
+
+-- a reader that always refuses keeps neither
+pub record Fails (read : Reader) : Type 0 where
+  pub to-read : ReadsMoves read → ⊥
+  pub to-read-back : ReadsMovesBack read → ⊥
+
+abbrev pub RefusingReaderFails : Type 0
+RefusingReaderFails = (read : Reader) → ((text : List ℕ) → read text .number ≡ 0 → ⊥) → Fails read
+
+-- of each move, the promise that crate square has of any writer: the lengths told are those of its text
+abbrev pub MoveTellsItsLength : Type 0
+MoveTellsItsLength = (n : ℕ) → ItsText (moveText n) (writeAnswer (moveCheck n) (moveText n)) (writeBytes (moveCheck n) (moveText n))

@@ -1,4 +1,5 @@
--- Demand 2's read-back, kept by ours, and not by a constant text nor by a reader that always refuses.
+-- Demand 2's read-back, kept by ours, and not by a constant text nor by a reader that always refuses. And the lengths told, kept by ours, and not by a
+-- writer that invents one.
 -- Assumes nothing.
 use mathlib.Core.Path.{_≡_, refl, sym, ap, ap₂, _∙_}
 use mathlib.Core.Bool.{true}
@@ -9,14 +10,17 @@ use lib.Dec.{lit≤}
 use lib.ListN.{length, take, drop, replicate}
 use lib.Seq.{take-at}
 use Rattle.square.specs.declared.Answer.{Answer}
-use Rattle.square.specs.Answer.{accepted, overwrite, writeAnswer, writeBytes}
+use Rattle.square.specs.Answer.{outOfRange, accepted, overwrite, writeAnswer, writeBytes}
 use Rattle.square.proofs.Writes.{write-fits}
+use Rattle.square.proofs.ItsText as its-text
+use Rattle.square.proofs.ItsText.{writers-keep-its-text, passed-or}
 use Rattle.square.specs.Numbers.{allAtMost}
+use Rattle.board_builder.specs.declared.BoardBuilder.{BoardBuilder}
 use Rattle.board_builder.specs.BoardBuilder.{inRange, emptyBoard, initialBoard}
 use Rattle.fen_text.specs.declared.Fen.{Fen}
 use Rattle.fen_text.specs.Read.{fenOf}
 use Rattle.fen_text.specs.Write.{fenText, fenCheck}
-use Rattle.fen_text.specs.Promises.{FenReadsBack, OneConstantTextFails, AlwaysRefusingFails}
+use Rattle.fen_text.specs.Promises.{fenWriter, FenReadsBack, OneConstantTextFails, AlwaysRefusingFails, FenTellsItsLength, InventedLengthFails}
 use Rattle.fen_text.proofs.Lengths.{fen-long}
 use Rattle.fen_text.proofs.ReadBack.{read-back}
 
@@ -57,8 +61,11 @@ pub one-constant-text-fails : OneConstantTextFails
 one-constant-text-fails w read same-answer same-room back =
     let e = back emptyBoard room empty-in-range room-long in
     let i = back initialBoard room initial-in-range room-long in
-    let texts : take (w .answer emptyBoard (length room) .value) (w .room emptyBoard room) ≡ take (w .answer initialBoard (length room) .value) (w .room initialBoard room)
-    = ap₂ (λ (a : Answer) (l : List ℕ). take (a .value) l) (same-answer emptyBoard initialBoard (length room)) (same-room emptyBoard initialBoard room) in
+    let text : BoardBuilder → List ℕ = λ b. take (w .answer b (length room) .value) (w .room b room) in
+    let texts : text emptyBoard ≡ text initialBoard
+    = ap₂ (λ (a : Answer) (l : List ℕ). take (a .value) l)
+    (same-answer emptyBoard initialBoard (length room) empty-in-range initial-in-range)
+    (same-room emptyBoard initialBoard room empty-in-range initial-in-range) in
     let boards : fenOf emptyBoard ≡ fenOf initialBoard = sym (e .back) ∙ ap read texts ∙ i .back in
     let rights : _≡_ {A = ℕ} 0 3 = ap (λ (f : Fen). f .board .«white_castle_rights») boards in
     omega arith
@@ -66,3 +73,10 @@ one-constant-text-fails w read same-answer same-room back =
 pub always-refusing-fails : AlwaysRefusingFails
 always-refusing-fails w read refuses back =
     refuses _ (ap (λ (f : Fen). f .number) (back emptyBoard room empty-in-range room-long .back))
+
+pub fen-tells-its-length : FenTellsItsLength
+fen-tells-its-length b = writers-keep-its-text (fenCheck b) (fenText b) (passed-or (inRange b) outOfRange (λ z. omega arith))
+
+pub invented-length-fails : InventedLengthFails
+invented-length-fails w b i text keeps =
+    its-text.invented-length-fails (fenWriter .answer b) (w .answer b) (fenWriter .room b) (w .room b) (fenText b) (text b) (fen-tells-its-length b) i (keeps b)

@@ -7,6 +7,7 @@ use mathlib.Core.List.{List}
 use lib.ListN.{length, take}
 use Rattle.square.specs.declared.Answer.{Answer}
 use Rattle.square.specs.Answer.{writeAnswer, writeBytes}
+use Rattle.square.specs.Promises.{ItsText, Invented}
 use Rattle.board_builder.specs.declared.BoardBuilder.{BoardBuilder}
 use Rattle.board_builder.specs.BoardBuilder.{inRange}
 use Rattle.fen_text.specs.declared.Fen.{Fen}
@@ -41,18 +42,31 @@ TextReadsBack = (b : BoardBuilder) → inRange b ≡ true → readFen (fenText b
 abbrev pub FenReadsBack : Type 0
 FenReadsBack = ReadsBack fenWriter readFen
 
--- and not by a writer that takes no notice of the record, whatever reads ..
+-- and not by a writer that takes no notice of which record in range it is given (of another it may still say 5), whatever reads ..
 abbrev pub OneConstantTextFails : Type 0
 OneConstantTextFails =
     (w : Writer) (read : List ℕ → Fen)
-    → ((a b : BoardBuilder) (room : ℕ) → w .answer a room ≡ w .answer b room)
-    → ((a b : BoardBuilder) (out : List ℕ) → w .room a out ≡ w .room b out)
+    → ((a b : BoardBuilder) (room : ℕ) → inRange a ≡ true → inRange b ≡ true → w .answer a room ≡ w .answer b room)
+    → ((a b : BoardBuilder) (out : List ℕ) → inRange a ≡ true → inRange b ≡ true → w .room a out ≡ w .room b out)
     → ReadsBack w read
     → ⊥
 
 -- .. nor by a reader that always refuses, whatever writes
 abbrev pub AlwaysRefusingFails : Type 0
 AlwaysRefusingFails = (w : Writer) (read : List ℕ → Fen) → ((s : List ℕ) → read s .number ≡ 0 → ⊥) → ReadsBack w read → ⊥
+
+-- of each record and its text, the promise that crate square has of any writer: the lengths told are those of the text
+abbrev pub TellsLengthsOf : (BoardBuilder → List ℕ) → Writer → Type 0
+TellsLengthsOf text w = (b : BoardBuilder) → ItsText (text b) (w .answer b) (w .room b)
+
+-- it is kept by ours, and with no texts at all by a writer that invents a length for any record
+abbrev pub FenTellsItsLength : Type 0
+FenTellsItsLength = TellsLengthsOf fenText fenWriter
+
+abbrev pub InventedLengthFails : Type 0
+InventedLengthFails =
+    (w : Writer) (b : BoardBuilder) → Invented (fenWriter .answer b) (fenWriter .room b) (w .answer b) (w .room b)
+    → (text : BoardBuilder → List ℕ) → TellsLengthsOf text w → ⊥
 
 -- each record in range has a text of 25 to 85 bytes
 abbrev pub TwentyFiveToEightyFive : Type 0

@@ -18,9 +18,10 @@ use Rattle.stored_position.specs.Bytes.{positionBytes, positionCheck}
 use Rattle.stored_position.proofs.ReadBack.{one-size}
 use Rattle.game_rules.specs.Limits.{Limits}
 use Rattle.game_rules.specs.Rules.{Call, History, begun, after, isMove, actionMade, actions, moves, answer}
-use Rattle.game_rules.specs.Good.{Accepted, actionPart, positionMade, positionPart, Holding, Good, historyOf}
+use Rattle.game_rules.specs.Good.{Accepted, actionPart, positionMade, positionPart, Holding}
 use Rattle.game_rules.specs.Calls.{callAnswer, counts, countsAfter, actionsAfter, positionsAfter, positionsBegun}
-use Rattle.game_rules.specs.Promises.{leftBy, called, started, GoodLeft, StartIsGood, KeepsGood, AcceptedIsGood, RefusedChangesNothing}
+use Rattle.game_rules.specs.Promises.{leftBy, called, started, LogCall}
+use Rattle.game_rules.specs.Promises.{StartIsGood, KeepsGood, AcceptedIsGood, RefusedChangesNothing, StoredSo, StoresCalls, CallsAreStored}
 use Rattle.game_rules.proofs.Checks.{log-says, call-says, start-says}
 use Rattle.game_rules.proofs.Decide.{positions-room, length-action-part, length-position-part, good-history, good-is-decided}
 
@@ -83,19 +84,21 @@ answer-left a acts ps n m c = go (eqb a 0) refl
     go true e = sym (eqb-true a 0 e)
     go false e = refl
 
-pub keeps-good : KeepsGood called
-unfolding called Accepted
-keeps-good L acts ps n m c given e =
+pub calls-are-stored : CallsAreStored
+unfolding called
+calls-are-stored L acts ps n m h c a g e =
     let z : callAnswer L acts ps n m c ≡ 0 = sym (answer-left (callAnswer L acts ps n m c) acts ps n m c) ∙ e in
-    let k : _ = call-says L acts ps n m c z in
-    subst (GoodLeft L) (sym (ap (λ (a : ℕ). leftBy a acts ps n m c) z ∙ left-accepted acts ps n m c))
-    (kept given (k .1))
-  where
-    kept : Good L acts ps n m → answer L (historyOf acts ps n) c ≡ 0
-        → Good L (written acts (actionSize * n) (actionBytes (actionMade c))) (written ps (positionSize * suc m) (positionMade c)) (n + 1) (cond (isMove c) (m + 1) m)
-    kept (h, a, g) f =
-        let f' : answer L h c ≡ 0 = ap (λ (x : History). answer L x c) (sym (good-history L acts ps n m h a g)) ∙ f in
-        (after h c, (a, f'), holding-after L acts ps n m h c a g f')
+    let f : answer L h c ≡ 0 = ap (λ (x : History). answer L x c) (sym (good-history L acts ps n m h a g)) ∙ call-says L acts ps n m c z .1 in
+    subst (StoredSo L h c) (sym (ap (λ (k : ℕ). leftBy k acts ps n m c) z ∙ left-accepted acts ps n m c))
+    (record { lawful = f; holds = holding-after L acts ps n m h c a g f })
+
+-- a program that stores its calls keeps logs good
+pub stores-good : (call : LogCall) → StoresCalls call → KeepsGood call
+unfolding Accepted
+stores-good call stores L acts ps n m c (h, a, g) e = let s = stores L acts ps n m h c a g e in (after h c, (a, s .lawful), s .holds)
+
+pub keeps-good : KeepsGood called
+keeps-good = stores-good called calls-are-stored
 
 pub accepted-is-good : AcceptedIsGood
 unfolding called

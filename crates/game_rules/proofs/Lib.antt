@@ -1,3 +1,4 @@
+pub mod CallOrder
 pub mod Checks
 pub mod Decide
 pub mod Keeps

@@ -1,4 +1,5 @@
 -- The way back: an accepted history, played through the calls on parts that are long enough, is answered 0 at each call and leaves its bytes and counts.
+-- And the queries then answer what the rules say of it.
 -- Assumes nothing.
 use mathlib.Core.Path.{_≡_, refl, ap, ap₂, sym, subst, _∙_}
 use mathlib.Core.Bool.{true, cond, _&&_}
@@ -20,10 +21,11 @@ use Rattle.game_rules.specs.Limits.{Limits, actionsLength, positionsLeng
 use Rattle.game_rules.specs.Rules.{Call, History, begun, after, isMove, actionMade, actions, moves, answer}
 use Rattle.game_rules.specs.Good.{Accepted, positionMade, Holding, historyOf}
 use Rattle.game_rules.specs.Calls.{longEnough, logCheck, callAnswer, counts, startAnswer, positionsBegun, resultAnswer, claimAnswer}
-use Rattle.game_rules.specs.Promises.{EveryLogIsRuledAsPlayed, Left, leftBy, called, started, played, AllAnswered0, AcceptedPlays}
-use Rattle.game_rules.proofs.Checks.{first-passes, only-check, room-of-actions, log-passes, start-passes, actions-most, moves-most}
+use Rattle.game_rules.specs.Promises.{EveryLogIsRuledAsPlayed, Left, leftBy, called, started}
+use Rattle.game_rules.specs.Promises.{played, AllAnswered0, AcceptedPlays, RuledLeft, CallsAreRuledOn}
+use Rattle.game_rules.proofs.Checks.{first-passes, only-check, room-of-actions, log-says, log-passes, call-says, start-passes, actions-most, moves-most}
 use Rattle.game_rules.proofs.Decide.{positions-room, good-history, good-is-decided}
-use Rattle.game_rules.proofs.Keeps.{holding-begun, holding-after, left-accepted}
+use Rattle.game_rules.proofs.Keeps.{holding-begun, holding-after, left-accepted, answer-left, calls-are-stored}
 
 -- parts are long enough by their two lengths
 long-actions : (L : Limits) (acts ps : List ℕ) → longEnough L acts ps ≡ true → actionSize * L .most-actions ≤ length acts
@@ -36,10 +38,11 @@ as-long : (L : Limits) (acts bacts ps qs : List ℕ) → length bacts ≡ length
 as-long L acts bacts ps qs a p e = rw (a, p) e
 
 -- a log that holds an accepted history passes 16 and 9
-pub held-passes : (L : Limits) (acts ps : List ℕ) (n m : ℕ) (h : History) → longEnough L acts ps ≡ true → Accepted L h → Holding acts ps n m h
+pub held-passes : (L : Limits) (acts ps : List ℕ) (n m : ℕ) (h : History) → Accepted L h → Holding acts ps n m h → longEnough L acts ps ≡ true
     → logCheck L acts ps n m ≡ 0
-held-passes L acts ps n m h long a g =
-    log-passes L acts ps n m (record {
+held-passes L acts ps n m h a g long =
+    log-passes L acts ps n m
+    (record {
       long = long;
       within = ap₂ _&&_ (le-leb n (L .most-actions) (rw (g .action-count) (actions-most L h a))) (le-leb m (L .most-moves) (rw (g .move-count) (moves-most L h a)));
       good = good-is-decided L acts ps n m .1 (h, a, g);
@@ -49,7 +52,7 @@ held-passes L acts ps n m h long a g =
 pub ruled-as-played : EveryLogIsRuledAsPlayed
 unfolding callAnswer resultAnswer claimAnswer
 ruled-as-played L acts ps n m h long a g =
-    let passed : logCheck L acts ps n m ≡ 0 = held-passes L acts ps n m h long a g in
+    let passed : logCheck L acts ps n m ≡ 0 = held-passes L acts ps n m h a g long in
     let one : historyOf acts ps n ≡ h = good-history L acts ps n m h a g in
     record {
       calls = λ c. first-passes _ (answer L (historyOf acts ps n) c ∷ []) passed ∙ only-check _ ∙ ap (λ (x : History). answer L x c) one;
@@ -57,7 +60,6 @@ ruled-as-played L acts ps n m h long a g =
       claim-told = rw (passed, one) refl;
     }
 
--- a call that a history accepts is answered 0 by a log that holds it
 pub answered : (L : Limits) (acts ps : List ℕ) (n m : ℕ) (h : History) (c : Call) → Accepted L h → Holding acts ps n m h → longEnough L acts ps ≡ true
     → answer L h c ≡ 0 → callAnswer L acts ps n m c ≡ 0
 answered L acts ps n m h c a g long e = ruled-as-played L acts ps n m h long a g .calls c ∙ e
@@ -99,6 +101,20 @@ plays-call L h c x a e was =
       holding = holding-after L (x .acts) (x .ps) n m h c a (was .holding) e;
       long = as-long L (x .acts) acts (x .ps) ps (length-written (x .acts) (actionSize * n) (actionBytes (actionMade c)) fa) (length-written (x .ps) (positionSize * suc m) (positionMade c) fp) (was .long);
     })
+
+-- what the calls and queries answer to it
+plays-ruled : (L : Limits) (h : History) (x : Left) → Accepted L h → Plays L h x → RuledLeft L x h
+plays-ruled L h x a was = ruled-as-played L (x .acts) (x .ps) (x .counts .actions) (x .counts .moves) h (was .long) a (was .holding)
+
+pub calls-are-ruled-on : CallsAreRuledOn
+unfolding called Accepted
+calls-are-ruled-on L acts ps n m h c a g e =
+    let s = calls-are-stored L acts ps n m h c a g e in
+    let z : callAnswer L acts ps n m c ≡ 0 = sym (answer-left (callAnswer L acts ps n m c) acts ps n m c) ∙ e in
+    let long = log-says L acts ps n m (call-says L acts ps n m c z .0) .long in
+    let x : Left = record { counts = counts 0 n m; acts = acts; ps = ps } in
+    plays-ruled L (after h c) (called L acts ps n m c) (a, s .lawful)
+    (plays-call L h c x a (s .lawful) (record { number = refl; holding = g; long = long }))
 
 plays : (L : Limits) (h : History) (acts ps : List ℕ) → longEnough L acts ps ≡ true → Accepted L h → AllAnswered0 L h acts ps × Plays L h (played L h acts ps)
 unfolding played AllAnswered0 Accepted

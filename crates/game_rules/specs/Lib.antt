@@ -2,4 +2,5 @@ pub mod Limits
 pub mod Rules
 pub mod Good
 pub mod Calls
+pub mod CallOrder
 pub mod Promises

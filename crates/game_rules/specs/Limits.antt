@@ -1,4 +1,5 @@
--- How long a log may be (document 01, "Numbers of the record, the move and the log"). All definitions of the log take the limits as an argument.
+-- How long a log may be (document 01, "Numbers of the record, the move and the log"). The definitions of this crate take the limits as an argument, and
+-- its promises hold for any; the contracts of crates good_log and game put these in.
 -- Assumes nothing.
 use Prim.Native.Nat.{ℕ, suc, _*_}
 use Rattle.action.specs.Layout.{actionSize}

@@ -107,10 +107,50 @@ pub record SameAnswers (L : Limits) (acts bacts ps qs : List ℕ) (n m : ℕ) : 
 abbrev pub LooksAtNothingPast : Type 0
 LooksAtNothingPast = (L : Limits) (acts bacts ps qs : List ℕ) (n m : ℕ) → SameUsed L acts bacts ps qs n m → SameAnswers L acts bacts ps qs n m
 
--- a log that stores its first action and merely says yes to later ones does not keep logs good
-abbrev pub firstOnly : LogCall
-firstOnly L acts ps n m c =
-    cond (eqb n 0) (called L acts ps n m c) (record { counts = counts 0 (n + 1) (cond (isMove c) (m + 1) m); acts = acts; ps = ps })
+-- a call that is answered 0 stores itself: it may be made after the calls that the log holds, and the log that is left holds them and it
+pub record StoredSo (L : Limits) (h : History) (c : Call) (x : Left) : Type 0 where
+  pub lawful : answer L h c ≡ 0
+  pub holds : Holding (x .acts) (x .ps) (x .counts .actions) (x .counts .moves) (after h c)
+
+abbrev pub StoresCalls : LogCall → Type 0
+StoresCalls call = (L : Limits) (acts ps : List ℕ) (n m : ℕ) (h : History) (c : Call) → Accepted L h → Holding acts ps n m h
+    → call L acts ps n m c .counts .number ≡ 0 → StoredSo L h c (call L acts ps n m c)
+
+-- demand 2's rulings: what the log that is left then answers is what the rules say of the calls made
+abbrev pub RuledLeft : Limits → Left → History → Type 0
+RuledLeft L x h = RuledAsPlayed L (x .acts) (x .ps) (x .counts .actions) (x .counts .moves) h
+
+abbrev pub RulesOnCalls : LogCall → Type 0
+RulesOnCalls call = (L : Limits) (acts ps : List ℕ) (n m : ℕ) (h : History) (c : Call) → Accepted L h → Holding acts ps n m h
+    → call L acts ps n m c .counts .number ≡ 0 → RuledLeft L (call L acts ps n m c) (after h c)
+
+-- both are kept by ours
+abbrev pub CallsAreStored : Type 0
+CallsAreStored = StoresCalls called
+
+abbrev pub CallsAreRuledOn : Type 0
+CallsAreRuledOn = RulesOnCalls called
+
+-- a log that stores its first action and merely says yes to later ones, to those that must be refused too; `later` is what it counts after them
+abbrev pub firstOnly : (ℕ → ℕ → Call → ℕ × ℕ) → LogCall
+firstOnly later L acts ps n m c =
+    cond (eqb n 0) (called L acts ps n m c) (record { counts = counts 0 (later n m c .0) (later n m c .1); acts = acts; ps = ps })
+
+-- keeps neither, whatever it counts: an action that it did not store is not there, and a resignation is not the game's result
+pub record Fails (call : LogCall) : Type 0 where
+  pub to-store : StoresCalls call → ⊥
+  pub to-rule : RulesOnCalls call → ⊥
 
 abbrev pub FirstOnlyIsHollow : Type 0
-FirstOnlyIsHollow = KeepsGood firstOnly → ⊥
+FirstOnlyIsHollow = (later : ℕ → ℕ → Call → ℕ × ℕ) → Fails (firstOnly later)
+
+-- where it counts on, the log that it leaves is not even good ..
+abbrev pub countsOn : ℕ → ℕ → Call → ℕ × ℕ
+countsOn n m c = (n + 1, cond (isMove c) (m + 1) m)
+
+abbrev pub CountingOnIsNotGood : Type 0
+CountingOnIsNotGood = KeepsGood (firstOnly countsOn) → ⊥
+
+-- .. but saying yes with the counts as given leaves good logs, so that good logs alone would not stop it
+abbrev pub SameCountsKeepGood : Type 0
+SameCountsKeepGood = KeepsGood (firstOnly (λ (n m : ℕ) (c : Call). (n, m)))

@@ -131,7 +131,8 @@ menkhodur-game-make-move-ps κs a x y e f p q = p .1 .1 ∙ sym (q .1 .1)
 pub menkhodur-game-offer-draw-answer : OneAnswer menkhodur-game-offer-draw·k.ps menkhodur-game-offer-draw·k.r menkhodur-game-offer-draw.Learnt
 menkhodur-game-offer-draw-answer κs a x y e f p q = p .0 ∙ sym (q .0)
 
-pub menkhodur-game-offer-draw-acts : OnePart menkhodur-game-offer-draw·k.ps menkhodur-game-offer-draw·k.r (λ κs x e. now (e .0)) menkhodur-game-offer-draw.Learnt
+pub menkhodur-game-offer-draw-acts : OnePart menkhodur-game-offer-draw·k.ps menkhodur-game-offer-draw·k.r
+    (λ κs x e. now (e .0)) menkhodur-game-offer-draw.Learnt
 menkhodur-game-offer-draw-acts κs a x y e f p q = p .1 ∙ sym (q .1)
 
 pub menkhodur-game-resign-answer : OneAnswer menkhodur-game-resign·k.ps menkhodur-game-resign·k.r menkhodur-game-resign.Learnt
@@ -143,13 +144,15 @@ menkhodur-game-resign-acts κs a x y e f p q = p .1 ∙ sym (q .1)
 pub menkhodur-game-accept-draw-answer : OneAnswer menkhodur-game-accept-draw·k.ps menkhodur-game-accept-draw·k.r menkhodur-game-accept-draw.Learnt
 menkhodur-game-accept-draw-answer κs a x y e f p q = p .0 ∙ sym (q .0)
 
-pub menkhodur-game-accept-draw-acts : OnePart menkhodur-game-accept-draw·k.ps menkhodur-game-accept-draw·k.r (λ κs x e. now (e .0)) menkhodur-game-accept-draw.Learnt
+pub menkhodur-game-accept-draw-acts : OnePart menkhodur-game-accept-draw·k.ps menkhodur-game-accept-draw·k.r
+    (λ κs x e. now (e .0)) menkhodur-game-accept-draw.Learnt
 menkhodur-game-accept-draw-acts κs a x y e f p q = p .1 ∙ sym (q .1)
 
 pub menkhodur-game-declare-draw-answer : OneAnswer menkhodur-game-declare-draw·k.ps menkhodur-game-declare-draw·k.r menkhodur-game-declare-draw.Learnt
 menkhodur-game-declare-draw-answer κs a x y e f p q = p .0 ∙ sym (q .0)
 
-pub menkhodur-game-declare-draw-acts : OnePart menkhodur-game-declare-draw·k.ps menkhodur-game-declare-draw·k.r (λ κs x e. now (e .0)) menkhodur-game-declare-draw.Learnt
+pub menkhodur-game-declare-draw-acts : OnePart menkhodur-game-declare-draw·k.ps menkhodur-game-declare-draw·k.r
+    (λ κs x e. now (e .0)) menkhodur-game-declare-draw.Learnt
 menkhodur-game-declare-draw-acts κs a x y e f p q = p .1 ∙ sym (q .1)
 
 pub menkhodur-game-result-answer : OneAnswer menkhodur-game-result·k.ps menkhodur-game-result·k.r menkhodur-game-result.Learnt

@@ -11,4 +11,4 @@ pub mod ReadBack
 pub mod Seven
 pub mod Hollow
 pub mod Blind
-pub mod Slips
+pub mod AtSmallest

@@ -8,13 +8,15 @@ use mathlib.Core.Logic.{_⊎_}
 use lib.ListN.{length, take}
 use Rattle.square.specs.declared.Answer.{Answer}
 use Rattle.square.specs.Answer.{accepted, noName, outputTooShort}
+use Rattle.square.specs.Promises.{ItsText, Invented}
 use Rattle.square.specs.Numbers.{among}
 use Rattle.board_builder.specs.declared.BoardBuilder.{BoardBuilder}
 use Rattle.board_builder.specs.BoardBuilder.{inRange}
 use Rattle.chess_move.specs.Number.{sourceOf, destOf}
 use Rattle.move_list.specs.MoveList.{listInRange}
 use Rattle.san_text.specs.Resolve.{kindAt, emptyAt}
-use Rattle.san_text.specs.Paper.{fromSan, nameAnswer, nameBytes}
+use Rattle.san_text.specs.Name.{nameText}
+use Rattle.san_text.specs.Paper.{paper, fromSan, nameAnswer, nameBytes}
 
 -- any reader: a record, a list, a text
 abbrev pub Reader : Type 0
@@ -28,6 +30,10 @@ pub record Namer : Type 0 where
 -- ours
 abbrev pub namer : Namer
 namer = record { answer = nameAnswer; room = nameBytes }
+
+-- demand 2 of a reader: it answers as the definition does
+abbrev pub ReadsSan : Reader → Type 0
+ReadsSan read = (b : BoardBuilder) (moves text : List ℕ) → read b moves text ≡ fromSan b moves text
 
 -- the checks 5, 6 and 11 are passed
 pub record Ready (b : BoardBuilder) (moves : List ℕ) (m : ℕ) : Type 0 where
@@ -59,7 +65,7 @@ Demand3 w read =
 abbrev pub NamesReadBack : Type 0
 NamesReadBack = Demand3 namer fromSan
 
--- and not by a namer that always refuses, nor by one that writes nothing, nor by one that invents its length, with our reader ..
+-- and not by a namer that always refuses, nor by one that writes nothing, with our reader ..
 abbrev pub RefusingNamerFails : Type 0
 RefusingNamerFails =
     (w : Namer) → ((b : BoardBuilder) (moves : List ℕ) (m room : ℕ) → w .answer b moves m room .number ≡ 0 → ⊥) → Demand3 w fromSan → ⊥
@@ -67,11 +73,37 @@ RefusingNamerFails =
 abbrev pub SilentNamerFails : Type 0
 SilentNamerFails = (w : Namer) → ((b : BoardBuilder) (moves : List ℕ) (m : ℕ) (out : List ℕ) → w .room b moves m out ≡ out) → Demand3 w fromSan → ⊥
 
+-- .. nor by a reader that always refuses, with our namer; demand 2 stops that reader by itself
+abbrev pub AlwaysRefuses : Reader → Type 0
+AlwaysRefuses read = (b : BoardBuilder) (moves text : List ℕ) → read b moves text .number ≡ 0 → ⊥
+
+pub record Fails (read : Reader) : Type 0 where
+  pub to-read : ReadsSan read → ⊥
+  pub to-read-names : Demand3 namer read → ⊥
+
+abbrev pub RefusingReaderFails : Type 0
+RefusingReaderFails = (read : Reader) → AlwaysRefuses read → Fails read
+
+-- which demand 3 alone does not: a namer that has no name for any move and a reader that always refuses keep it together
+abbrev pub RefusingPairKeepsDemand3 : Type 0
+RefusingPairKeepsDemand3 =
+    (w : Namer) (read : Reader) → ((b : BoardBuilder) (moves : List ℕ) (m room : ℕ) → w .answer b moves m room .number ≡ noName)
+    → AlwaysRefuses read → Demand3 w read
+
+-- of each record, list and move and the name, the promise that crate square has of any writer: the lengths told, with 0 and with 7, are the name's
+abbrev pub TellsLengthsOf : (BoardBuilder → List ℕ → ℕ → List ℕ) → Namer → Type 0
+TellsLengthsOf name w = (b : BoardBuilder) (moves : List ℕ) (m : ℕ) → ItsText (name b moves m) (w .answer b moves m) (w .room b moves m)
+
+-- it is kept by ours, and with no names at all by a namer that invents a length for any record, list and move. (Demand 3 alone would let one byte more
+-- pass behind a promotion letter, where the reader drops it.)
+abbrev pub NamesTellTheirLength : Type 0
+NamesTellTheirLength = TellsLengthsOf (nameText paper) namer
+
 abbrev pub InventedLengthFails : Type 0
 InventedLengthFails =
-    (w : Namer) (n : ℕ) → ((b : BoardBuilder) (moves : List ℕ) (m room : ℕ) → w .answer b moves m room .number ≡ 0 → w .answer b moves m room .value ≡ n)
-    → ((b : BoardBuilder) (moves : List ℕ) (m : ℕ) (out : List ℕ) → w .room b moves m out ≡ nameBytes b moves m out)
-    → Demand3 w fromSan → ⊥
+    (w : Namer) (b : BoardBuilder) (moves : List ℕ) (m : ℕ)
+    → Invented (nameAnswer b moves m) (nameBytes b moves m) (w .answer b moves m) (w .room b moves m)
+    → (name : BoardBuilder → List ℕ → ℕ → List ℕ) → TellsLengthsOf name w → ⊥
 
 -- answer 7 has the length of the text: a room of just that length is accepted with it, and the room was shorter
 pub record SevenTellsTheLength (b : BoardBuilder) (moves : List ℕ) (m room : ℕ) : Type 0 where

@@ -55,6 +55,10 @@ pub record Slips : Type 0 where
   pub equal-entries : Refuses knight (1153 ∷ 1153 ∷ []) "Nc3"
   -- the mark without `x` still needs an empty destination
   pub mark-alone : Refuses taken (1153 ∷ []) "Nc3 e.p."
+  -- "optional `+` or `#`, and a mark if what is left is exactly ` e.p.`": one sign of either kind before the mark, and no second
+  pub check-then-mark : Reads pawn (2788 ∷ []) "exd6+ e.p." 2788
+  pub mate-then-mark : Reads pawn (2788 ∷ []) "exd6# e.p." 2788
+  pub one-sign : Refuses pawn (2788 ∷ []) "exd6+# e.p."
   -- a king of either colour on the source of a castling pair gives the castling text
   pub either-king : Named blackKing (388 ∷ []) 388 "O-O"
   -- `e8K` would read as the move without promotion, so the move with promotion 6 has no name

@@ -8,5 +8,6 @@ pub mod Pushes
 pub mod Same
 pub mod Squares
 pub mod Writes
+pub mod ItsText
 pub mod Written
 pub mod Determined

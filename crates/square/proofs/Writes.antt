@@ -47,12 +47,19 @@ refused-writes-nothing check text out h = go (eqb check 0) (leb (length text) (l
     go true false e f = simp (e, f)
     go false b e f = simp e
 
+-- a text with anything behind it
+front-of : (text l : List ℕ) → take (length text) (text ++ l) ≡ text
+front-of text l = take-at text l (length text) refl
+
+behind-of : (text l : List ℕ) → drop (length text) (text ++ l) ≡ l
+behind-of text l = drop-at text l (length text) refl
+
 pub accepted-writes-its-text : AcceptedWritesItsText
 unfolding writeAnswer writeBytes
 accepted-writes-its-text check text out h = go (eqb check 0) (leb (length text) (length out)) refl refl
   where
     go : (a b : Bool) → eqb check 0 ≡ a → leb (length text) (length out) ≡ b → WritesItsText check text out
-    go true true e f = record { long = simp (e, f); front = simp (e, f) (take-at text (drop (length text) out) (length text) refl); behind = simp (e, f) (drop-at text (drop (length text) out) (length text) refl) }
+    go true true e f = record { long = simp (e, f); front = simp (e, f, front-of text); behind = simp (e, f, behind-of text) }
     go true false e f = absurd (omega (arith, simp (e, f) at h))
     go false b e f = absurd (eqb-false check 0 e (simp e at h))
 

@@ -1,7 +1,10 @@
-//! Writes a sample of the crate's answers: a script for the proved program `replay`, and what that must print. Every answer is
-//! the crate's, by the rules of `compare`; nothing here asks the archive.
+//! Writes the crate's answers down: a script for the proved program `replay` and what that must print, a sample; and what the
+//! proved program `leaves` must print, everything in range. Every answer is the crate's, by the rules of `compare`; nothing here
+//! asks the archive.
 //!
-//!     vectors SCRIPT PRINTED      the two files to write; always the same bytes
+//!     vectors SCRIPT PRINTED LEAVES      the three files to write; always the same bytes
+
+mod leaves;
 
 use both::games::{board_of, Positions};
 use both::numbers::{builder_of, move_of, position_of, result_number, MOST_MOVE};
@@ -63,13 +66,17 @@ fn different(count: usize, mut next: impl FnMut() -> Option<String>) -> Vec<Stri
 }
 
 /// The smallest inputs of docs/DIFFERENCES.md that a text can show. Those of the log are among the games that are told.
-const FENS: [&str; 10] = [
-    " w - e4", " w - -", " w - - 7 9", "PPPPPPPPN w - -", "P w - -", " W - -", " w kxK -", "8/8/8/8/8/8/8/8 b - z9",
-    " w - a1xx", "8/8/8/8/8/8/8/8  w - -",
+const FENS: [&str; 16] = [
+    " w - e4", " b - e4", " w - -", " w - - 7 9", "PPPPPPPPN w - -", "P w - -", " W - -", " w kxK -",
+    "8/8/8/8/8/8/8/8 b - z9", " w - a1xx", "8/8/8/8/8/8/8/8  w - -",
+    "rnbqkbnr/ppp1ppp1/7p/3pP3/8/8/PPPP1PPP/RNBQKBNR w KQkq d6 0 3",
+    "rnbqkbnr/pppp1ppp/8/4p3/4P3/5N2/PPPP1PPP/RNBQKB1R b KQkq - 1 2",
+    "rnbqkbnr/pppp1ppp/8/4p3/4P3/5N2/PPPP1PPP/RNBQKB1R b KQkq e3 0 2",
+    "4k3/8/8/8/4P3/8/8/4K3 b - e3", "8/8/8/8/8/8/8/4K3 w - -",
 ];
 const COORDINATES: [&str; 2] = ["e2e4p", "e2e4k"];
 /// Men, a list, and texts on them.
-const SANS: [(&[(usize, u8)], &[u16], &[&str]); 7] = [
+const SANS: [(&[(usize, u8)], &[u16], &[&str]); 8] = [
     (&[(52, 1)], &[24_372], &["e8=Q", "e8Q"]),
     (&[(36, 1)], &[2_788], &["exd6", "d6", "exd6 e.p."]),
     (&[(4, 4)], &[388], &["O-O", "O-O+"]),
@@ -77,6 +84,7 @@ const SANS: [(&[(usize, u8)], &[u16], &[&str]); 7] = [
     (&[(1, 2)], &[1_153], &["Nc3+?!", "Nb1c3", "Nc3x"]),
     (&[(1, 2), (18, 7)], &[1_153], &["Nc3x", "Nc3"]),
     (&[(1, 2)], &[21_633], &["Nc3Q", "Nc3"]),
+    (&[(28, 1), (35, 7)], &[2_268], &["exd5", "xd5", "4xd5"]),
 ];
 
 /// The crate's text of a record, by the rule of the en passant rank.
@@ -264,13 +272,15 @@ fn make() -> Result<Vectors, String> {
 
 fn main() {
     let paths: Vec<String> = std::env::args().skip(1).collect();
-    let [script, printed] = &paths[..] else {
-        eprintln!("usage: vectors SCRIPT PRINTED");
+    let [script, printed, leaves] = &paths[..] else {
+        eprintln!("usage: vectors SCRIPT PRINTED LEAVES");
         std::process::exit(2);
     };
+    let write = |path: &String, text: String| std::fs::write(path, text).map_err(|e| format!("{}: {}", path, e));
     let done = make().and_then(|v| {
-        std::fs::write(script, v.script).map_err(|e| format!("{}: {}", script, e))?;
-        std::fs::write(printed, v.printed).map_err(|e| format!("{}: {}", printed, e))
+        write(script, v.script)?;
+        write(printed, v.printed)?;
+        write(leaves, leaves::printed())
     });
     if let Err(why) = done {
         eprintln!("vectors: {}", why);

@@ -1,9 +1,8 @@
 use borrow.Author.Needs.{needs}
-use borrow.Author.Tests.{le-leb, lt-leb}
-use mathlib.Core.Path.{_≡_, _∙_}
-use native.Mathlib.Omega.{arith}
-use Rattle.square.proofs.Writes.{write-refused}
-use Rattle.action.specs.Layout.{fields, colourCheck}
+use borrow.Author.Tests.{le-leb}
+use mathlib.Core.Path.{_≡_}
+use Rattle.action.specs.Layout.{colourCheck}
+use Rattle.action.proofs.Rules.{colour-refused}
 use Rattle.action.proofs.write_colour.Statement.{statement}
 use Rattle.action.proofs.write_colour.Tie as tie
 
@@ -11,10 +10,7 @@ refused-requires : tie.Need-refused-requires
 refused-requires c κs = search needs
 
 returns : tie.Need-returns
-returns c = let a = c .before .before .before .args in
-    let k : colourCheck (a .colour) ≡ 5 = simp (lt-leb _ _ (c .before .if1 .taken)) in
-    let w = write-refused 5 (fields (a .kind) (a .colour) 0) (a .out .now) (λ e. omega arith) in
-    rw k (c .refused .ensures ∙ w .answer, w .bytes)
+returns c = colour-refused _ _ _ (c .before .if1 .taken) (c .refused .ensures)
 
 slice-aggregate-write-text : tie.Need-slice-aggregate-write-text
 slice-aggregate-write-text c = search needs

@@ -6,7 +6,8 @@ use Rattle.keys.proofs.input.put_input.Statement.{statement}
 use Rattle.keys.proofs.input.put_input.Tie as tie
 
 abbrev Inv-loop : tie.InvT-loop
-Inv-loop fd name input₀ out₀ next₀ turns₀ input out next turns = (length input ≡ length input₀) × (length out ≡ length out₀) × (next .ready ≤ length out₀) × (next .held < length input₀)
+Inv-loop fd name input₀ out₀ next₀ turns₀ input out next turns =
+    (length input ≡ length input₀) × (length out ≡ length out₀) × (next .ready ≤ length out₀) × (next .held < length input₀)
 
 abbrev μ-loop : tie.MeasureT-loop
 μ-loop fd name input₀ out₀ next₀ turns₀ input out next turns = turns

@@ -1,0 +1,52 @@
+-- The order of the checks of a log call (document 01, "Answer numbers": 16, 9, 10, then for a move 11, 5, 6, 12, 13), at its smallest: each call breaks
+-- the check of its row and all that come after it, so that any later check tested before it would give another number.
+-- Assumes nothing.
+use mathlib.Core.Path.{_≡_}
+use mathlib.Core.List.{List, [], _∷_, _++_}
+use Prim.Native.Nat.{ℕ}
+use lib.ListN.{replicate}
+use Rattle.square.specs.Answer.{outOfRange, badList, notGood, gameOver, notListed, wrongSide, logFull, noOffer, noClaim, partTooShort}
+use Rattle.position.specs.Layout.{Position}
+use Rattle.stored_position.specs.Bytes.{positionBytes}
+use Rattle.game_rules.specs.Limits.{Limits}
+use Rattle.game_rules.specs.Rules.{Call, makeMove, offerDraw, acceptDraw, declareDraw, resign}
+use Rattle.game_rules.specs.Calls.{callAnswer}
+
+-- limits of no action and no move: 13 stands against every call
+abbrev pub noRoom : Limits
+noRoom = record { most-actions = 0; most-moves = 0 }
+
+-- an empty board with a side to move, an in-check byte and a list
+abbrev pub onEmpty : ℕ → ℕ → List ℕ → Position
+onEmpty side check moves = record { board = replicate 64 0 ++ (side ∷ 0 ∷ 0 ∷ 0 ∷ []); check = check; moves = moves }
+
+-- the bytes of a start with white to move and move 0 in its list
+abbrev pub startBytes : List ℕ
+startBytes = positionBytes (onEmpty 0 0 (0 ∷ []))
+
+-- what a log without an action is answered, its positions part as given
+abbrev pub answered : List ℕ → Call → ℕ
+answered ps c = callAnswer noRoom [] ps 0 0 c
+
+-- a next position that breaks 5, 6 and 12: an in-check byte of 2, an entry of 28,672, and white to move again
+abbrev pub allWrong : Position
+allWrong = onEmpty 0 2 (28672 ∷ [])
+
+pub record ChecksInOrder : Type 0 where
+  -- a part without a position: it is too short, no good log, and has no move to play
+  pub gives-16 : answered [] (makeMove 1 allWrong) ≡ partTooShort
+  -- an in-check byte of 2 and an empty list: not good, and the game would be over
+  pub gives-9 : answered (positionBytes (onEmpty 0 2 [])) (makeMove 1 allWrong) ≡ notGood
+  -- a good log whose game is over, so that its list has no move
+  pub gives-10 : answered (positionBytes (onEmpty 0 0 [])) (makeMove 1 allWrong) ≡ gameOver
+  -- from here on a good log that goes on, with move 0 in its list
+  pub gives-11 : answered startBytes (makeMove 1 allWrong) ≡ notListed
+  pub gives-5 : answered startBytes (makeMove 0 allWrong) ≡ outOfRange
+  pub gives-6 : answered startBytes (makeMove 0 (onEmpty 0 0 (28672 ∷ []))) ≡ badList
+  pub gives-12 : answered startBytes (makeMove 0 (onEmpty 0 0 [])) ≡ wrongSide
+  pub gives-13 : answered startBytes (makeMove 0 (onEmpty 1 0 [])) ≡ logFull
+  -- for an offer or a resignation 5, 13; for the others 14 or 15, then 13
+  pub offer-gives-5 : answered startBytes (offerDraw 2) ≡ outOfRange
+  pub resignation-gives-5 : answered startBytes (resign 2) ≡ outOfRange
+  pub gives-14 : answered startBytes acceptDraw ≡ noOffer
+  pub gives-15 : answered startBytes declareDraw ≡ noClaim

@@ -1,0 +1,203 @@
+//! One question to both sides. An answer is the text that the table has.
+
+use both::abi::{self, Answer, Fen, Log, Record};
+use both::games::{board_of, moves_of};
+use both::numbers::{code_of, move_of, number_of, position_of, result_number};
+use chess::{Board, BoardBuilder, Error, Game, Piece, Square, ALL_COLORS, ALL_PIECES};
+use compare::san::Place;
+use compare::script::Act;
+use compare::{moves, records, rules};
+use std::str::FromStr;
+
+/// What stands where the crate cannot be asked: its types do not hold the input.
+const NOT_ASKED: &str = "-";
+
+type Told = Result<(String, String), String>;
+
+pub fn both(what: &str, input: &str) -> Told {
+    match what {
+        "fen" => fen(input),
+        "bytes" => Ok((NOT_ASKED.to_string(), fen_of_ours(&[number(input)? as u8]))),
+        "get_en_passant" => get_en_passant(input),
+        "board" => board(input),
+        "filed" => filed(input),
+        "rights" => Ok((NOT_ASKED.to_string(), answer(abi::rights_add(number(input)? as u8, 0)))),
+        "move" => Ok((answer(moves::owed_read(input)?), answer(abi::move_read(input.as_bytes())))),
+        "write" => write(number(input)?),
+        "san" => san(input),
+        "log" => log(input),
+        _ => Err("nothing of that name is asked".to_string()),
+    }
+}
+
+fn number(text: &str) -> Result<u64, String> {
+    text.parse().map_err(|_| format!("{:?} is no number", text))
+}
+
+fn answer(a: Answer) -> String {
+    format!("{} {}", a.number, a.value)
+}
+
+fn written(a: Answer, room: &[u8]) -> String {
+    match a.number {
+        0 => String::from_utf8_lossy(&room[..a.value as usize]).to_string(),
+        _ => answer(a),
+    }
+}
+
+fn text_of_ours(record: Record) -> String {
+    let mut room = [0; 85];
+    let a = abi::fen_write(record, &mut room);
+    written(a, &room)
+}
+
+fn fen_of_ours(text: &[u8]) -> String {
+    match abi::fen_read(text) {
+        Fen { number: 0, board, .. } => text_of_ours(board),
+        Fen { number, .. } => number.to_string(),
+    }
+}
+
+fn fen(text: &str) -> Told {
+    let of_crate = match BoardBuilder::from_str(text) {
+        Ok(builder) => builder.to_string(),
+        Err(Error::InvalidFen { .. }) => "1".to_string(),
+        Err(error) => return Err(format!("the crate gives {:?}", error)),
+    };
+    Ok((of_crate, fen_of_ours(text.as_bytes())))
+}
+
+/// Ours is the square that the FEN writer writes; the getter itself is no function of the archive, and `leaves` asks it.
+fn get_en_passant(text: &str) -> Told {
+    let builder = BoardBuilder::from_str(text).map_err(|e| e.to_string())?;
+    let square = builder.get_en_passant().map_or("-".to_string(), |s| s.to_string());
+    let ours = fen_of_ours(text.as_bytes());
+    Ok((square, ours.split(' ').nth(3).unwrap_or_default().to_string()))
+}
+
+fn board(text: &str) -> Told {
+    let of_crate = match Board::from_str(text) {
+        Ok(board) => BoardBuilder::from(board).to_string(),
+        Err(Error::InvalidBoard) => "InvalidBoard".to_string(),
+        Err(error) => return Err(format!("the crate gives {:?}", error)),
+    };
+    Ok((of_crate, fen_of_ours(text.as_bytes())))
+}
+
+/// The record without an en passant file that no enemy pawn stands beside, as docs/DIFFERENCES.md tells whoever files under keys.
+fn only_beside_a_pawn(record: Record) -> Record {
+    let r = &record.0;
+    let (rank, pawn) = if r[64] == 0 { (4, 1) } else { (3, 7) };
+    let file = r[67] as i32 - 1;
+    let mut beside = [file - 1, file + 1].into_iter().filter(|f| (0..8).contains(f));
+    let may_take = beside.any(|f| r[rank * 8 + f as usize] == pawn);
+    if file < 0 || may_take { record } else { abi::en_passant(record, 0).board }
+}
+
+/// The key to file under; the crate's is the text of its `Board`, by the rule of the rank.
+fn filed(text: &str) -> Told {
+    let board = Board::from_str(text).map_err(|e| e.to_string())?;
+    let (of_crate, _) = rules::en_passant_rank(&BoardBuilder::from(board).to_string());
+    Ok((of_crate, text_of_ours(only_beside_a_pawn(abi::fen_read(text.as_bytes()).board))))
+}
+
+fn write(number: u64) -> Told {
+    let of_crate = if number <= 28_671 { move_of(number as u16).to_string() } else { NOT_ASKED.to_string() };
+    let mut room = [0; 5];
+    let a = abi::move_write(number, &mut room);
+    Ok((of_crate, written(a, &room)))
+}
+
+/// The code of a FEN letter.
+fn code(letter: &str) -> Option<u8> {
+    let men = ALL_COLORS.iter().flat_map(|c| ALL_PIECES.iter().map(move |p| (*p, *c)));
+    men.into_iter().find(|(p, c): &(Piece, _)| p.to_string(*c) == letter).map(|(p, c)| code_of(p, c))
+}
+
+/// A man and its square, as `Nb1`.
+fn man(text: &str) -> Result<(usize, u8), String> {
+    let (letter, square) = text.split_at(1);
+    let square = Square::from_str(square).map_err(|_| format!("{:?} is no square", square))?;
+    Ok((square.to_index(), code(letter).ok_or(format!("{:?} is no man", letter))?))
+}
+
+/// Entries joined by `,`; `N*K` is the move N as often.
+fn list(text: &str) -> Result<Vec<u16>, String> {
+    let mut all = vec![];
+    for entry in text.split(',') {
+        let (one, times) = entry.split_once('*').unwrap_or((entry, "1"));
+        all.extend(vec![number(one)? as u16; number(times)? as usize]);
+    }
+    Ok(all)
+}
+
+fn san(input: &str) -> Told {
+    let parts: Vec<&str> = input.split("; ").collect();
+    let [men, moves, text] = parts[..] else { return Err("men; list; text are wanted".to_string()) };
+    let men = men.split(' ').map(man).collect::<Result<Vec<_>, _>>()?;
+    let place = Place::any(records::with(&men), list(moves)?);
+    let of_crate = place.crate_reads(text)?.map_or("4 0".to_string(), |n| format!("0 {}", n));
+    Ok((of_crate, answer(abi::san_read(place.record, &place.list, text.as_bytes()))))
+}
+
+fn act(word: &str, board: &Board) -> Result<Act, String> {
+    match word {
+        "offer-white" => Ok(Act::Offer(0)),
+        "accept" => Ok(Act::Accept),
+        "declare" => Ok(Act::Declare),
+        _ => {
+            let named = |m: &chess::ChessMove| m.to_string() == word;
+            let found = moves_of(board).into_iter().find(named).ok_or(format!("{} is not legal", word))?;
+            Ok(Act::Move(number_of(found)))
+        }
+    }
+}
+
+/// The words of a script; `(..)*K` stands as often as K says.
+fn words(script: &str) -> Result<Vec<&str>, String> {
+    let Some((before, rest)) = script.split_once('(') else { return Ok(script.split_whitespace().collect()) };
+    let (group, rest) = rest.split_once(")*").ok_or("a group without its number")?;
+    let (times, after) = rest.split_once(' ').unwrap_or((rest, ""));
+    let mut all = words(before)?;
+    for _ in 0..number(times)? {
+        all.extend(words(group)?);
+    }
+    all.extend(words(after)?);
+    Ok(all)
+}
+
+/// A game on both sides: the last answer, the result, the claim.
+fn log(input: &str) -> Told {
+    let (start, script) = input.split_once("; ").ok_or("a start; what is done are wanted")?;
+    let mut board = board_of(start);
+    let (mut game, mut ours) = (Game::new_with_board(board), Log::new());
+    let mut position = position_of(&board);
+    position.record = abi::fen_read(start.as_bytes()).board;
+    let begun = ours.start(&position).number;
+    let (mut number, mut our_number) = (0, begun);
+    for word in words(script)? {
+        let act = act(word, &board)?;
+        board = act.after(&board);
+        number = act.play(&mut game);
+        if begun == 0 {
+            our_number = play(&mut ours, act, &board);
+        }
+    }
+    let told = |n: u64, result: u64, claim: u64| format!("{} {} {}", n, result, claim);
+    let of_crate = told(number, result_number(game.result()), game.can_declare_draw() as u64);
+    match begun {
+        0 => Ok((of_crate, told(our_number, ours.result().value, ours.can_declare_draw().value))),
+        _ => Ok((of_crate, told(begun, 0, 0))),
+    }
+}
+
+fn play(log: &mut Log, act: Act, after: &Board) -> u64 {
+    let counts = match act {
+        Act::Move(number) => log.make_move(number as u64, &position_of(after)),
+        Act::Offer(colour) => log.offer_draw(colour),
+        Act::Accept => log.accept_draw(),
+        Act::Declare => log.declare_draw(),
+        Act::Resign(colour) => log.resign(colour),
+    };
+    counts.number
+}
