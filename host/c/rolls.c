@@ -256,6 +256,25 @@ static void check_changes(void)
     }
 }
 
+/* A roll that ends in a move, at every length: what it lacks stands behind it, and is not looked at. */
+static void check_behind(uint64_t move)
+{
+    struct roll r = roll_front(initial, 1);
+    struct part whole, actions = lend(MENKHODUR_ACTIONS_LENGTH);
+    add_number(&r, 2);
+    add_number(&r, move);
+    check_number(&r, MENKHODUR_ACCEPTED);
+    whole = lend_bytes(r.bytes, r.length);
+    for (size_t length = 0; length < r.length; length++) {
+        about("menkhodur_roll_read", "%zu bytes of %zu, move %llu", length, r.length, (unsigned long long)move);
+        expect("number", MENKHODUR_BAD_ROLL, menkhodur_roll_read(whole.bytes, length, actions.bytes, actions.length).number);
+    }
+    expect_unchanged("roll", &whole);
+    expect_unchanged("actions", &actions);
+    give_back(&whole);
+    give_back(&actions);
+}
+
 /* ---- Numbers as they must not be, in every place ---- */
 
 struct spelling {
@@ -392,13 +411,19 @@ static void check_read_order(unsigned faults)
 
 /* ---- Limits ---- */
 
-/* The 1,025th move is refused at its code: what stands for its number is not read. */
+/* The 1,025th move is refused at its code, whatever the others are: what stands for its number is not read. */
 static void check_last_move(const uint8_t *tail, size_t length, uint64_t number)
 {
-    struct roll r = roll_front(initial, MENKHODUR_MAX_MOVES + 1);
-    for (unsigned i = 0; i < MENKHODUR_MAX_MOVES; i++) add_bytes(&r, (uint8_t[]){ 2, 0 }, 2);
-    add_bytes(&r, tail, length);
-    check_number(&r, number);
+    static const uint64_t moves[] = { 0, 127, 128, E2E4, 16383, 16384, MENKHODUR_LAST_MOVE };
+    for (size_t k = 0; k < sizeof moves / sizeof *moves; k++) {
+        struct roll r = roll_front(initial, MENKHODUR_MAX_MOVES + 1);
+        for (unsigned i = 0; i < MENKHODUR_MAX_MOVES; i++) {
+            add_number(&r, 2);
+            add_number(&r, moves[k]);
+        }
+        add_bytes(&r, tail, length);
+        check_number(&r, number);
+    }
 }
 
 static void check_limits(void)
@@ -411,6 +436,8 @@ static void check_limits(void)
     check_last_move((uint8_t[]){ 3 }, 1, MENKHODUR_BAD_ROLL);
     check_last_move((uint8_t[]){ 2 }, 1, MENKHODUR_LOG_FULL);
     check_last_move((uint8_t[]){ 2, 0 }, 2, MENKHODUR_LOG_FULL);
+    check_last_move((uint8_t[]){ 2, 128, 1 }, 3, MENKHODUR_LOG_FULL);
+    check_last_move((uint8_t[]){ 2, 128, 128, 1 }, 4, MENKHODUR_LOG_FULL);
     check_last_move((uint8_t[]){ 2, 128, 0 }, 3, MENKHODUR_LOG_FULL);
     check_last_move((uint8_t[]){ 130, 0 }, 2, MENKHODUR_BAD_ROLL);
 }
@@ -506,6 +533,9 @@ void check_rolls(void)
 {
     check_hand();
     check_changes();
+    check_behind(0);
+    check_behind(E2E4);
+    check_behind(MENKHODUR_LAST_MOVE);
     check_spellings();
     check_actions();
     check_records_and_counts();

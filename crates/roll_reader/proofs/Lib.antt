@@ -4,3 +4,4 @@ pub mod Fronts
 pub mod Answers
 pub mod Writing
 pub mod Determined
+pub mod Short

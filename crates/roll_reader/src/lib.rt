@@ -1,5 +1,6 @@
 // Reads a game roll (document 02, order 1).
 use action::ACTION_SIZE;
+use actions::NO_MOVE;
 use board_builder::BoardBuilder;
 use board_builder::RECORD_SIZE;
 use chess_move::LAST_MOVE;
@@ -25,9 +26,12 @@ ghost use Rattle.action.specs.Layout.{fields};
 ghost use Rattle.game_rules.specs.Limits.{limits};
 ghost use Rattle.roll_text.specs.Number.{readGroups, readNumber};
 ghost use Rattle.roll_text.specs.Roll.{largestNumbers, readNumbers, refusal, isCode, readEntry, readActions};
+ghost use Rattle.roll_reader.specs.Short.{ShortMove};
 ghost use Rattle.roll_text.specs.Calls.{frontNumber, actsNumber, actsOver, isActs, rollAnswer, rollOver, judged};
 
 const MOVE_CODE: u64 = 2;
+
+const MOVE_BYTE: u8 = 2;
 
 const MOST_GROUPS: usize = 5;
 
@@ -107,6 +111,34 @@ fn read_entry(s: &[u8], full: bool) -> Entry
         }
         Number::Bad => Entry::Stop(BAD_ROLL),
     }
+}
+
+// The number of a move at `at` whose number has two groups, as nearly every move's has, or `NO_MOVE`: a plain number, so that the loops below
+// go on without waiting for an enum in memory.
+fn short_move(s: &[u8], at: usize) -> u64
+    ensures { λ r. ⌜ ShortMove (now (s .entry)) at r ⌝ }
+{
+    if s.len() < 3 {
+        return NO_MOVE;
+    }
+    if s.len() - 3 < at {
+        return NO_MOVE;
+    }
+    if s[at] != MOVE_BYTE {
+        return NO_MOVE;
+    }
+    let low = s[at + 1];
+    if low < 128 {
+        return NO_MOVE;
+    }
+    let high = s[at + 2];
+    if 127 < high {
+        return NO_MOVE;
+    }
+    if high == 0 {
+        return NO_MOVE;
+    }
+    (low % 128) as u64 + 128 * (high as u64)
 }
 
 // The first pass: 0, or what is wrong with the text of `n` actions.

@@ -71,44 +71,48 @@ fn start_of(roll: &[u8]) -> Result<([u8; 68], &[u8]), u64> {
     }
 }
 
-/// Looks at the whole text before it writes.
-fn try_read(roll: &[u8], part: &mut [u8]) -> Result<Roll, u64> {
+/// The start, the count, and the text of the actions, which is not looked at yet.
+fn opening<'a>(roll: &'a [u8], part: &[u8]) -> Result<(Roll, &'a [u8]), u64> {
     if part.len() < ACTIONS_LENGTH {
         return Err(16);
     }
     let (record, text) = start_of(roll)?;
-    let (count, text) = number(text).ok_or(17u64)?;
-    if count > MOST_ACTIONS {
+    let (actions, text) = number(text).ok_or(17u64)?;
+    if actions > MOST_ACTIONS {
         return Err(13);
     }
-    walk(text, count as usize, |_, _| ())?;
-    walk(text, count as usize, |i, bytes| part[4 * i..4 * i + 4].copy_from_slice(&bytes))?;
-    Ok(Roll { number: 0, actions: count, board: Record(record) })
+    Ok((Roll { number: 0, actions, board: Record(record) }, text))
+}
+
+/// Looks at the whole text before it writes.
+fn try_read(roll: &[u8], part: &mut [u8]) -> Result<Roll, u64> {
+    let (answer, text) = opening(roll, part)?;
+    let count = answer.actions as usize;
+    walk(text, count, |_, _| ())?;
+    walk(text, count, |i, bytes| part[4 * i..4 * i + 4].copy_from_slice(&bytes))?;
+    Ok(answer)
 }
 
 /// Gathers the actions and then copies them: one look at the text, and memory of its own.
 fn try_read_gathering(roll: &[u8], part: &mut [u8]) -> Result<Roll, u64> {
-    if part.len() < ACTIONS_LENGTH {
-        return Err(16);
-    }
-    let (record, text) = start_of(roll)?;
-    let (count, text) = number(text).ok_or(17u64)?;
-    if count > MOST_ACTIONS {
-        return Err(13);
-    }
-    let mut gathered: Vec<[u8; 4]> = Vec::with_capacity(count as usize);
-    walk(text, count as usize, |_, bytes| gathered.push(bytes))?;
-    let bytes = gathered.as_flattened();
-    part[..bytes.len()].copy_from_slice(bytes);
-    Ok(Roll { number: 0, actions: count, board: Record(record) })
+    let (answer, text) = opening(roll, part)?;
+    let count = answer.actions as usize;
+    let mut gathered: Vec<[u8; 4]> = Vec::with_capacity(count);
+    walk(text, count, |_, bytes| gathered.push(bytes))?;
+    part[..4 * count].copy_from_slice(gathered.as_flattened());
+    Ok(answer)
+}
+
+fn refused(number: u64) -> Roll {
+    Roll { number, actions: 0, board: Record([0; 68]) }
 }
 
 pub fn read(roll: &[u8], part: &mut [u8]) -> Roll {
-    try_read(roll, part).unwrap_or_else(|number| Roll { number, actions: 0, board: Record([0; 68]) })
+    try_read(roll, part).unwrap_or_else(refused)
 }
 
 pub fn read_gathering(roll: &[u8], part: &mut [u8]) -> Roll {
-    try_read_gathering(roll, part).unwrap_or_else(|number| Roll { number, actions: 0, board: Record([0; 68]) })
+    try_read_gathering(roll, part).unwrap_or_else(refused)
 }
 
 fn length(n: u64) -> usize {

@@ -2,7 +2,7 @@
 
 use crate::plain;
 use crate::{long_game, row, times};
-use both::abi::{self, Record, ACTIONS_LENGTH, POSITION_LENGTH};
+use both::abi::{self, Record, Roll, ACTIONS_LENGTH, POSITION_LENGTH};
 use both::games::{board_of, STARTS};
 use both::numbers::{number_of, record_of};
 use both::random::Random;
@@ -42,6 +42,23 @@ fn rolled(length: usize, random: &mut Random) -> Rolled {
     Rolled { start, actions, count, roll }
 }
 
+/// Plain Rust must refuse as ours does: every cut of a roll, and each byte's top bit changed.
+fn check_refusals(roll: &[u8]) {
+    let asked = |read: fn(&[u8], &mut [u8]) -> Roll, text: &[u8]| {
+        let mut part = vec![0; ACTIONS_LENGTH];
+        (read(text, &mut part), part)
+    };
+    for at in 0..roll.len() {
+        let mut changed = roll.to_vec();
+        changed[at] ^= 128;
+        for text in [&roll[..at], &changed] {
+            let owed = asked(abi::roll_read, text);
+            assert_eq!(asked(plain::read, text), owed);
+            assert_eq!(asked(plain::read_gathering, text), owed);
+        }
+    }
+}
+
 /// What is timed must be right: both write the same roll, and both read the game back.
 fn check(game: &Rolled) {
     let mut room = vec![0; ROOM];
@@ -63,21 +80,31 @@ fn share(length: usize, games: &[Rolled]) {
     println!("a roll of {} moves has {:.0} bytes, its log {:.0}: {:.2} percent", length, each(rolls), each(logs), percent);
 }
 
+/// Reading, beside plain Rust that looks at the text twice as ours does, and beside plain Rust that allocates.
+fn reading(length: usize, games: &[Rolled]) {
+    let (mut part, mut other) = ([0; ACTIONS_LENGTH], [0; ACTIONS_LENGTH]);
+    let mut ours = |g: &Rolled| abi::roll_read(&g.roll, &mut part);
+    let (theirs, taken) = times(games, |g| plain::read(&g.roll, &mut other), &mut ours);
+    row(&format!("roll read, {} moves", length), games.len(), theirs, taken, "1");
+    let (theirs, taken) = times(games, |g| plain::read_gathering(&g.roll, &mut other), &mut ours);
+    row("  the same, plain Rust gathers in a Vec", games.len(), theirs, taken, "");
+}
+
+fn writing(length: usize, games: &[Rolled]) {
+    let (mut room, mut other) = ([0; ROOM], [0; ROOM]);
+    let theirs = |g: &Rolled| plain::write(g.start, &g.actions, g.count, &mut other);
+    let (theirs, taken) = times(games, theirs, |g| abi::roll_write(g.start, &g.actions, g.count, &mut room));
+    row(&format!("roll write, {} moves", length), games.len(), theirs, taken, "1");
+}
+
 pub fn rolls(random: &mut Random) {
-    println!("(rolls: the column `crate` is the same job in plain safe Rust)");
+    println!("(rolls: the column `crate` has the same job in plain safe Rust, plain.rs)");
     for length in LENGTHS {
         let games: Vec<Rolled> = (0..GAMES).map(|_| rolled(length, random)).collect();
         games.iter().for_each(check);
-        let (mut part, mut other, mut room, mut another) = ([0; ACTIONS_LENGTH], [0; ACTIONS_LENGTH], [0; ROOM], [0; ROOM]);
-        let (theirs, ours) =
-            times(&games, |g| plain::read(&g.roll, &mut other), |g| abi::roll_read(&g.roll, &mut part));
-        row(&format!("roll read, {} moves", length), games.len(), theirs, ours, "1");
-        let (theirs, ours) =
-            times(&games, |g| plain::read_gathering(&g.roll, &mut other), |g| abi::roll_read(&g.roll, &mut part));
-        row(&format!("roll read, {} moves, gathering", length), games.len(), theirs, ours, "1");
-        let write = |g: &Rolled| abi::roll_write(g.start, &g.actions, g.count, &mut room);
-        let (theirs, ours) = times(&games, |g| plain::write(g.start, &g.actions, g.count, &mut another), write);
-        row(&format!("roll write, {} moves", length), games.len(), theirs, ours, "1");
+        check_refusals(&games[0].roll);
+        reading(length, &games);
+        writing(length, &games);
         if length == 300 {
             share(length, &games);
         }

@@ -70,6 +70,46 @@ pub fn piece(b: Record, square: u8, code: u8) -> Stepped {
     real::piece(b, square, code)
 }
 
+/// A roll with a byte left over writes its first action; a count with a needless group is taken; a square's number of two
+/// groups is 17; the move past the limit is 17 where its number is cut off; a resignation at the end changes its colour.
+pub fn roll_read(roll: &[u8], actions: &mut [u8]) -> Roll {
+    let mut answer = real::roll_read(roll, actions);
+    let without_last = |roll: &[u8]| real::roll_read(&roll[..roll.len().max(1) - 1], &mut [0; ACTIONS_LENGTH]);
+    if planted("rolls-bytes") && answer.number == 17 && without_last(roll).number == 0 {
+        actions[3] ^= 64;
+    }
+    if planted("rolls-shortest") && answer.number == 17 && roll.len() > 70 && roll[68] >= 128 && roll[69] == 0 {
+        return real::roll_read(&[&roll[..68], &[roll[68] - 128], &roll[70..]].concat(), actions);
+    }
+    if planted("rolls-record") && answer.number == 5 && roll.len() > 63 && roll[63] > 127 {
+        answer.number = 17;
+    }
+    if planted("rolls-limit") && answer.number == 13 && roll.ends_with(&[2]) {
+        answer.number = 17;
+    }
+    if planted("rolls-colour") && answer.number == 0 && answer.actions > 3 && roll.ends_with(&[11]) {
+        actions[4 * answer.actions as usize - 3] = 0;
+    }
+    answer
+}
+
+/// The offer by black at the end is written as white's; the length needed is one too few from 128 actions on; the byte behind
+/// a roll of more than two groups in a move is cleared.
+pub fn roll_write(b: Record, actions: &[u8], count: u64, out: &mut [u8]) -> Answer {
+    let mut answer = real::roll_write(b, actions, count, out);
+    let last = answer.value.wrapping_sub(1) as usize;
+    if planted("rolls-offer") && answer.number == 0 && count > 2 && out[last] == 5 {
+        out[last] = 4;
+    }
+    if planted("rolls-room") && answer.number == 7 && count > 127 {
+        answer.value -= 1;
+    }
+    if planted("rolls-behind") && answer.number == 0 && out.len() > last + 1 && out[last] == 1 && out[last - 1] > 127 {
+        out[last + 1] = 0;
+    }
+    answer
+}
+
 /// The log, with faults in a count, a byte and a ruling.
 pub struct Log(real::Log);
 

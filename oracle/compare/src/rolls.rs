@@ -155,7 +155,9 @@ fn compare_ends(pair: &mut Pair, start: &Record, bytes: &[u8], tally: &mut Tally
     if again.actions() != pair.game().actions() || again.current_position() != pair.board() {
         return Err("the game replayed from the roll is another".to_string());
     }
-    let log = (pair.log.result().value, pair.log.can_declare_draw().value == 1, pair.log.accept_draw().number == 0);
+    let (result, claim) = (pair.log.result().value, pair.log.can_declare_draw().value == 1);
+    // 13 comes after 14: an offer stands, and a full log has no place for its acceptance.
+    let log = (result, claim, matches!(pair.log.accept_draw().number, 0 | 13));
     let (first, second) = (end_of(pair.game()), end_of(&again));
     if first != second || first != log {
         return Err(format!("result, claim and offer: crate {:?}, from the roll {:?}, log {:?}", first, second, log));
@@ -210,7 +212,7 @@ impl Part for Rolls {
     const NAME: &'static str = "rolls";
 
     fn fixed(&self) -> Box<dyn Iterator<Item = Input>> {
-        let games = script::fixed().into_iter().map(Input::Game);
+        let games = script::fixed().into_iter().chain(script::left_open()).map(Input::Game);
         let reads = rollwork::numbers().chain(rollwork::limits()).chain(told_damaged());
         let reads = reads.map(|roll| Input::Read(roll, ACTIONS_LENGTH));
         Box::new(games.chain(reads).chain(short_parts()).chain(rollwork::writes().into_iter().map(Input::Write)))

@@ -172,9 +172,11 @@ pub fn random(random: &mut Random) -> Written {
     given
 }
 
-/// A roll with something left out, or with a number of its record put to 0.
+/// A roll with something left out, or with a number of its record put to 0. Of a long one no single bytes are tried, for each
+/// move can lose one and stay a move, and a difference at the limits would take minutes to show.
 pub fn smaller_rolls(roll: &[u8]) -> Vec<Vec<u8>> {
     let mut smaller = texts::cut_lists(roll);
+    smaller.retain(|cut| roll.len() < 1_000 || roll.len() - cut.len() > 7);
     smaller.extend((0..roll.len().min(68)).filter(|at| roll[*at] != 0).map(|at| {
         let mut other = roll.to_vec();
         other[at] = 0;

@@ -197,6 +197,15 @@ pub fn told() -> Vec<Script> {
     first.chain(others.iter().map(|(start, text)| from(start, text, None))).collect()
 }
 
+/// Games that stop where an offer stands, or has just gone.
+pub fn left_open() -> Vec<Script> {
+    let texts = [
+        "ow", "ob", "ow ob", "e2e4 ob", "e2e4 ow", "ow e2e4", "ob e2e4", "ow e2e4 e7e5", "e2e4 ob e7e5", "e2e4 ow e7e5", "ow ob e2e4", "ob ow e2e4",
+        "f2f3 e7e5 g2g4 ob d8h4", "f2f3 e7e5 ow g2g4 d8h4",
+    ];
+    texts.iter().map(|text| Script { start: STARTS[0].to_string(), acts: acts_of(text), claim: None }).collect()
+}
+
 /// As many moves and actions as a log holds: 1,024 and 2,048, with every offer left standing.
 fn full() -> Script {
     let round = acts_of("b1c3 g8f6 c3b1 f6g8");

@@ -209,6 +209,17 @@ fn every_cut_and_every_other_byte() {
 }
 
 #[test]
+fn what_stands_behind_a_roll_is_not_looked_at() {
+    for made in [0, 1_804, 28_671] {
+        let whole = [vec![0; 68], vec![1, 2], number_text(made)].concat();
+        assert!(check(&whole).is_ok());
+        for length in 0..whole.len() {
+            assert_eq!(check(&whole[..length]), Err(17));
+        }
+    }
+}
+
+#[test]
 fn random_games_come_back_and_changed_ones_are_judged() {
     let mut numbers = Numbers(17);
     for _ in 0..60 {
@@ -282,11 +293,17 @@ fn the_reader_gives_the_first_from_the_left() {
 
 #[test]
 fn the_last_move_is_refused_at_its_code() {
-    let front: Vec<u8> = [0; 68].into_iter().chain(number_text(1_025)).chain([2, 0].repeat(1_024)).collect();
-    for (tail, want) in [(&[][..], 17), (&[2], 13), (&[2, 0], 13), (&[2, 0x80, 0], 13), (&[0x82, 0], 17), (&[3], 17)] {
-        assert_eq!(check(&[&front[..], tail].concat()), Err(want), "{tail:?}");
+    for made in [0, 127, 128, 1_804, 16_383, 16_384, 28_671] {
+        let moves = [vec![2], number_text(made)].concat().repeat(1_024);
+        let front: Vec<u8> = [0; 68].into_iter().chain(number_text(1_025)).chain(moves).collect();
+        for tail in [&[2][..], &[2, 0], &[2, 0x80, 0], &[2, 0x80, 1], &[2, 0x80, 0x80, 1]] {
+            assert_eq!(check(&[&front[..], tail].concat()), Err(13), "{tail:?}");
+        }
+        for tail in [&[][..], &[0x82, 0], &[3]] {
+            assert_eq!(check(&[&front[..], tail].concat()), Err(17), "{tail:?}");
+        }
+        assert!(check(&[&front[..], &[4]].concat()).is_ok());
     }
-    assert!(check(&[&front[..], &[4]].concat()).is_ok());
 }
 
 #[test]
@@ -329,6 +346,27 @@ fn the_writers_refusals_in_their_order() {
     }
     assert_eq!(lent::roll_write(&good, &part, 1, &mut [0; 70]), Ok(70));
     assert_eq!(lent::roll_write(&good, &unknown, 0, &mut [0; 70]), Ok(69));
+}
+
+#[test]
+fn a_start_out_of_range_in_any_number() {
+    for place in 0..68 {
+        for number in [[13, 2, 4, 4, 9][usize::max(place, 63) - 63], 255] {
+            let mut record = [0; 68];
+            record[place] = number;
+            refuses(Error::OutOfRange, &record, &part_with(&[]), 0, MAX_ROLL);
+        }
+    }
+}
+
+/// Bytes of a move's kind that are no action are no move either.
+#[test]
+fn only_moves_are_counted_as_moves() {
+    let most = [[1, 0, 0, 0]; 1_024];
+    for (last, want) in [([1, 1, 0, 0], Error::BadRoll), ([1, 0, 0, 112], Error::BadRoll), ([1, 0, 0, 0], Error::LogFull)] {
+        refuses(want, &[0; 68], &part_with(&[&most[..], &[last]].concat()), 1_025, MAX_ROLL);
+    }
+    assert_eq!(lent::roll_write(&[0; 68], &part_with(&most), 1_024, &mut [0; MAX_ROLL]), Ok(68 + 2 + 2 * 1_024));
 }
 
 #[test]
