@@ -128,6 +128,10 @@ module _ (m left at : ℕ) (s t : List ℕ) (e : Entry) (some : 0 < m) (within :
   unfolding next
   stop-turn k f = turned ∙ ap (λ (x : Entry). next x left (drop at s) (λ l u. readActions (m - 1) l u)) f
 
+-- a short move, three bytes
+pub short-turn : (m left at : ℕ) (s : List ℕ) (move : ℕ) → 0 < m → at ≤ length s → readEntry (eqb left 0) (drop at s) ≡ Move move 3 → MoveTurn m left at s move 3
+short-turn m left at s move some fits e = move-turn m left at s (drop at s) (Move move 3) some fits refl (sym e) move 3 refl
+
 -- no action is left: the text is at its end, or too long
 pub end-turn : (left at : ℕ) (s : List ℕ) → length s ≤ at → readActions 0 left (drop at s) ≡ acts []
 unfolding readActions

@@ -113,11 +113,14 @@ fn read_entry(s: &[u8], full: bool) -> Entry
     }
 }
 
-// The number of a move at `at` whose number has two groups, as nearly every move's has, or `NO_MOVE`: a plain number, so that the loops below
-// go on without waiting for an enum in memory.
-fn short_move(s: &[u8], at: usize) -> u64
-    ensures { λ r. ⌜ ShortMove (now (s .entry)) at r ⌝ }
+// The number of a move at `at` whose number has two groups, as nearly every move's has, or `NO_MOVE`, also if no more
+// moves may come: a plain number, so that the loops below go on without waiting for an enum in memory.
+fn short_move(s: &[u8], at: usize, left: usize) -> u64
+    ensures { λ r. ⌜ ShortMove (now (s .entry)) at left r ⌝ }
 {
+    if left == 0 {
+        return NO_MOVE;
+    }
     if s.len() < 3 {
         return NO_MOVE;
     }
@@ -149,6 +152,13 @@ fn judge_actions(s: &[u8], n: usize, most: usize) -> u64
     let mut left = most;
     let mut i: usize = 0;
     while i < n {
+        let m = short_move(s, at, left);
+        if m < NO_MOVE {
+            at += 3;
+            left -= 1;
+            i += 1;
+            continue;
+        }
         let e = read_entry(rest(s, at), left == 0);
         i += 1;
         match e {
@@ -191,8 +201,16 @@ fn write_actions(s: &[u8], n: usize, most: usize, out: &mut [u8])
     let mut left = most;
     let mut i: usize = 0;
     while i < n {
-        let e = read_entry(rest(s, at), left == 0);
         let to = ACTION_SIZE * i;
+        let m = short_move(s, at, left);
+        if m < NO_MOVE {
+            put_action(out, to, 1, 0, m);
+            at += 3;
+            left -= 1;
+            i += 1;
+            continue;
+        }
+        let e = read_entry(rest(s, at), left == 0);
         i += 1;
         match e {
             Entry::Move(number, size) => {

@@ -1,5 +1,6 @@
 //! Inputs for `rolls` that are not games: numbers in every place, the limits, and what a writer may be given.
 
+use crate::damage;
 use crate::pair::action_bytes;
 use crate::records;
 use crate::roll::{self, largest, MOST_ACTIONS, MOST_MOVES};
@@ -25,7 +26,7 @@ fn places() -> Vec<Place> {
     record.into_iter().chain(others).collect()
 }
 
-/// Every number of the text over these bytes, in every place.
+/// Each text in each place of a number.
 fn everywhere(texts: Vec<Vec<u8>>) -> impl Iterator<Item = Vec<u8>> {
     let each = move |(before, behind): Place| {
         texts.clone().into_iter().map(move |text| [&before[..], &text, &behind].concat())
@@ -44,13 +45,13 @@ fn all(bytes: &[u8], most: u32) -> Vec<Vec<u8>> {
     texts
 }
 
-/// All single bytes; up to 6 at the edges; all numbers of two groups, and of three around the largest move.
+/// All single bytes, and all texts of up to 6 bytes at the edges of a group, in each place; every move, and 4,096 numbers that
+/// are none.
 pub fn numbers() -> impl Iterator<Item = Vec<u8>> {
     let single = (0..=255).map(|b| vec![b]).collect();
     let edges = all(&[0, 1, 127, 128, 255], 6);
-    let before: Place = ([vec![0; 68], vec![1, 2]].concat(), vec![]);
-    let moves = (0..=MOST_MOVE as u64 + 4_096).map(move |number| {
-        let mut roll = before.0.clone();
+    let moves = (0..=MOST_MOVE as u64 + 4_096).map(|number| {
+        let mut roll = [vec![0; 68], vec![1, 2]].concat();
         roll::put_number(number, &mut roll);
         roll
     });
@@ -81,7 +82,22 @@ pub fn limits() -> impl Iterator<Item = Vec<u8>> {
     full.pop();
     let last = all(&[0, 2, 3, 4, 128, 130], 3);
     let behind = last.into_iter().map(move |text| [&full[..], &text].concat());
-    rolls.into_iter().chain(behind)
+    rolls.into_iter().chain(behind).chain(full_damaged())
+}
+
+/// The ends of two full rolls, and of one with a move too many, in every way damaged.
+fn full_damaged() -> impl Iterator<Item = Vec<u8>> {
+    let offers = vec![Action::OfferDraw(Color::White); MOST_MOVES];
+    let endings = [
+        [king_moves(MOST_MOVES), offers.clone()].concat(),
+        [offers, king_moves(MOST_MOVES)].concat(),
+        king_moves(MOST_MOVES + 1),
+    ];
+    endings.into_iter().flat_map(|actions| {
+        let roll = roll::write(&kings(), &actions);
+        let from = roll.len() - 40;
+        damage::all(roll, from, Random::new(1, "full"))
+    })
 }
 
 impl Written {

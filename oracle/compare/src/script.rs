@@ -200,8 +200,8 @@ pub fn told() -> Vec<Script> {
 /// Games that stop where an offer stands, or has just gone.
 pub fn left_open() -> Vec<Script> {
     let texts = [
-        "ow", "ob", "ow ob", "e2e4 ob", "e2e4 ow", "ow e2e4", "ob e2e4", "ow e2e4 e7e5", "e2e4 ob e7e5", "e2e4 ow e7e5", "ow ob e2e4", "ob ow e2e4",
-        "f2f3 e7e5 g2g4 ob d8h4", "f2f3 e7e5 ow g2g4 d8h4",
+        "ow", "ob", "ow ob", "e2e4 ob", "e2e4 ow", "ow e2e4", "ob e2e4", "ow e2e4 e7e5", "e2e4 ob e7e5", "e2e4 ow e7e5",
+        "ow ob e2e4", "ob ow e2e4", "f2f3 e7e5 g2g4 ob d8h4", "f2f3 e7e5 ow g2g4 d8h4",
     ];
     texts.iter().map(|text| Script { start: STARTS[0].to_string(), acts: acts_of(text), claim: None }).collect()
 }
