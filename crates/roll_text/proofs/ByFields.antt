@@ -94,7 +94,7 @@ no-code k c two three four five l =
       ne-eqb (codeOf k c) 11 (λ z. five (omega arith)),
     )
 
-a-move-held : (c m : ℕ) → isHeld (movesHere c m) ≡ moveInRange c m
+pub a-move-held : (c m : ℕ) → isHeld (movesHere c m) ≡ moveInRange c m
 unfolding moveInRange
 a-move-held c m = go (eqb c 0) (leb m lastMove) refl refl
   where
@@ -104,7 +104,7 @@ a-move-held c m = go (eqb c 0) (leb m lastMove) refl refl
     go false u e f = simp e
 
 -- a kind's action is held exactly if its fields are in range
-held-fields : (k c m : ℕ) → isHeld (actionOfFields k c m) ≡ actionInRange k c m
+pub held-fields : (k c m : ℕ) → isHeld (actionOfFields k c m) ≡ actionInRange k c m
 unfolding actionInRange
 held-fields k c m = go (eqb k 1) (eqb k 2) (eqb k 3) (eqb k 4) (eqb k 5) refl refl refl refl refl
   where
@@ -137,13 +137,17 @@ and-assoc : (t u v : Bool) → ((t && u) && v) ≡ (t && (u && v))
 and-assoc true u v = refl
 and-assoc false u v = refl
 
-held-here : (bs : List ℕ) → actionSize ≤ length bs → isHeld (actionOf (take actionSize bs)) ≡ actionInRange (kindAt bs) (colourAt bs) (moveNumberAt bs)
+-- the first four bytes hold what their fields say
+pub fields-here : (bs : List ℕ) → actionSize ≤ length bs → actionOf (take actionSize bs) ≡ actionOfFields (kindAt bs) (colourAt bs) (moveNumberAt bs)
 unfolding actionOf
-held-here [] h = absurd (omega arith)
-held-here (k ∷ []) h = absurd (omega arith)
-held-here (k ∷ c ∷ []) h = absurd (omega arith)
-held-here (k ∷ c ∷ l ∷ []) h = absurd (omega arith)
-held-here (k ∷ c ∷ l ∷ u ∷ bs) h = held-fields k c (ofBytes l u)
+fields-here [] h = absurd (omega arith)
+fields-here (k ∷ []) h = absurd (omega arith)
+fields-here (k ∷ c ∷ []) h = absurd (omega arith)
+fields-here (k ∷ c ∷ l ∷ []) h = absurd (omega arith)
+fields-here (k ∷ c ∷ l ∷ u ∷ bs) h = refl
+
+held-here : (bs : List ℕ) → actionSize ≤ length bs → isHeld (actionOf (take actionSize bs)) ≡ actionInRange (kindAt bs) (colourAt bs) (moveNumberAt bs)
+held-here bs h = ap isHeld (fields-here bs h) ∙ held-fields (kindAt bs) (colourAt bs) (moveNumberAt bs)
 
 -- an action behind the first is one of what is left
 at-behind : (bs : List ℕ) (i : ℕ) → actionAt bs (i + 1) ≡ actionAt (drop actionSize bs) i

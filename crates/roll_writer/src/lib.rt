@@ -1,7 +1,9 @@
 // Writes a game roll (document 02, order 1).
 use action::ACTION_SIZE;
+use action::Stored;
 use board_builder::BoardBuilder;
 use board_builder::RECORD_SIZE;
+use chess_move::LAST_MOVE;
 use game_rules::ACTIONS_LENGTH;
 use game_rules::MAX_ACTIONS;
 use game_rules::MAX_MOVES;
@@ -13,18 +15,21 @@ use square::LOG_FULL;
 use square::OUTPUT_TOO_SHORT;
 use square::OUT_OF_RANGE;
 use square::PART_TOO_SHORT;
+use square::front;
 use square::rest;
 ghost use mathlib.Core.Path.{_≡_};
 ghost use Prim.Native.Nat.{_+_, _*_, _≤_, _<_};
-ghost use lib.ListN.{length};
+ghost use lib.Dec.{ltb};
+ghost use lib.ListN.{length, drop};
 ghost use Rattle.square.specs.Answer.{writeAnswer, writeBytes};
 ghost use Rattle.square.specs.Parts.{written};
-ghost use Rattle.board_builder.specs.BoardBuilder.{recordSize};
 ghost use Rattle.chess_move.specs.Number.{ofBytes};
+ghost use Rattle.actions.specs.Part.{movesIn};
 ghost use Rattle.game_rules.specs.Limits.{limits};
 ghost use Rattle.roll_text.specs.Number.{reach, groups, numberText};
 ghost use Rattle.roll_text.specs.Roll.{codeOf, actionText, actionsText};
 ghost use Rattle.roll_text.specs.Calls.{fieldsAt, writeCheck, gameText};
+ghost use Rattle.roll_writer.specs.Sizes.{moveSize, plainSize, sizeAt, actionsSize, measured};
 
 const MOST_GROUPS: usize = 5;
 
@@ -63,15 +68,15 @@ fn byte_pair(low: u8, high: u8) -> u16
     low as u16 + 256 * (high as u16)
 }
 
-// The action at the front of what is left of a part.
-fn fields_at(a: &[u8]) -> Fields
-    requires { ⌜ 4 ≤ length (now a) ⌝ }
-    ensures { λ r. ⌜ r ≡ fieldsAt (now (a .entry)) ⌝ }
+// The action that begins at `at`.
+fn fields_at(acts: &[u8], at: usize) -> Fields
+    requires { ⌜ at + 4 ≤ length (now acts) ⌝ }
+    ensures { λ r. ⌜ r ≡ fieldsAt (drop at (now (acts .entry))) ⌝ }
 {
     Fields {
-        kind: a[0],
-        colour: a[1],
-        number: byte_pair(a[2], a[3]),
+        kind: acts[at],
+        colour: acts[at + 1],
+        number: byte_pair(acts[at + 2], acts[at + 3]),
     }
 }
 
@@ -81,25 +86,53 @@ fn code_of(kind: u8, colour: u8) -> u64
     kind as u64 * 2 + colour as u64
 }
 
-fn action_length(kind: u8, colour: u8, number: u16) -> usize
-    ensures { λ r. ⌜ (r ≡ length (actionText kind colour number)) × (r ≤ 10) ⌝ }
+fn move_size(colour: u8, number: u16) -> usize
+    ensures { λ r. ⌜ (r ≡ moveSize colour number) × (r ≤ 4) ⌝ }
 {
-    let code = number_length(code_of(kind, colour));
-    if kind == 1 {
-        return code + number_length(number as u64);
+    if colour != 0 {
+        return 0;
     }
-    code
+    if LAST_MOVE < number as u64 {
+        return 0;
+    }
+    1 + number_length(number as u64)
 }
 
-fn actions_length(acts: &[u8], n: usize) -> usize
-    requires { ⌜ (4 * n ≤ length (now acts)) × (n ≤ 2048) ⌝ }
-    ensures { λ r. ⌜ (r ≡ length (actionsText n (now (acts .entry)))) × (r ≤ 10 * n) ⌝ }
+// An action without a move is its code, one byte.
+fn plain_size(bytes: &[u8]) -> usize
+    ensures { λ r. ⌜ r ≡ plainSize (now (bytes .entry)) ⌝ }
 {
-    let mut k: usize = 0;
+    match action::from_bytes(bytes) {
+        Stored::Holds(_) => 1,
+        Stored::Nothing => 0,
+    }
+}
+
+// How many bytes the text of the action that begins at `at` has, 0 if there is no action in range.
+fn action_size(acts: &[u8], at: usize) -> usize
+    requires { ⌜ at + 4 ≤ length (now acts) ⌝ }
+    ensures { λ r. ⌜ (r ≡ sizeAt (drop at (now (acts .entry)))) × (r ≤ 4) ⌝ }
+{
+    let f = fields_at(acts, at);
+    if f.kind == 1 {
+        return move_size(f.colour, f.number);
+    }
+    plain_size(front(rest(acts, at), ACTION_SIZE))
+}
+
+// One more than the length of the text of `n` actions, or 0 if one of them is no action in range.
+fn actions_size(acts: &[u8], n: usize) -> usize
+    requires { ⌜ (4 * n ≤ length (now acts)) × (n ≤ 2048) ⌝ }
+    ensures { λ r. ⌜ (r ≡ actionsSize n (now (acts .entry))) × (r ≤ 1 + 4 * n) ⌝ }
+{
+    let mut k: usize = 1;
     let mut i: usize = 0;
     while i < n {
-        let f = fields_at(rest(acts, ACTION_SIZE * i));
-        k += action_length(f.kind, f.colour, f.number);
+        let size = action_size(acts, ACTION_SIZE * i);
+        if size == 0 {
+            return 0;
+        }
+        k += size;
         i += 1;
     }
     k
@@ -125,40 +158,44 @@ fn put_actions(acts: &[u8], n: usize, out: &mut [u8], from: usize)
     let mut at = from;
     let mut i: usize = 0;
     while i < n {
-        let f = fields_at(rest(acts, ACTION_SIZE * i));
+        let f = fields_at(acts, ACTION_SIZE * i);
         at = put_text(out, at, f.kind, f.colour, f.number);
         i += 1;
     }
 }
 
-// 16, 5, 13 for the count, then for the moves, 17.
-fn check(b: BoardBuilder, acts: &[u8], n: u64) -> u64
-    ensures { λ r. ⌜ r ≡ writeCheck limits b (now (acts .entry)) n ⌝ }
+// As many actions as there may be moves need not be counted.
+fn too_many_moves(acts: &[u8], n: usize) -> bool
+    ensures { λ r. ⌜ r ≡ ltb (limits .most-moves) (movesIn (now (acts .entry)) n) ⌝ }
 {
-    if acts.len() < ACTIONS_LENGTH {
-        return PART_TOO_SHORT;
+    if n <= MAX_MOVES {
+        return false;
     }
-    if !b.in_range() {
-        return OUT_OF_RANGE;
-    }
-    if (MAX_ACTIONS as u64) < n {
-        return LOG_FULL;
-    }
-    if MAX_MOVES < actions::moves_in(acts, n as usize) {
-        return LOG_FULL;
-    }
-    if !actions::all_held(acts, n as usize) {
-        return BAD_ROLL;
-    }
-    ACCEPTED
+    MAX_MOVES < actions::moves_in(acts, n)
 }
 
-// How many bytes a roll has whose record is in range.
-fn roll_length(acts: &[u8], n: usize) -> usize
-    requires { ⌜ (4 * n ≤ length (now acts)) × (n ≤ 2048) ⌝ }
-    ensures { λ r. ⌜ r ≡ recordSize + length (numberText n) + length (actionsText n (now (acts .entry))) ⌝ }
+// The roll's length, or the first refusal of 16, 5, 13 for the count, then for the moves, 17.
+fn measure(b: BoardBuilder, acts: &[u8], n: u64) -> Answer
+    ensures { λ r. ⌜ r ≡ measured (writeCheck limits b (now (acts .entry)) n) (gameText b (now (acts .entry)) n) ⌝ }
 {
-    RECORD_SIZE + number_length(n as u64) + actions_length(acts, n)
+    if acts.len() < ACTIONS_LENGTH {
+        return square::refused(PART_TOO_SHORT);
+    }
+    if !b.in_range() {
+        return square::refused(OUT_OF_RANGE);
+    }
+    if (MAX_ACTIONS as u64) < n {
+        return square::refused(LOG_FULL);
+    }
+    let count = n as usize;
+    if too_many_moves(acts, count) {
+        return square::refused(LOG_FULL);
+    }
+    let size = actions_size(acts, count);
+    if size == 0 {
+        return square::refused(BAD_ROLL);
+    }
+    square::accepted((RECORD_SIZE + number_length(n) + (size - 1)) as u64)
 }
 
 fn put(b: BoardBuilder, acts: &[u8], n: usize, out: &mut [u8])
@@ -176,18 +213,16 @@ pub fn write(b: BoardBuilder, acts: &[u8], n: u64, out: &mut [u8]) -> Answer
     ensures answer { λ r. ⌜ r ≡ writeAnswer (writeCheck limits b (now (acts .entry)) n) (gameText b (now (acts .entry)) n) (length (now (out .entry))) ⌝ }
     ensures bytes { λ r. ⌜ now (out .exit) ≡ writeBytes (writeCheck limits b (now (acts .entry)) n) (gameText b (now (acts .entry)) n) (now (out .entry)) ⌝ }
 {
-    let number = check(b, acts, n);
-    if number != ACCEPTED {
-        return square::refused(number);
+    let roll = measure(b, acts, n);
+    if roll.number != ACCEPTED {
+        return roll;
     }
-    let count = n as usize;
-    let needed = roll_length(acts, count);
-    if out.len() < needed {
+    if (out.len() as u64) < roll.value {
         return Answer {
             number: OUTPUT_TOO_SHORT,
-            value: needed as u64,
+            value: roll.value,
         };
     }
-    put(b, acts, count, out);
-    square::accepted(needed as u64)
+    put(b, acts, n as usize, out);
+    roll
 }
