@@ -1,7 +1,7 @@
 -- The record's numbers at the front of a roll: each that is in range is one byte.
 -- Assumes nothing.
 use mathlib.Core.Path.{_≡_, refl, ap, ap₂, sym, _∙_}
-use mathlib.Core.Bool.{Bool, true, false, false≢true}
+use mathlib.Core.Bool.{Bool, true, false}
 use mathlib.Core.List.{List, [], _∷_, _++_}
 use Prim.Native.Nat.{ℕ, suc, _+_, _≤_, _<_}
 use native.Mathlib.Numerals.{add-one}
@@ -12,15 +12,15 @@ use lib.Seq.{drop-cons, drop-drop}
 use borrow.Author.Tests.{le-leb, lt-leb, leb-true, leb-false}
 use Rattle.square.specs.Answer.{badRoll, outOfRange}
 use Rattle.square.specs.Numbers.{allAtMost}
-use Rattle.square.proofs.Numbers.{both-left, both-right, most-head, most-tail}
+use Rattle.square.proofs.Numbers.{most-head, most-tail}
 use Rattle.square.proofs.Bounds.{bound-at}
 use Rattle.board_builder.specs.BoardBuilder.{numbersInRange}
 use Rattle.roll_text.specs.declared.Number.{Number}
 use Rattle.roll_text.specs.declared.Number.the-variants.{Got, Bad}
-use Rattle.roll_text.specs.Number.{readNumber, numberText}
-use Rattle.roll_text.specs.Roll.{Front, stopped, front, largestNumbers, withinBounds, numbersText, putNumber, oneNumber, readNumbers}
+use Rattle.roll_text.specs.Number.{readNumber}
+use Rattle.roll_text.specs.Roll.{Front, stopped, front, largestNumbers, numbersText, putNumber, oneNumber, readNumbers}
 use Rattle.roll_text.specs.Calls.{frontNumber}
-use Rattle.roll_text.proofs.Numbers.{small-one, groups-last}
+use Rattle.roll_text.proofs.Numbers.{small-one}
 use Rattle.roll_text.proofs.Back.{numbers-back, small-bounds}
 use Rattle.roll_text.proofs.Plain.{start-numbers}
 use Rattle.roll_text.proofs.Bounds.{bounds-are-the-records, long-bounds}

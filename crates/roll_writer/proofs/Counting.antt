@@ -1,15 +1,16 @@
 -- The writer's loops over the actions, and the text that they make.
 -- Assumes nothing.
 use mathlib.Core.Path.{_≡_, refl, ap, sym, _∙_}
-use mathlib.Core.List.{List, [], _++_, append-assoc, append-nil}
-use Prim.Native.Nat.{ℕ, zero, suc, _+_, _*_, _-_, _≤_, _<_}
+use mathlib.Core.List.{List, [], _∷_, _++_, append-assoc, append-nil}
+use Prim.Native.Nat.{ℕ, zero, suc, _+_, _*_, _/_, _%_, _-_, _≤_, _<_}
 use native.Mathlib.Omega.{arith}
-use lib.ListN.{length, drop, length-append}
+use lib.ListN.{length, drop, set, length-append}
 use lib.Seq.{drop-drop}
 use borrow.Author.Tests.{eq-eqb, ne-eqb}
 use Rattle.square.specs.Parts.{written}
-use Rattle.square.proofs.Parts.{written-none, written-behind, length-written}
+use Rattle.square.proofs.Parts.{written-none, set-written, written-next, written-behind, length-written}
 use Rattle.roll_text.specs.Number.{numberText}
+use Rattle.roll_text.proofs.Numbers.{groups-last, groups-more}
 use Rattle.roll_text.specs.Roll.{codeOf, kindAt, colourAt, moveNumberAt, actionText, actionsText}
 
 -- ---- one action
@@ -50,6 +51,20 @@ module _ (l : List ℕ) (k c m at code : ℕ) (is : code ≡ codeOf k c) (room :
 
     pub plain-fits : at + length (numberText code) ≤ length l
     plain-fits = omega (arith, ap length plain-is)
+
+-- a move whose number has two groups is three bytes
+pub short-text : (m : ℕ) → 128 ≤ m → m < 16384 → actionText 1 0 m ≡ 2 ∷ (128 + m % 128) ∷ (m / 128) ∷ []
+short-text m h l =
+    let last : m / 128 < 128 = omega arith in
+    text-of-move 1 0 m refl
+    ∙ ap (λ (t : List ℕ). t ++ numberText m) (groups-last 4 2 (omega arith))
+    ∙ ap (λ (t : List ℕ). 2 ∷ t) (groups-more 4 m h ∙ ap (λ (t : List ℕ). (128 + m % 128) ∷ t) (groups-last 3 (m / 128) last))
+
+pub three-put : (l : List ℕ) (at a b c : ℕ) → at + 3 ≤ length l → set (set (set l at a) (at + 1) b) (at + 2) c ≡ written l at (a ∷ b ∷ c ∷ [])
+three-put l at a b c h =
+    ap (λ (m : List ℕ). set (set m (at + 1) b) (at + 2) c) (set-written l at a (omega arith))
+    ∙ ap (λ (m : List ℕ). set m (at + 2) c) (written-next l at (a ∷ []) (omega arith) (at + 1) b refl (omega arith))
+    ∙ written-next l at (a ∷ b ∷ []) (omega arith) (at + 2) c refl (omega arith)
 
 -- ---- a turn: from i actions on
 

@@ -2,7 +2,7 @@
 -- Assumes nothing.
 use mathlib.Core.Path.{_≡_, refl, ap, sym, _∙_}
 use mathlib.Core.Bool.{Bool, true, false, cond, _&&_}
-use mathlib.Core.List.{List, [], _∷_}
+use mathlib.Core.List.{List}
 use Prim.Native.Nat.{ℕ, zero, suc, _+_, _*_, _-_, _≤_, _<_}
 use native.Mathlib.Omega.{arith}
 use lib.Dec.{eqb, leb, ltb}
@@ -13,17 +13,15 @@ use Rattle.square.specs.declared.Answer.{Answer}
 use Rattle.square.specs.Answer.{accepted, refused}
 use Rattle.square.proofs.Writes.{Written, write-refused}
 use Rattle.chess_move.specs.Number.{lastMove, ofBytes}
-use Rattle.action.specs.declared.Stored.{Stored}
-use Rattle.action.specs.Layout.{actionSize, movesHere, actionOfFields, actionOf}
+use Rattle.action.specs.Layout.{actionSize, movesHere, actionOf}
 use Rattle.actions.specs.Part.{isHeld, moveAt, movesIn, actionsHeld}
 use Rattle.actions.proofs.Held.{held-none, held-turn, held-stop, held-all}
-use Rattle.roll_text.specs.declared.Fields.{Fields}
 use Rattle.roll_text.specs.Number.{numberText}
-use Rattle.roll_text.specs.Roll.{codeOf, isCode, kindAt, colourAt, moveNumberAt, actionText, actionsText}
+use Rattle.roll_text.specs.Roll.{codeOf, kindAt, colourAt, moveNumberAt, actionText, actionsText}
 use Rattle.roll_text.specs.Calls.{fieldsAt}
 use Rattle.roll_text.proofs.Numbers.{groups-more}
 use Rattle.roll_text.proofs.ByFields.{actionInRange, held-fields, fields-here}
-use Rattle.roll_text.proofs.Entries.{PlainHere, plain-here, code-range}
+use Rattle.roll_text.proofs.Entries.{plain-here, code-range}
 use Rattle.roll_writer.specs.Sizes.{moveSize, plainSize, sizeAt, actionsSize, measured}
 use Rattle.roll_writer.proofs.Laws.{one-byte, two-bytes, three-bytes}
 use Rattle.roll_writer.proofs.Counting.{text-of-move, text-of-plain, length-turn, text-end, whole}

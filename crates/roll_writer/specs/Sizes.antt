@@ -1,6 +1,7 @@
 -- How many bytes an action takes in a roll, by one look at its four bytes: 0 where they hold no action in range.
 -- Assumes nothing.
-use Prim.Native.Nat.{ℕ, _+_}
+use Prim.Native.Nat.{ℕ, _+_, _≤_, _<_}
+use mathlib.Core.Path.{_≡_}
 use mathlib.Core.Bool.{cond}
 use mathlib.Core.List.{List}
 use lib.Dec.{eqb}
@@ -29,3 +30,10 @@ actionsSize n acts = cond (actionsHeld acts n) (1 + length (actionsText n acts))
 -- the length of a text, or the refusal of its check
 abbrev pub measured : ℕ → List ℕ → Answer
 measured check text = cond (eqb check 0) (accepted (length text)) (refused check)
+
+-- the fields of a move whose number has two groups
+pub record Short (kind colour move : ℕ) : Type 0 where
+  pub moves : kind ≡ 1
+  pub none : colour ≡ 0
+  pub least : 128 ≤ move
+  pub most : move < 16384

@@ -18,6 +18,7 @@ use square::PART_TOO_SHORT;
 use square::front;
 use square::rest;
 ghost use mathlib.Core.Path.{_≡_};
+ghost use mathlib.Core.Bool.{true};
 ghost use Prim.Native.Nat.{_+_, _*_, _≤_, _<_};
 ghost use lib.Dec.{ltb};
 ghost use lib.ListN.{length, drop};
@@ -29,7 +30,7 @@ ghost use Rattle.game_rules.specs.Limits.{limits};
 ghost use Rattle.roll_text.specs.Number.{reach, groups, numberText};
 ghost use Rattle.roll_text.specs.Roll.{codeOf, actionText, actionsText};
 ghost use Rattle.roll_text.specs.Calls.{fieldsAt, writeCheck, gameText};
-ghost use Rattle.roll_writer.specs.Sizes.{moveSize, plainSize, sizeAt, actionsSize, measured};
+ghost use Rattle.roll_writer.specs.Sizes.{Short, moveSize, plainSize, sizeAt, actionsSize, measured};
 
 const MOST_GROUPS: usize = 5;
 
@@ -138,12 +139,44 @@ fn actions_size(acts: &[u8], n: usize) -> usize
     k
 }
 
+// A move whose number has two groups, as nearly every move's has.
+fn is_short(kind: u8, colour: u8, number: u16) -> bool
+    ensures { λ r. ⌜ (r ≡ true → Short kind colour number) ⌝ }
+{
+    if kind != 1 {
+        return false;
+    }
+    if colour != 0 {
+        return false;
+    }
+    if number < 128 {
+        return false;
+    }
+    number < 16384
+}
+
+// Its three bytes, with no loop and no call.
+fn put_short(out: &mut [u8], at: usize, number: u16) -> usize
+    requires { ⌜ Short 1 0 number ⌝ }
+    requires { ⌜ at + length (actionText 1 0 number) ≤ length (now out) ⌝ }
+    ensures end { λ r. ⌜ r ≡ at + length (actionText 1 0 number) ⌝ }
+    ensures bytes { λ r. ⌜ now (out .exit) ≡ written (now (out .entry)) at (actionText 1 0 number) ⌝ }
+{
+    out[at] = 2;
+    out[at + 1] = 128 + (number % 128) as u8;
+    out[at + 2] = (number / 128) as u8;
+    at + 3
+}
+
 // Writes an action's text, and hands back where it ends.
 fn put_text(out: &mut [u8], at: usize, kind: u8, colour: u8, number: u16) -> usize
     requires { ⌜ at + length (actionText kind colour number) ≤ length (now out) ⌝ }
     ensures end { λ r. ⌜ r ≡ at + length (actionText kind colour number) ⌝ }
     ensures bytes { λ r. ⌜ now (out .exit) ≡ written (now (out .entry)) at (actionText kind colour number) ⌝ }
 {
+    if is_short(kind, colour, number) {
+        return put_short(out, at, number);
+    }
     if kind == 1 {
         let behind = put_groups(out, at, code_of(kind, colour), MOST_GROUPS);
         return put_groups(out, behind, number as u64, MOST_GROUPS);

@@ -8,11 +8,6 @@ use Rattle.roll_text.specs.Calls.{actsNumber}
 use Rattle.roll_reader.proofs.Reading.{move-turn, plain-turn, stop-turn, short-turn, judged-move, judged-plain, judged-end, judged-long, number-halted}
 use Rattle.roll_reader.proofs.judge_actions.Statement.{statement}
 use Rattle.roll_reader.proofs.judge_actions.Tie as tie
-use Rattle.roll_reader.proofs.judge_actions.Reads as reads
-use Rattle.roll_reader.proofs.judge_actions.Lts as lts
-use Rattle.roll_reader.proofs.read_entry.Reads as read-entry-reads
-use Rattle.roll_reader.proofs.short_move.Reads as short-move-reads
-use Rattle.square.proofs.rest.Reads as rest-reads
 
 abbrev Inv-loop : tie.InvT-loop
 Inv-loop s n most at₀ left₀ i₀ at left i = 
@@ -21,15 +16,12 @@ Inv-loop s n most at₀ left₀ i₀ at left i =
 abbrev μ-loop : tie.MeasureT-loop
 μ-loop s n most at₀ left₀ i₀ at left i = n - i
 
--- src/lib.rt:154:5
 loop-holds : tie.Need-loop-holds Inv-loop μ-loop
 loop-holds c = (omega arith, omega arith, (let z : c .before .args .n - 0 ≡ c .before .args .n = omega arith in rw z))
 
--- src/lib.rt:155:13
 short-move-requires : tie.Need-short-move-requires Inv-loop μ-loop
 short-move-requires c κs = search needs
 
--- src/lib.rt:157:13
 add-at : tie.Need-add-at Inv-loop μ-loop
 add-at c = 
     let s = c .before .before .before .before .before .args .s .now in
@@ -40,7 +32,6 @@ add-at c =
     let t = short-turn (n - i) left at s (c .before .short-move .result) (omega (arith, c .before .before .loop-test .taken)) (c .before .before .before .loop .inv .1) (c .before .short-move .ensures .there (omega (arith, c .if1 .taken))) in
     omega (arith, t .inside)
 
--- src/lib.rt:158:13
 sub-left : tie.Need-sub-left Inv-loop μ-loop
 sub-left c = 
     let s = c .before .before .before .before .before .args .s .now in
@@ -51,15 +42,12 @@ sub-left c =
     let t = short-turn (n - i) left at s (c .before .short-move .result) (omega (arith, c .before .before .loop-test .taken)) (c .before .before .before .loop .inv .1) (c .before .short-move .ensures .there (omega (arith, c .if1 .taken))) in
     t .some
 
--- src/lib.rt:159:13
 add-i : tie.Need-add-i Inv-loop μ-loop
 add-i c = search needs
 
--- src/lib.rt:154:5
 loop-less : tie.Need-loop-less Inv-loop μ-loop
 loop-less c = omega (arith, c .before .before .loop-test .taken)
 
--- src/lib.rt:154:5
 loop-again : tie.Need-loop-again Inv-loop μ-loop
 loop-again c = 
     let s = c .before .before .before .before .before .args .s .now in
@@ -70,23 +58,18 @@ loop-again c =
     let t = short-turn (n - i) left at s (c .before .short-move .result) (omega (arith, c .before .before .loop-test .taken)) (c .before .before .before .loop .inv .1) (c .before .short-move .ensures .there (omega (arith, c .if1 .taken))) in
     (omega (arith, c .before .before .loop-test .taken), t .inside, judged-move (actsNumber (readActions n (c .before .before .before .before .before .args .most) s)) n i left at s _ 3 t (c .before .before .before .loop .inv .2))
 
--- src/lib.rt:162:28
 rest-requires : tie.Need-rest-requires Inv-loop μ-loop
 rest-requires c κs = search needs
 
--- src/lib.rt:162:13
 read-entry-requires : tie.Need-read-entry-requires Inv-loop μ-loop
 read-entry-requires c κs = search needs
 
--- src/lib.rt:163:9
 add-i-2 : tie.Need-add-i-2 Inv-loop μ-loop
 add-i-2 c = search needs
 
--- src/lib.rt:165:28
 enum-known-e : tie.Need-enum-known-e Inv-loop μ-loop
 enum-known-e c = search needs
 
--- src/lib.rt:166:17
 add-at-2 : tie.Need-add-at-2 Inv-loop μ-loop
 add-at-2 c = 
     let s = c .before .before .before .before .before .before .before .before .before .before .args .s .now in
@@ -97,7 +80,6 @@ add-at-2 c =
     let t = move-turn (n - i) left at s _ _ (omega (arith, c .before .before .before .before .before .before .before .loop-test .taken)) (c .before .before .before .before .before .before .before .before .loop .inv .1) (c .before .before .before .before .rest .ensures) (c .before .before .before .read-entry .ensures) _ _ (c .before .e .given .1) in
     omega (arith, t .inside)
 
--- src/lib.rt:167:17
 sub-left-2 : tie.Need-sub-left-2 Inv-loop μ-loop
 sub-left-2 c = 
     let s = c .before .before .before .before .before .before .before .before .before .before .args .s .now in
@@ -108,11 +90,9 @@ sub-left-2 c =
     let t = move-turn (n - i) left at s _ _ (omega (arith, c .before .before .before .before .before .before .before .loop-test .taken)) (c .before .before .before .before .before .before .before .before .loop .inv .1) (c .before .before .before .before .rest .ensures) (c .before .before .before .read-entry .ensures) _ _ (c .before .e .given .1) in
     t .some
 
--- src/lib.rt:154:5
 loop-less-2 : tie.Need-loop-less-2 Inv-loop μ-loop
 loop-less-2 c = omega (arith, c .before .before .before .before .before .before .before .loop-test .taken)
 
--- src/lib.rt:154:5
 loop-again-2 : tie.Need-loop-again-2 Inv-loop μ-loop
 loop-again-2 c = 
     let s = c .before .before .before .before .before .before .before .before .before .before .args .s .now in
@@ -123,11 +103,9 @@ loop-again-2 c =
     let t = move-turn (n - i) left at s _ _ (omega (arith, c .before .before .before .before .before .before .before .loop-test .taken)) (c .before .before .before .before .before .before .before .before .loop .inv .1) (c .before .before .before .before .rest .ensures) (c .before .before .before .read-entry .ensures) _ _ (c .before .e .given .1) in
     (omega (arith, c .before .before .before .before .before .before .before .loop-test .taken), t .inside, judged-move (actsNumber (readActions n (c .before .before .before .before .before .before .before .before .before .before .args .most) s)) n i left at s _ _ t (c .before .before .before .before .before .before .before .before .loop .inv .2))
 
--- src/lib.rt:170:29
 enum-known-e-2 : tie.Need-enum-known-e-2 Inv-loop μ-loop
 enum-known-e-2 c = search needs
 
--- src/lib.rt:171:17
 add-at-3 : tie.Need-add-at-3 Inv-loop μ-loop
 add-at-3 c = 
     let s = c .before .before .before .before .before .before .before .before .before .before .args .s .now in
@@ -138,11 +116,9 @@ add-at-3 c =
     let t = plain-turn (n - i) left at s _ _ (omega (arith, c .before .before .before .before .before .before .before .loop-test .taken)) (c .before .before .before .before .before .before .before .before .loop .inv .1) (c .before .before .before .before .rest .ensures) (c .before .before .before .read-entry .ensures) _ _ (c .before .e2 .given .1) in
     omega (arith, t .inside)
 
--- src/lib.rt:154:5
 loop-less-3 : tie.Need-loop-less-3 Inv-loop μ-loop
 loop-less-3 c = omega (arith, c .before .before .before .before .before .before .before .loop-test .taken)
 
--- src/lib.rt:154:5
 loop-again-3 : tie.Need-loop-again-3 Inv-loop μ-loop
 loop-again-3 c = 
     let s = c .before .before .before .before .before .before .before .before .before .before .args .s .now in
@@ -153,11 +129,9 @@ loop-again-3 c =
     let t = plain-turn (n - i) left at s _ _ (omega (arith, c .before .before .before .before .before .before .before .loop-test .taken)) (c .before .before .before .before .before .before .before .before .loop .inv .1) (c .before .before .before .before .rest .ensures) (c .before .before .before .read-entry .ensures) _ _ (c .before .e2 .given .1) in
     (omega (arith, c .before .before .before .before .before .before .before .loop-test .taken), t .inside, judged-plain (actsNumber (readActions n (c .before .before .before .before .before .before .before .before .before .before .args .most) s)) n i left at s _ _ t (c .before .before .before .before .before .before .before .before .loop .inv .2))
 
--- src/lib.rt:174:25
 enum-known-e-3 : tie.Need-enum-known-e-3 Inv-loop μ-loop
 enum-known-e-3 c = search needs
 
--- src/lib.rt:175:17
 returns : tie.Need-returns Inv-loop μ-loop
 returns c = 
     let s = c .before .before .before .before .before .before .before .before .before .before .args .s .now in
@@ -168,7 +142,6 @@ returns c =
     let stop = stop-turn (n - i) left at s _ _ (omega (arith, c .before .before .before .before .before .before .before .loop-test .taken)) (c .before .before .before .before .before .before .before .before .loop .inv .1) (c .before .before .before .before .rest .ensures) (c .before .before .before .read-entry .ensures) _ (c .before .e3 .given .1) in
     sym (c .before .before .before .before .before .before .before .before .loop .inv .2 ∙ ap actsNumber stop ∙ number-halted _)
 
--- src/lib.rt:180:9
 returns-2 : tie.Need-returns-2 Inv-loop μ-loop
 returns-2 c = 
     let s = c .before .before .before .before .args .s .now in
@@ -178,7 +151,6 @@ returns-2 c =
     let i = c .before .before .loop .i in
     judged-long (actsNumber (readActions n (c .before .before .before .before .args .most) s)) n i left at s (c .before .loop-test .left) (c .if2 .taken) (c .before .before .loop .inv .2)
 
--- src/lib.rt:148:1
 returns-3 : tie.Need-returns-3 Inv-loop μ-loop
 returns-3 c = 
     let s = c .before .before .before .before .args .s .now in

@@ -3,78 +3,58 @@ use native.Mathlib.Omega.{arith}
 use Rattle.roll_reader.proofs.Short.{no-short, short}
 use Rattle.roll_reader.proofs.short_move.Statement.{statement}
 use Rattle.roll_reader.proofs.short_move.Tie as tie
-use Rattle.roll_reader.proofs.short_move.Reads as reads
-use Rattle.roll_reader.proofs.short_move.Lts as lts
 
--- src/lib.rt:122:9
 returns : tie.Need-returns
 returns c = no-short (c .before .args .s .now) (c .before .args .at) (c .before .args .left)
 
--- src/lib.rt:125:9
 returns-2 : tie.Need-returns-2
 returns-2 c = no-short (c .before .before .args .s .now) (c .before .before .args .at) (c .before .before .args .left)
 
--- src/lib.rt:127:8
 sub-if3 : tie.Need-sub-if3
 sub-if3 c = search needs
 
--- src/lib.rt:128:9
 returns-3 : tie.Need-returns-3
 returns-3 c = no-short (c .before .before .before .args .s .now) (c .before .before .before .args .at) (c .before .before .before .args .left)
 
--- src/lib.rt:130:8
 shared-slice-read-if4 : tie.Need-shared-slice-read-if4
 shared-slice-read-if4 c = search needs
 
--- src/lib.rt:131:9
 returns-4 : tie.Need-returns-4
 returns-4 c = no-short (c .before .before .before .before .before .args .s .now) (c .before .before .before .before .before .args .at) (c .before .before .before .before .before .args .left)
 
--- src/lib.rt:133:17
 add-low : tie.Need-add-low
 add-low c = search needs
 
--- src/lib.rt:133:15
 shared-slice-read-low : tie.Need-shared-slice-read-low
 shared-slice-read-low c = search needs
 
--- src/lib.rt:135:9
 returns-5 : tie.Need-returns-5
 returns-5 c = no-short (c .before .before .before .before .before .before .before .args .s .now) (c .before .before .before .before .before .before .before .args .at) (c .before .before .before .before .before .before .before .args .left)
 
--- src/lib.rt:137:18
 add-high : tie.Need-add-high
 add-high c = search needs
 
--- src/lib.rt:137:16
 shared-slice-read-high : tie.Need-shared-slice-read-high
 shared-slice-read-high c = search needs
 
--- src/lib.rt:139:9
 returns-6 : tie.Need-returns-6
 returns-6 c = no-short (c .before .before .before .before .before .before .before .before .before .args .s .now) (c .before .before .before .before .before .before .before .before .before .args .at) (c .before .before .before .before .before .before .before .before .before .args .left)
 
--- src/lib.rt:142:9
 returns-7 : tie.Need-returns-7
 returns-7 c = no-short (c .before .before .before .before .before .before .before .before .before .before .args .s .now) (c .before .before .before .before .before .before .before .before .before .before .args .at) (c .before .before .before .before .before .before .before .before .before .before .args .left)
 
--- src/lib.rt:144:5
 cast-result : tie.Need-cast-result
 cast-result c = search needs
 
--- src/lib.rt:144:33
 cast-result-2 : tie.Need-cast-result-2
 cast-result-2 c = search needs
 
--- src/lib.rt:144:26
 mul-result : tie.Need-mul-result
 mul-result c = search needs
 
--- src/lib.rt:144:5
 add-result : tie.Need-add-result
 add-result c = search needs
 
--- src/lib.rt:118:1
 returns-8 : tie.Need-returns-8
 returns-8 c = short (c .before .before .before .before .before .before .before .before .before .before .args .s .now) (c .before .before .before .before .before .before .before .before .before .before .args .at) (c .before .before .before .before .before .before .before .before .before .before .args .left) (c .before .before .before .before .before .before .before .before .before .if1 .left) (omega (arith, c .before .before .before .before .before .before .before .before .if2 .left, c .before .before .before .before .before .before .before .if3 .left)) (c .before .before .before .before .before .if4 .left) (c .before .before .before .if5 .left) (omega (arith, c .before .if6 .left)) (c .if7 .left)
 

@@ -8,12 +8,6 @@ use Rattle.roll_reader.proofs.Reading.{move-turn, plain-turn, stop-turn
 use Rattle.roll_reader.proofs.Writing.{Wrote, wrote-none, wrote-length, wrote-more, wrote-stopped, wrote-all}
 use Rattle.roll_reader.proofs.write_actions.Statement.{statement}
 use Rattle.roll_reader.proofs.write_actions.Tie as tie
-use Rattle.roll_reader.proofs.write_actions.Reads as reads
-use Rattle.roll_reader.proofs.write_actions.Lts as lts
-use Rattle.roll_reader.proofs.put_action.Reads as put-action-reads
-use Rattle.roll_reader.proofs.read_entry.Reads as read-entry-reads
-use Rattle.roll_reader.proofs.short_move.Reads as short-move-reads
-use Rattle.square.proofs.rest.Reads as rest-reads
 
 abbrev Inv-loop : tie.InvT-loop
 Inv-loop s n most out₀ at₀ left₀ i₀ out at left i = 
@@ -22,11 +16,9 @@ Inv-loop s n most out₀ at₀ left₀ i₀ out at left i =
 abbrev μ-loop : tie.MeasureT-loop
 μ-loop s n most out₀ at₀ left₀ i₀ out at left i = n - i
 
--- src/lib.rt:203:5
 loop-holds : tie.Need-loop-holds Inv-loop μ-loop
 loop-holds c = (omega arith, omega arith, wrote-none (c .before .before .args .out .now) (c .before .before .args .s .now) (c .before .before .args .n) (c .before .before .args .most))
 
--- src/lib.rt:204:18
 mul-to : tie.Need-mul-to Inv-loop μ-loop
 mul-to c = 
     let s = c .before .before .before .before .args .s .now in
@@ -41,11 +33,9 @@ mul-to c =
     let l = wrote-length part out s n most i left at w (c .before .loop .inv .0) (c .before .before .before .before .pre .1) in
     omega (arith, c .loop-test .taken)
 
--- src/lib.rt:205:13
 short-move-requires : tie.Need-short-move-requires Inv-loop μ-loop
 short-move-requires c κs = search needs
 
--- src/lib.rt:207:13
 put-action-requires : tie.Need-put-action-requires Inv-loop μ-loop
 put-action-requires c κs = 
     let s = c .before .before .before .before .before .before .before .args .s .now in
@@ -61,7 +51,6 @@ put-action-requires c κs =
     let l = wrote-length part out s n most i left at w (c .before .before .before .before .loop .inv .0) (c .before .before .before .before .before .before .before .pre .1) in
     (omega (arith, c .before .before .before .loop-test .taken, c .before .before .before .before .before .before .before .pre .1), t .last)
 
--- src/lib.rt:208:13
 add-at : tie.Need-add-at Inv-loop μ-loop
 add-at c = 
     let s = c .before .before .before .before .before .before .before .before .before .before .args .s .now in
@@ -76,7 +65,6 @@ add-at c =
     let t = short-turn (n - i) left at s (c .before .before .before .before .before .short-move .result) (omega (arith, c .before .before .before .before .before .before .loop-test .taken)) (c .before .before .before .before .before .before .before .loop .inv .1) (c .before .before .before .before .before .short-move .ensures .there (omega (arith, c .before .before .before .before .if1 .taken))) in
     omega (arith, t .inside)
 
--- src/lib.rt:209:13
 sub-left : tie.Need-sub-left Inv-loop μ-loop
 sub-left c = 
     let s = c .before .before .before .before .before .before .before .before .before .before .args .s .now in
@@ -91,15 +79,12 @@ sub-left c =
     let t = short-turn (n - i) left at s (c .before .before .before .before .before .short-move .result) (omega (arith, c .before .before .before .before .before .before .loop-test .taken)) (c .before .before .before .before .before .before .before .loop .inv .1) (c .before .before .before .before .before .short-move .ensures .there (omega (arith, c .before .before .before .before .if1 .taken))) in
     t .some
 
--- src/lib.rt:210:13
 add-i : tie.Need-add-i Inv-loop μ-loop
 add-i c = search needs
 
--- src/lib.rt:203:5
 loop-less : tie.Need-loop-less Inv-loop μ-loop
 loop-less c = omega (arith, c .before .before .before .before .before .before .loop-test .taken)
 
--- src/lib.rt:203:5
 loop-again : tie.Need-loop-again Inv-loop μ-loop
 loop-again c = 
     let s = c .before .before .before .before .before .before .before .before .before .before .args .s .now in
@@ -114,23 +99,18 @@ loop-again c =
     let t = short-turn (n - i) left at s (c .before .before .before .before .before .short-move .result) (omega (arith, c .before .before .before .before .before .before .loop-test .taken)) (c .before .before .before .before .before .before .before .loop .inv .1) (c .before .before .before .before .before .short-move .ensures .there (omega (arith, c .before .before .before .before .if1 .taken))) in
     (omega (arith, c .before .before .before .before .before .before .loop-test .taken), t .inside, wrote-more part out (c .before .before .put-action .last .0) s n most i left at _ _ _ w refl (c .before .before .before .before .before .before .loop-test .taken) (c .before .before .before .before .before .before .before .before .before .before .pre .1) (t .then) (c .before .before .put-action .ensures))
 
--- src/lib.rt:213:28
 rest-requires : tie.Need-rest-requires Inv-loop μ-loop
 rest-requires c κs = search needs
 
--- src/lib.rt:213:13
 read-entry-requires : tie.Need-read-entry-requires Inv-loop μ-loop
 read-entry-requires c κs = search needs
 
--- src/lib.rt:214:9
 add-i-2 : tie.Need-add-i-2 Inv-loop μ-loop
 add-i-2 c = search needs
 
--- src/lib.rt:216:25
 enum-known-e : tie.Need-enum-known-e Inv-loop μ-loop
 enum-known-e c = search needs
 
--- src/lib.rt:217:17
 put-action-requires-2 : tie.Need-put-action-requires-2 Inv-loop μ-loop
 put-action-requires-2 c κs = 
     let s = c .before .before .before .before .before .before .before .before .before .before .before .before .args .s .now in
@@ -146,7 +126,6 @@ put-action-requires-2 c κs =
     let l = wrote-length part out s n most i left at w (c .before .before .before .before .before .before .before .before .before .loop .inv .0) (c .before .before .before .before .before .before .before .before .before .before .before .before .pre .1) in
     (omega (arith, c .before .before .before .before .before .before .before .before .loop-test .taken, c .before .before .before .before .before .before .before .before .before .before .before .before .pre .1), t .last)
 
--- src/lib.rt:218:17
 add-at-2 : tie.Need-add-at-2 Inv-loop μ-loop
 add-at-2 c = 
     let s = c .before .before .before .before .before .before .before .before .before .before .before .before .before .before .before .args .s .now in
@@ -161,7 +140,6 @@ add-at-2 c =
     let t = move-turn (n - i) left at s _ _ (omega (arith, c .before .before .before .before .before .before .before .before .before .before .before .loop-test .taken)) (c .before .before .before .before .before .before .before .before .before .before .before .before .loop .inv .1) (c .before .before .before .before .before .before .before .before .rest .ensures) (c .before .before .before .before .before .before .before .read-entry .ensures) _ _ (c .before .before .before .before .before .e .given .1) in
     omega (arith, t .inside)
 
--- src/lib.rt:219:17
 sub-left-2 : tie.Need-sub-left-2 Inv-loop μ-loop
 sub-left-2 c = 
     let s = c .before .before .before .before .before .before .before .before .before .before .before .before .before .before .before .args .s .now in
@@ -176,11 +154,9 @@ sub-left-2 c =
     let t = move-turn (n - i) left at s _ _ (omega (arith, c .before .before .before .before .before .before .before .before .before .before .before .loop-test .taken)) (c .before .before .before .before .before .before .before .before .before .before .before .before .loop .inv .1) (c .before .before .before .before .before .before .before .before .rest .ensures) (c .before .before .before .before .before .before .before .read-entry .ensures) _ _ (c .before .before .before .before .before .e .given .1) in
     t .some
 
--- src/lib.rt:203:5
 loop-less-2 : tie.Need-loop-less-2 Inv-loop μ-loop
 loop-less-2 c = omega (arith, c .before .before .before .before .before .before .before .before .before .before .before .loop-test .taken)
 
--- src/lib.rt:203:5
 loop-again-2 : tie.Need-loop-again-2 Inv-loop μ-loop
 loop-again-2 c = 
     let s = c .before .before .before .before .before .before .before .before .before .before .before .before .before .before .before .args .s .now in
@@ -195,11 +171,9 @@ loop-again-2 c =
     let t = move-turn (n - i) left at s _ _ (omega (arith, c .before .before .before .before .before .before .before .before .before .before .before .loop-test .taken)) (c .before .before .before .before .before .before .before .before .before .before .before .before .loop .inv .1) (c .before .before .before .before .before .before .before .before .rest .ensures) (c .before .before .before .before .before .before .before .read-entry .ensures) _ _ (c .before .before .before .before .before .e .given .1) in
     (omega (arith, c .before .before .before .before .before .before .before .before .before .before .before .loop-test .taken), t .inside, wrote-more part out (c .before .before .put-action2 .last .0) s n most i left at _ _ _ w refl (c .before .before .before .before .before .before .before .before .before .before .before .loop-test .taken) (c .before .before .before .before .before .before .before .before .before .before .before .before .before .before .before .pre .1) (t .then) (c .before .before .put-action2 .ensures))
 
--- src/lib.rt:222:26
 enum-known-e-2 : tie.Need-enum-known-e-2 Inv-loop μ-loop
 enum-known-e-2 c = search needs
 
--- src/lib.rt:223:37
 cast-put-action : tie.Need-cast-put-action Inv-loop μ-loop
 cast-put-action c = 
     let s = c .before .before .before .before .before .before .before .before .before .before .before .before .args .s .now in
@@ -214,7 +188,6 @@ cast-put-action c =
     let t = plain-turn (n - i) left at s _ _ (omega (arith, c .before .before .before .before .before .before .before .before .loop-test .taken)) (c .before .before .before .before .before .before .before .before .before .loop .inv .1) (c .before .before .before .before .before .rest .ensures) (c .before .before .before .before .read-entry .ensures) _ _ (c .before .before .e2 .given .1) in
     omega (arith, code-range _ (t .is-code))
 
--- src/lib.rt:223:55
 cast-put-action-2 : tie.Need-cast-put-action-2 Inv-loop μ-loop
 cast-put-action-2 c = 
     let s = c .before .before .before .before .before .before .before .before .before .before .before .before .args .s .now in
@@ -229,7 +202,6 @@ cast-put-action-2 c =
     let t = plain-turn (n - i) left at s _ _ (omega (arith, c .before .before .before .before .before .before .before .before .loop-test .taken)) (c .before .before .before .before .before .before .before .before .before .loop .inv .1) (c .before .before .before .before .before .rest .ensures) (c .before .before .before .before .read-entry .ensures) _ _ (c .before .before .e2 .given .1) in
     omega (arith, code-range _ (t .is-code))
 
--- src/lib.rt:223:17
 put-action-requires-3 : tie.Need-put-action-requires-3 Inv-loop μ-loop
 put-action-requires-3 c κs = 
     let s = c .before .before .before .before .before .before .before .before .before .before .before .before .args .s .now in
@@ -244,7 +216,6 @@ put-action-requires-3 c κs =
     let l = wrote-length part out s n most i left at w (c .before .before .before .before .before .before .before .before .before .loop .inv .0) (c .before .before .before .before .before .before .before .before .before .before .before .before .pre .1) in
     (omega (arith, c .before .before .before .before .before .before .before .before .loop-test .taken, c .before .before .before .before .before .before .before .before .before .before .before .before .pre .1), omega arith)
 
--- src/lib.rt:224:17
 add-at-3 : tie.Need-add-at-3 Inv-loop μ-loop
 add-at-3 c = 
     let s = c .before .before .before .before .before .before .before .before .before .before .before .before .before .before .before .args .s .now in
@@ -259,11 +230,9 @@ add-at-3 c =
     let t = plain-turn (n - i) left at s _ _ (omega (arith, c .before .before .before .before .before .before .before .before .before .before .before .loop-test .taken)) (c .before .before .before .before .before .before .before .before .before .before .before .before .loop .inv .1) (c .before .before .before .before .before .before .before .before .rest .ensures) (c .before .before .before .before .before .before .before .read-entry .ensures) _ _ (c .before .before .before .before .before .e2 .given .1) in
     omega (arith, t .inside)
 
--- src/lib.rt:203:5
 loop-less-3 : tie.Need-loop-less-3 Inv-loop μ-loop
 loop-less-3 c = omega (arith, c .before .before .before .before .before .before .before .before .before .before .before .loop-test .taken)
 
--- src/lib.rt:203:5
 loop-again-3 : tie.Need-loop-again-3 Inv-loop μ-loop
 loop-again-3 c = 
     let s = c .before .before .before .before .before .before .before .before .before .before .before .before .before .before .before .args .s .now in
@@ -278,11 +247,9 @@ loop-again-3 c =
     let t = plain-turn (n - i) left at s _ _ (omega (arith, c .before .before .before .before .before .before .before .before .before .before .before .loop-test .taken)) (c .before .before .before .before .before .before .before .before .before .before .before .before .loop .inv .1) (c .before .before .before .before .before .before .before .before .rest .ensures) (c .before .before .before .before .before .before .before .read-entry .ensures) _ _ (c .before .before .before .before .before .e2 .given .1) in
     (omega (arith, c .before .before .before .before .before .before .before .before .before .before .before .loop-test .taken), t .inside, wrote-more part out (c .before .before .put-action3 .last .0) s n most i left at _ _ _ w refl (c .before .before .before .before .before .before .before .before .before .before .before .loop-test .taken) (c .before .before .before .before .before .before .before .before .before .before .before .before .before .before .before .pre .1) (t .then) (c .before .before .put-action3 .ensures))
 
--- src/lib.rt:228:17
 enum-told : tie.Need-enum-told Inv-loop μ-loop
 enum-told c = search needs
 
--- src/lib.rt:228:17
 same-length : tie.Need-same-length Inv-loop μ-loop
 same-length c = 
     let s = c .before .before .before .before .before .before .before .before .before .before .args .s .now in
@@ -296,7 +263,6 @@ same-length c =
     let w = c .before .before .before .before .before .before .before .loop .inv .2 in
     wrote-length part out s n most i left at w (c .before .before .before .before .before .before .before .loop .inv .0) (c .before .before .before .before .before .before .before .before .before .before .pre .1)
 
--- src/lib.rt:228:17
 returns : tie.Need-returns Inv-loop μ-loop
 returns c = 
     let s = c .before .before .before .before .before .before .before .before .before .before .args .s .now in
@@ -311,7 +277,6 @@ returns c =
     let stop = stop-turn (n - i) left at s _ _ (omega (arith, c .before .before .before .before .before .before .loop-test .taken)) (c .before .before .before .before .before .before .before .loop .inv .1) (c .before .before .before .rest .ensures) (c .before .before .read-entry .ensures) _ (c .enum-told .given .1) in
     absurd (wrote-stopped part out s n most i left at _ w (c .before .before .before .before .before .before .before .before .before .before .pre .0) stop)
 
--- src/lib.rt:196:1
 same-length-2 : tie.Need-same-length-2 Inv-loop μ-loop
 same-length-2 c = 
     let s = c .before .before .before .before .args .s .now in
@@ -325,7 +290,6 @@ same-length-2 c =
     let w = c .before .loop .inv .2 in
     wrote-length part out s n most i left at w (c .before .loop .inv .0) (c .before .before .before .before .pre .1)
 
--- src/lib.rt:196:1
 returns-2 : tie.Need-returns-2 Inv-loop μ-loop
 returns-2 c = 
     let s = c .before .before .before .before .args .s .now in

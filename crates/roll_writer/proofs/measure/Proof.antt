@@ -1,5 +1,5 @@
 use borrow.Author.Needs.{needs}
-use mathlib.Core.Path.{_≡_, refl, ap, sym, _∙_}
+use mathlib.Core.Path.{sym, _∙_}
 use native.Mathlib.Omega.{arith}
 use Rattle.game_rules.specs.Limits.{limits}
 use Rattle.roll_text.specs.Calls.{writeCheck, gameText}
@@ -10,95 +10,68 @@ use Rattle.roll_writer.proofs.Sized.{size-none, size-all, refused-so, a
 use Rattle.roll_writer.proofs.Whole.{text-long}
 use Rattle.roll_writer.proofs.measure.Statement.{statement}
 use Rattle.roll_writer.proofs.measure.Tie as tie
-use Rattle.roll_writer.proofs.measure.Reads as reads
-use Rattle.roll_writer.proofs.measure.Lts as lts
-use Rattle.board_builder.proofs.BoardBuilder.in_range.Reads as in-range-reads
-use Rattle.roll_writer.proofs.actions_size.Reads as actions-size-reads
-use Rattle.roll_writer.proofs.number_length.Reads as number-length-reads
-use Rattle.roll_writer.proofs.too_many_moves.Reads as too-many-moves-reads
-use Rattle.square.proofs.accepted.Reads as accepted-reads
-use Rattle.square.proofs.refused.Reads as refused-reads
 
--- src/lib.rt:182:9
 refused-requires : tie.Need-refused-requires
 refused-requires c κs = search needs
 
--- src/lib.rt:182:9
 returns : tie.Need-returns
 returns c = 
     refused-so _ _ (writeCheck limits (c .before .before .before .args .b) (c .before .before .before .args .acts .now) (c .before .before .before .args .n)) (gameText (c .before .before .before .args .b) (c .before .before .before .args .acts .now) (c .before .before .before .args .n)) (c .refused .ensures) (too-short (c .before .before .before .args .b) (c .before .before .before .args .acts .now) (c .before .before .before .args .n) (c .before .if1 .taken)) (λ z. omega arith)
 
--- src/lib.rt:184:9
 in-range-requires : tie.Need-in-range-requires
 in-range-requires c κs = search needs
 
--- src/lib.rt:185:9
 refused-requires-2 : tie.Need-refused-requires-2
 refused-requires-2 c κs = search needs
 
--- src/lib.rt:185:9
 returns-2 : tie.Need-returns-2
 returns-2 c = 
     refused-so _ _ (writeCheck limits (c .before .before .before .before .before .args .b) (c .before .before .before .before .before .args .acts .now) (c .before .before .before .before .before .args .n)) (gameText (c .before .before .before .before .before .args .b) (c .before .before .before .before .before .args .acts .now) (c .before .before .before .before .before .args .n)) (c .refused2 .ensures) (not-in-range (c .before .before .before .before .before .args .b) (c .before .before .before .before .before .args .acts .now) (c .before .before .before .before .before .args .n) (c .before .before .before .if1 .left) (sym (c .before .before .in-range .ensures) ∙ not-true (c .before .before .in-range .result) (c .before .if2 .taken))) (λ z. omega arith)
 
--- src/lib.rt:188:9
 refused-requires-3 : tie.Need-refused-requires-3
 refused-requires-3 c κs = search needs
 
--- src/lib.rt:188:9
 returns-3 : tie.Need-returns-3
 returns-3 c = 
     refused-so _ _ (writeCheck limits (c .before .before .before .before .before .before .args .b) (c .before .before .before .before .before .before .args .acts .now) (c .before .before .before .before .before .before .args .n)) (gameText (c .before .before .before .before .before .before .args .b) (c .before .before .before .before .before .before .args .acts .now) (c .before .before .before .before .before .before .args .n)) (c .refused3 .ensures) (too-many (c .before .before .before .before .before .before .args .b) (c .before .before .before .before .before .before .args .acts .now) (c .before .before .before .before .before .before .args .n) (c .before .before .before .before .if1 .left) (sym (c .before .before .before .in-range .ensures) ∙ not-false (c .before .before .before .in-range .result) (c .before .before .if2 .left)) (c .before .if3 .taken)) (λ z. omega arith)
 
--- src/lib.rt:191:8
 too-many-moves-requires : tie.Need-too-many-moves-requires
 too-many-moves-requires c κs = search needs
 
--- src/lib.rt:192:9
 refused-requires-4 : tie.Need-refused-requires-4
 refused-requires-4 c κs = search needs
 
--- src/lib.rt:192:9
 returns-4 : tie.Need-returns-4
 returns-4 c = 
     refused-so _ _ (writeCheck limits (c .before .before .before .before .before .before .before .before .args .b) (c .before .before .before .before .before .before .before .before .args .acts .now) (c .before .before .before .before .before .before .before .before .args .n)) (gameText (c .before .before .before .before .before .before .before .before .args .b) (c .before .before .before .before .before .before .before .before .args .acts .now) (c .before .before .before .before .before .before .before .before .args .n)) (c .refused4 .ensures) (too-many-moves (c .before .before .before .before .before .before .before .before .args .b) (c .before .before .before .before .before .before .before .before .args .acts .now) (c .before .before .before .before .before .before .before .before .args .n) (c .before .before .before .before .before .before .if1 .left) (sym (c .before .before .before .before .before .in-range .ensures) ∙ not-false (c .before .before .before .before .before .in-range .result) (c .before .before .before .before .if2 .left)) (c .before .before .before .if3 .left) (ltb-true _ _ (sym (c .before .before .too-many-moves .ensures) ∙ c .before .if4 .taken))) (λ z. omega arith)
 
--- src/lib.rt:194:9
 actions-size-requires : tie.Need-actions-size-requires
 actions-size-requires c κs = (omega (arith, c .before .before .before .before .before .if1 .left, c .before .before .if3 .left), c .before .before .if3 .left)
 
--- src/lib.rt:196:9
 refused-requires-5 : tie.Need-refused-requires-5
 refused-requires-5 c κs = search needs
 
--- src/lib.rt:196:9
 returns-5 : tie.Need-returns-5
 returns-5 c = 
     refused-so _ _ (writeCheck limits (c .before .before .before .before .before .before .before .before .before .before .args .b) (c .before .before .before .before .before .before .before .before .before .before .args .acts .now) (c .before .before .before .before .before .before .before .before .before .before .args .n)) (gameText (c .before .before .before .before .before .before .before .before .before .before .args .b) (c .before .before .before .before .before .before .before .before .before .before .args .acts .now) (c .before .before .before .before .before .before .before .before .before .before .args .n)) (c .refused5 .ensures) (no-action (c .before .before .before .before .before .before .before .before .before .before .args .b) (c .before .before .before .before .before .before .before .before .before .before .args .acts .now) (c .before .before .before .before .before .before .before .before .before .before .args .n) (c .before .before .before .before .before .before .before .before .if1 .left) (sym (c .before .before .before .before .before .before .before .in-range .ensures) ∙ not-false (c .before .before .before .before .before .before .before .in-range .result) (c .before .before .before .before .before .before .if2 .left)) (c .before .before .before .before .before .if3 .left) (ltb-false _ _ (sym (c .before .before .before .before .too-many-moves .ensures) ∙ c .before .before .before .if4 .left)) (size-none (c .before .before .before .before .before .before .before .before .before .before .args .acts .now) (c .before .before .before .before .before .before .before .before .before .before .args .n) (c .before .before .actions-size .result) (c .before .before .actions-size .ensures .0) (c .before .if5 .taken))) (λ z. omega arith)
 
--- src/lib.rt:198:37
 number-length-requires : tie.Need-number-length-requires
 number-length-requires c κs = search needs
 
--- src/lib.rt:198:23
 add-accepted : tie.Need-add-accepted
 add-accepted c = omega (arith, c .number-length .ensures, groups-most 5 (c .before .before .before .before .before .before .before .before .before .before .args .n))
 
--- src/lib.rt:198:57
 sub-accepted : tie.Need-sub-accepted
 sub-accepted c = search needs
 
--- src/lib.rt:198:23
 add-accepted-2 : tie.Need-add-accepted-2
 add-accepted-2 c =
     let few = groups-most 5 (c .before .before .before .before .before .before .before .before .before .before .args .n) in
     omega (arith, c .number-length .ensures, few, c .before .before .actions-size .ensures .1, c .before .before .before .before .before .if3 .left)
 
--- src/lib.rt:198:5
 accepted-requires : tie.Need-accepted-requires
 accepted-requires c κs = search needs
 
--- src/lib.rt:178:1
 returns-6 : tie.Need-returns-6
 returns-6 c = 
     let all = size-all (c .before .before .before .before .before .before .before .before .before .before .before .args .acts .now) (c .before .before .before .before .before .before .before .before .before .before .before .args .n) (c .before .before .before .actions-size .result) (c .before .before .before .actions-size .ensures .0) (c .before .before .if5 .left) in

@@ -1,31 +1,23 @@
 use borrow.Author.Needs.{needs}
-use mathlib.Core.Path.{_≡_, refl, ap, sym, _∙_}
+use mathlib.Core.Path.{ap, _∙_}
 use native.Mathlib.Omega.{arith}
 use Prim.Native.Nat.{ℕ, _+_}
 use Rattle.roll_writer.proofs.Sized.{move-coloured, move-large, move-there, small-number}
 use Rattle.roll_writer.proofs.move_size.Statement.{statement}
 use Rattle.roll_writer.proofs.move_size.Tie as tie
-use Rattle.roll_writer.proofs.move_size.Reads as reads
-use Rattle.roll_writer.proofs.move_size.Lts as lts
-use Rattle.roll_writer.proofs.number_length.Reads as number-length-reads
 
--- src/lib.rt:93:9
 returns : tie.Need-returns
 returns c = (move-coloured (c .before .args .colour) (c .before .args .number) (c .if1 .taken), omega arith)
 
--- src/lib.rt:96:9
 returns-2 : tie.Need-returns-2
 returns-2 c = (move-large (c .before .before .args .colour) (c .before .before .args .number) (c .before .if1 .left) (c .if2 .taken), omega arith)
 
--- src/lib.rt:98:9
 number-length-requires : tie.Need-number-length-requires
 number-length-requires c κs = search needs
 
--- src/lib.rt:98:5
 add-result : tie.Need-add-result
 add-result c = omega (arith, c .number-length .ensures, small-number (c .before .before .before .args .number) (omega (arith, c .before .if2 .left)))
 
--- src/lib.rt:89:1
 returns-3 : tie.Need-returns-3
 returns-3 c = 
     let few = small-number (c .before .before .before .args .number) (omega (arith, c .before .if2 .left)) in

@@ -1,32 +1,23 @@
 use borrow.Author.Needs.{needs}
-use mathlib.Core.Path.{_≡_, refl, ap, sym, _∙_}
-use native.Mathlib.Omega.{arith}
+use mathlib.Core.Path.{ap, sym, _∙_}
 use Rattle.action.specs.declared.Stored.{Stored}
 use mathlib.Core.Bool.{cond}
 use Rattle.actions.specs.Part.{isHeld}
 use Rattle.roll_writer.proofs.plain_size.Statement.{statement}
 use Rattle.roll_writer.proofs.plain_size.Tie as tie
-use Rattle.roll_writer.proofs.plain_size.Reads as reads
-use Rattle.roll_writer.proofs.plain_size.Lts as lts
-use Rattle.action.proofs.from_bytes.Reads as from-bytes-reads
 
--- src/lib.rt:105:11
 from-bytes-requires : tie.Need-from-bytes-requires
 from-bytes-requires c κs = search needs
 
--- src/lib.rt:106:29
 enum-told : tie.Need-enum-told
 enum-told c = search needs
 
--- src/lib.rt:107:28
 enum-told-2 : tie.Need-enum-told-2
 enum-told-2 c = search needs
 
--- src/lib.rt:102:1
 returns : tie.Need-returns
 returns c = ap (λ (x : Stored). cond (isHeld x) 1 0) (sym (c .enum-told .given .1) ∙ c .before .before .from-bytes .ensures)
 
--- src/lib.rt:102:1
 returns-2 : tie.Need-returns-2
 returns-2 c = ap (λ (x : Stored). cond (isHeld x) 1 0) (sym (c .enum-told2 .given .1) ∙ c .before .before .from-bytes .ensures)
 

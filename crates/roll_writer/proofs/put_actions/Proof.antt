@@ -1,7 +1,6 @@
-use borrow.Author.Needs.{needs}
-use mathlib.Core.Path.{_≡_, refl, ap, sym, _∙_}
+use mathlib.Core.Path.{refl, ap, _∙_}
 use native.Mathlib.Omega.{arith}
-use Prim.Native.Nat.{ℕ, _+_, _*_, _-_, _≤_}
+use Prim.Native.Nat.{_+_, _*_, _-_, _≤_}
 use lib.ListN.{length, drop}
 use Rattle.square.specs.Parts.{written}
 use Rattle.roll_text.specs.declared.Fields.{Fields}
@@ -9,10 +8,6 @@ use Rattle.roll_text.specs.Roll.{actionText}
 use Rattle.roll_writer.proofs.Counting.{SoFar, so-far-none, so-far-fits, so-far-more, so-far-all, so-far-length}
 use Rattle.roll_writer.proofs.put_actions.Statement.{statement}
 use Rattle.roll_writer.proofs.put_actions.Tie as tie
-use Rattle.roll_writer.proofs.put_actions.Reads as reads
-use Rattle.roll_writer.proofs.put_actions.Lts as lts
-use Rattle.roll_writer.proofs.fields_at.Reads as fields-at-reads
-use Rattle.roll_writer.proofs.put_text.Reads as put-text-reads
 
 abbrev Inv-loop : tie.InvT-loop
 Inv-loop acts n out₀ from at₀ i₀ out at i = (i ≤ n) × SoFar acts out₀ out from n i at
@@ -20,19 +15,15 @@ Inv-loop acts n out₀ from at₀ i₀ out at i = (i ≤ n) × SoFar acts out₀
 abbrev μ-loop : tie.MeasureT-loop
 μ-loop acts n out₀ from at₀ i₀ out at i = n - i
 
--- src/lib.rt:160:5
 loop-holds : tie.Need-loop-holds Inv-loop μ-loop
 loop-holds c = (omega arith, so-far-none (c .before .before .args .acts .now) (c .before .before .args .out .now) (c .before .before .args .from) (c .before .before .args .n))
 
--- src/lib.rt:161:33
 mul-fields-at : tie.Need-mul-fields-at Inv-loop μ-loop
 mul-fields-at c = omega (arith, c .loop-test .taken, c .before .before .before .before .pre .0)
 
--- src/lib.rt:161:13
 fields-at-requires : tie.Need-fields-at-requires Inv-loop μ-loop
 fields-at-requires c κs = omega (arith, c .loop-test .taken, c .before .before .before .before .pre .0)
 
--- src/lib.rt:162:9
 put-text-requires : tie.Need-put-text-requires Inv-loop μ-loop
 put-text-requires c κs = 
     let acts = c .before .before .before .before .before .before .args .acts .now in
@@ -42,15 +33,12 @@ put-text-requires c κs =
     let e = ap (λ (f : Fields). length (actionText (f .kind) (f .colour) (f .number))) (c .before .fields-at .ensures) in
     omega (arith, w .0, w .1, e)
 
--- src/lib.rt:163:9
 add-i : tie.Need-add-i Inv-loop μ-loop
 add-i c = omega (arith, c .before .before .before .before .before .loop-test .taken)
 
--- src/lib.rt:160:5
 loop-less : tie.Need-loop-less Inv-loop μ-loop
 loop-less c = omega (arith, c .before .before .before .before .before .loop-test .taken)
 
--- src/lib.rt:160:5
 loop-again : tie.Need-loop-again Inv-loop μ-loop
 loop-again c = 
     let acts = c .before .before .before .before .before .before .before .before .before .args .acts .now in
@@ -64,11 +52,9 @@ loop-again c =
       (so-far-more acts l (c .before .before .before .before .before .before .loop .out) (c .before .before .put-text .last .0) (c .before .before .before .before .before .before .before .before .before .args .from) (c .before .before .before .before .before .before .before .before .before .args .n) (c .before .before .before .before .before .before .loop .i) at t (c .before .before .before .before .before .before .loop .inv .1) (c .before .before .before .before .before .loop-test .taken) refl (c .before .before .before .before .before .before .before .before .before .pre .1) bytes),
     )
 
--- src/lib.rt:154:1
 same-length : tie.Need-same-length Inv-loop μ-loop
 same-length c = so-far-length (c .before .before .before .before .args .acts .now) (c .before .before .before .before .args .out .now) (c .before .loop .out) (c .before .before .before .before .args .from) (c .before .before .before .before .args .n) (c .before .loop .i) (c .before .loop .at) (c .before .loop .inv .1) (c .before .before .before .before .pre .1)
 
--- src/lib.rt:154:1
 returns : tie.Need-returns Inv-loop μ-loop
 returns c = so-far-all (c .before .before .before .before .args .acts .now) (c .before .before .before .before .args .out .now) (c .before .loop .out) (c .before .before .before .before .args .from) (c .before .before .before .before .args .n) (c .before .loop .i) (c .before .loop .at) (c .before .loop .inv .1) (c .loop-test .left)
 

@@ -1,55 +1,79 @@
 use borrow.Author.Needs.{needs}
-use mathlib.Core.Path.{ap, _∙_}
+use mathlib.Core.Path.{refl, ap, ap₂, sym, _∙_}
 use native.Mathlib.Omega.{arith}
-use Rattle.roll_text.proofs.Entries.{reach-five}
-use Rattle.square.specs.Parts.{written}
-use Prim.Native.Nat.{_+_}
+use Prim.Native.Nat.{ℕ, _+_}
 use mathlib.Core.List.{List}
-use Prim.Native.Nat.{ℕ}
 use lib.ListN.{length}
+use Rattle.square.specs.Parts.{written}
+use Rattle.roll_text.specs.Roll.{actionText}
+use Rattle.roll_text.proofs.Entries.{reach-five}
 use Rattle.roll_writer.proofs.Counting.{code-fits, number-fits, move-end, move-put, plain-is, plain-fits}
 use Rattle.roll_writer.proofs.put_text.Statement.{statement}
 use Rattle.roll_writer.proofs.put_text.Tie as tie
 
-code-of-requires : tie.Need-code-of-requires
-code-of-requires c κs = search needs
+is-short-requires : tie.Need-is-short-requires
+is-short-requires c κs = search needs
 
-put-groups-requires : tie.Need-put-groups-requires
-put-groups-requires c κs = ((omega arith, omega (arith, reach-five, c .code-of .ensures)), code-fits (c .before .before .before .before .args .out .now) (c .before .before .before .before .args .kind) (c .before .before .before .before .args .colour) (c .before .before .before .before .args .number) (c .before .before .before .before .args .at) (c .code-of .result) (c .code-of .ensures) (c .before .before .before .before .pre) (c .before .before .if1 .taken))
-
-put-groups-requires-2 : tie.Need-put-groups-requires-2
-put-groups-requires-2 c κs = ((omega arith, omega (arith, reach-five)), number-fits (c .before .before .before .before .before .before .before .before .args .out .now) (c .before .before .before .before .before .before .before .before .args .kind) (c .before .before .before .before .before .before .before .before .args .colour) (c .before .before .before .before .before .before .before .before .args .number) (c .before .before .before .before .before .before .before .before .args .at) (c .before .before .before .before .code-of .result) (c .before .before .before .before .code-of .ensures) (c .before .before .before .before .before .before .before .before .pre) (c .before .before .before .before .before .before .if1 .taken) (c .before .before .before .put-groups .last .0) (c .before .before .before .put-groups .result) (c .before .before .before .put-groups .ensures .0) (c .before .before .before .put-groups .ensures .1))
+put-short-requires : tie.Need-put-short-requires
+put-short-requires c κs = 
+    let s = c .before .before .is-short .ensures (c .before .if1 .taken) in
+    let same = ap₂ (λ (x y : ℕ). actionText x y (c .before .before .before .before .args .number)) (s .moves) (s .none) in
+    (record { moves = refl; none = refl; least = s .least; most = s .most }, omega (arith, c .before .before .before .before .pre, ap length same))
 
 same-length : tie.Need-same-length
 same-length c = search needs
 
 returns : tie.Need-returns
-returns c = (move-end (c .before .before .before .before .before .before .before .before .before .before .before .args .out .now) (c .before .before .before .before .before .before .before .before .before .before .before .args .kind) (c .before .before .before .before .before .before .before .before .before .before .before .args .colour) (c .before .before .before .before .before .before .before .before .before .before .before .args .number) (c .before .before .before .before .before .before .before .before .before .before .before .args .at) (c .before .before .before .before .before .before .before .code-of .result) (c .before .before .before .before .before .before .before .code-of .ensures) (c .before .before .before .before .before .before .before .before .before .before .before .pre) (c .before .before .before .before .before .before .before .before .before .if1 .taken) (c .before .before .before .before .before .before .put-groups .last .0) (c .before .before .before .before .before .before .put-groups .result) (c .before .before .before .before .before .before .put-groups .ensures .0) (c .before .before .before .before .before .before .put-groups .ensures .1) (c .before .before .put-groups2 .result) (c .before .before .put-groups2 .ensures .0), move-put (c .before .before .before .before .before .before .before .before .before .before .before .args .out .now) (c .before .before .before .before .before .before .before .before .before .before .before .args .kind) (c .before .before .before .before .before .before .before .before .before .before .before .args .colour) (c .before .before .before .before .before .before .before .before .before .before .before .args .number) (c .before .before .before .before .before .before .before .before .before .before .before .args .at) (c .before .before .before .before .before .before .before .code-of .result) (c .before .before .before .before .before .before .before .code-of .ensures) (c .before .before .before .before .before .before .before .before .before .before .before .pre) (c .before .before .before .before .before .before .before .before .before .if1 .taken) (c .before .before .before .before .before .before .put-groups .last .0) (c .before .before .before .before .before .before .put-groups .result) (c .before .before .before .before .before .before .put-groups .ensures .0) (c .before .before .before .before .before .before .put-groups .ensures .1) (c .before .before .put-groups2 .last .0) (c .before .before .put-groups2 .ensures .1))
+returns c = 
+    let s = c .before .before .before .before .before .is-short .ensures (c .before .before .before .before .if1 .taken) in
+    let same = ap₂ (λ (x y : ℕ). actionText x y (c .before .before .before .before .before .before .before .args .number)) (s .moves) (s .none) in
+    (omega (arith, c .before .before .put-short .ensures .0, ap length same), c .before .before .put-short .ensures .1 ∙ ap (written (c .before .before .before .before .before .before .before .args .out .now) (c .before .before .before .before .before .before .before .args .at)) (sym same))
 
-code-of-requires-2 : tie.Need-code-of-requires-2
-code-of-requires-2 c κs = search needs
+code-of-requires : tie.Need-code-of-requires
+code-of-requires c κs = search needs
 
-put-groups-requires-3 : tie.Need-put-groups-requires-3
-put-groups-requires-3 c κs = ((omega arith, omega (arith, reach-five, c .code-of2 .ensures)), plain-fits (c .before .before .before .before .args .out .now) (c .before .before .before .before .args .kind) (c .before .before .before .before .args .colour) (c .before .before .before .before .args .number) (c .before .before .before .before .args .at) (c .code-of2 .result) (c .code-of2 .ensures) (c .before .before .before .before .pre) (c .before .before .if1 .left))
+put-groups-requires : tie.Need-put-groups-requires
+put-groups-requires c κs = ((omega arith, omega (arith, reach-five, c .code-of .ensures)), code-fits (c .before .before .before .before .before .before .args .out .now) (c .before .before .before .before .before .before .args .kind) (c .before .before .before .before .before .before .args .colour) (c .before .before .before .before .before .before .args .number) (c .before .before .before .before .before .before .args .at) (c .code-of .result) (c .code-of .ensures) (c .before .before .before .before .before .before .pre) (c .before .before .if2 .taken))
+
+put-groups-requires-2 : tie.Need-put-groups-requires-2
+put-groups-requires-2 c κs = ((omega arith, omega (arith, reach-five)), number-fits (c .before .before .before .before .before .before .before .before .before .before .args .out .now) (c .before .before .before .before .before .before .before .before .before .before .args .kind) (c .before .before .before .before .before .before .before .before .before .before .args .colour) (c .before .before .before .before .before .before .before .before .before .before .args .number) (c .before .before .before .before .before .before .before .before .before .before .args .at) (c .before .before .before .before .code-of .result) (c .before .before .before .before .code-of .ensures) (c .before .before .before .before .before .before .before .before .before .before .pre) (c .before .before .before .before .before .before .if2 .taken) (c .before .before .before .put-groups .last .0) (c .before .before .before .put-groups .result) (c .before .before .before .put-groups .ensures .0) (c .before .before .before .put-groups .ensures .1))
 
 same-length-2 : tie.Need-same-length-2
 same-length-2 c = search needs
 
 returns-2 : tie.Need-returns-2
 returns-2 c = 
-    let is = plain-is (c .before .before .before .before .before .before .before .args .out .now) (c .before .before .before .before .before .before .before .args .kind) (c .before .before .before .before .before .before .before .args .colour) (c .before .before .before .before .before .before .before .args .number) (c .before .before .before .before .before .before .before .args .at) (c .before .before .before .code-of2 .result) (c .before .before .before .code-of2 .ensures) (c .before .before .before .before .before .before .before .pre) (c .before .before .before .before .before .if1 .left) in
-    (c .before .before .put-groups3 .ensures .0 ∙ ap (λ (t : List ℕ). c .before .before .before .before .before .before .before .args .at + length t) is, c .before .before .put-groups3 .ensures .1 ∙ ap (written (c .before .before .before .before .before .before .before .args .out .now) (c .before .before .before .before .before .before .before .args .at)) is)
+    (move-end (c .before .before .before .before .before .before .before .before .before .before .before .before .before .args .out .now) (c .before .before .before .before .before .before .before .before .before .before .before .before .before .args .kind) (c .before .before .before .before .before .before .before .before .before .before .before .before .before .args .colour) (c .before .before .before .before .before .before .before .before .before .before .before .before .before .args .number) (c .before .before .before .before .before .before .before .before .before .before .before .before .before .args .at) (c .before .before .before .before .before .before .before .code-of .result) (c .before .before .before .before .before .before .before .code-of .ensures) (c .before .before .before .before .before .before .before .before .before .before .before .before .before .pre) (c .before .before .before .before .before .before .before .before .before .if2 .taken) (c .before .before .before .before .before .before .put-groups .last .0) (c .before .before .before .before .before .before .put-groups .result) (c .before .before .before .before .before .before .put-groups .ensures .0) (c .before .before .before .before .before .before .put-groups .ensures .1) (c .before .before .put-groups2 .result) (c .before .before .put-groups2 .ensures .0),
+    move-put (c .before .before .before .before .before .before .before .before .before .before .before .before .before .args .out .now) (c .before .before .before .before .before .before .before .before .before .before .before .before .before .args .kind) (c .before .before .before .before .before .before .before .before .before .before .before .before .before .args .colour) (c .before .before .before .before .before .before .before .before .before .before .before .before .before .args .number) (c .before .before .before .before .before .before .before .before .before .before .before .before .before .args .at) (c .before .before .before .before .before .before .before .code-of .result) (c .before .before .before .before .before .before .before .code-of .ensures) (c .before .before .before .before .before .before .before .before .before .before .before .before .before .pre) (c .before .before .before .before .before .before .before .before .before .if2 .taken) (c .before .before .before .before .before .before .put-groups .last .0) (c .before .before .before .before .before .before .put-groups .result) (c .before .before .before .before .before .before .put-groups .ensures .0) (c .before .before .before .before .before .before .put-groups .ensures .1) (c .before .before .put-groups2 .last .0) (c .before .before .put-groups2 .ensures .1))
+
+code-of-requires-2 : tie.Need-code-of-requires-2
+code-of-requires-2 c κs = search needs
+
+put-groups-requires-3 : tie.Need-put-groups-requires-3
+put-groups-requires-3 c κs = ((omega arith, omega (arith, reach-five, c .code-of2 .ensures)), plain-fits (c .before .before .before .before .before .before .args .out .now) (c .before .before .before .before .before .before .args .kind) (c .before .before .before .before .before .before .args .colour) (c .before .before .before .before .before .before .args .number) (c .before .before .before .before .before .before .args .at) (c .code-of2 .result) (c .code-of2 .ensures) (c .before .before .before .before .before .before .pre) (c .before .before .if2 .left))
+
+same-length-3 : tie.Need-same-length-3
+same-length-3 c = search needs
+
+returns-3 : tie.Need-returns-3
+returns-3 c = 
+    let is = plain-is (c .before .before .before .before .before .before .before .before .before .args .out .now) (c .before .before .before .before .before .before .before .before .before .args .kind) (c .before .before .before .before .before .before .before .before .before .args .colour) (c .before .before .before .before .before .before .before .before .before .args .number) (c .before .before .before .before .before .before .before .before .before .args .at) (c .before .before .before .code-of2 .result) (c .before .before .before .code-of2 .ensures) (c .before .before .before .before .before .before .before .before .before .pre) (c .before .before .before .before .before .if2 .left) in
+    (c .before .before .put-groups3 .ensures .0 ∙ ap (λ (t : List ℕ). c .before .before .before .before .before .before .before .before .before .args .at + length t) is, c .before .before .put-groups3 .ensures .1 ∙ ap (written (c .before .before .before .before .before .before .before .before .before .args .out .now) (c .before .before .before .before .before .before .before .before .before .args .at)) is)
 
 pub put-text-spec : {M : Type 1} → statement M
 put-text-spec =
     tie.close
     (tie.spec
+    is-short-requires
+    put-short-requires
+    same-length
+    returns
     code-of-requires
     put-groups-requires
     put-groups-requires-2
-    same-length
-    returns
+    same-length-2
+    returns-2
     code-of-requires-2
     put-groups-requires-3
-    same-length-2
-    returns-2)
+    same-length-3
+    returns-3)

@@ -1,25 +1,17 @@
 use borrow.Author.Needs.{needs}
-use mathlib.Core.Path.{_≡_, refl, ap, sym, _∙_}
-use native.Mathlib.Omega.{arith}
-use Prim.Native.Nat.{ℕ}
+use mathlib.Core.Path.{ap}
 use lib.Dec.{ltb}
 use Rattle.game_rules.specs.Limits.{limits}
 use Rattle.roll_writer.proofs.Sized.{few-enough}
 use Rattle.roll_writer.proofs.too_many_moves.Statement.{statement}
 use Rattle.roll_writer.proofs.too_many_moves.Tie as tie
-use Rattle.roll_writer.proofs.too_many_moves.Reads as reads
-use Rattle.roll_writer.proofs.too_many_moves.Lts as lts
-use Rattle.actions.proofs.moves_in.Reads as moves-in-reads
 
--- src/lib.rt:172:9
 returns : tie.Need-returns
 returns c = few-enough (c .before .before .args .acts .now) (c .before .before .args .n) (limits .most-moves) (c .if1 .taken)
 
--- src/lib.rt:174:17
 moves-in-requires : tie.Need-moves-in-requires
 moves-in-requires c κs = search needs
 
--- src/lib.rt:168:1
 returns-2 : tie.Need-returns-2
 returns-2 c = ap (ltb (limits .most-moves)) (c .moves-in .ensures)
 

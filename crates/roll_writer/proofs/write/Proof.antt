@@ -1,10 +1,9 @@
 use borrow.Author.Needs.{needs}
-use mathlib.Core.Path.{_≡_, refl, ap, sym, _∙_}
+use mathlib.Core.Path.{ap, sym, _∙_}
 use native.Mathlib.Omega.{arith}
 use Rattle.game_rules.specs.Limits.{limits}
 use Rattle.roll_text.specs.Calls.{writeCheck, gameText}
-use Prim.Native.Nat.{ℕ, _≤_}
-use mathlib.Core.List.{List}
+use Prim.Native.Nat.{_≤_}
 use lib.ListN.{length}
 use Rattle.square.specs.declared.Answer.{Answer}
 use Rattle.square.specs.Answer.{tooShort}
@@ -13,22 +12,15 @@ use Rattle.roll_writer.proofs.Sized.{not-accepted, was-accepted}
 use Rattle.roll_writer.proofs.Whole.{over-front}
 use Rattle.roll_writer.proofs.write.Statement.{statement}
 use Rattle.roll_writer.proofs.write.Tie as tie
-use Rattle.roll_writer.proofs.write.Reads as reads
-use Rattle.roll_writer.proofs.write.Lts as lts
-use Rattle.roll_writer.proofs.measure.Reads as measure-reads
-use Rattle.roll_writer.proofs.put.Reads as put-reads
 
--- src/lib.rt:216:9
 measure-requires : tie.Need-measure-requires
 measure-requires c κs = search needs
 
--- src/lib.rt:218:9
 returns : tie.Need-returns
 returns c = 
     let w = not-accepted (c .before .before .measure .result) (writeCheck limits (c .before .before .before .before .before .args .b) (c .before .before .before .before .before .args .acts .now) (c .before .before .before .before .before .args .n)) (gameText (c .before .before .before .before .before .args .b) (c .before .before .before .before .before .args .acts .now) (c .before .before .before .before .before .args .n)) (c .before .before .before .before .before .args .out .now) (c .before .before .measure .ensures) (c .if1 .taken) in
     (w .answer, w .bytes)
 
--- src/lib.rt:221:9
 returns-2 : tie.Need-returns-2
 returns-2 c = 
     let m = was-accepted (c .before .before .before .before .measure .result) (writeCheck limits (c .before .before .before .before .before .before .before .args .b) (c .before .before .before .before .before .before .before .args .acts .now) (c .before .before .before .before .before .before .before .args .n)) (gameText (c .before .before .before .before .before .before .before .args .b) (c .before .before .before .before .before .before .before .args .acts .now) (c .before .before .before .before .before .before .before .args .n)) (c .before .before .before .before .measure .ensures) (c .before .before .if1 .left) in
@@ -36,18 +28,15 @@ returns-2 c =
     let w = write-short (gameText (c .before .before .before .before .before .before .before .args .b) (c .before .before .before .before .before .before .before .args .acts .now) (c .before .before .before .before .before .before .before .args .n)) (c .before .before .before .before .before .before .before .args .out .now) (omega (arith, value, c .if2 .taken)) in
     rw (m .passed) (ap tooShort value ∙ w .answer, w .bytes)
 
--- src/lib.rt:226:5
 put-requires : tie.Need-put-requires
 put-requires c κs = 
     let m = was-accepted (c .before .before .before .before .before .measure .result) (writeCheck limits (c .before .before .before .before .before .before .before .before .args .b) (c .before .before .before .before .before .before .before .before .args .acts .now) (c .before .before .before .before .before .before .before .before .args .n)) (gameText (c .before .before .before .before .before .before .before .before .args .b) (c .before .before .before .before .before .before .before .before .args .acts .now) (c .before .before .before .before .before .before .before .before .args .n)) (c .before .before .before .before .before .measure .ensures) (c .before .before .before .if1 .left) in
     let value = ap (λ (a : Answer). a .value) (m .told) in
     (m .passed, omega (arith, value, c .before .if2 .left))
 
--- src/lib.rt:212:1
 same-length : tie.Need-same-length
 same-length c = search needs
 
--- src/lib.rt:212:1
 returns-3 : tie.Need-returns-3
 returns-3 c = 
     let m = was-accepted (c .before .before .before .before .before .before .before .before .measure .result) (writeCheck limits (c .before .before .before .before .before .before .before .before .before .before .before .args .b) (c .before .before .before .before .before .before .before .before .before .before .before .args .acts .now) (c .before .before .before .before .before .before .before .before .before .before .before .args .n)) (gameText (c .before .before .before .before .before .before .before .before .before .before .before .args .b) (c .before .before .before .before .before .before .before .before .before .before .before .args .acts .now) (c .before .before .before .before .before .before .before .before .before .before .before .args .n)) (c .before .before .before .before .before .before .before .before .measure .ensures) (c .before .before .before .before .before .before .if1 .left) in
