@@ -5,3 +5,5 @@ pub mod Forth
 pub mod Bounds
 pub mod ByFields
 pub mod Plain
+pub mod Counted
+pub mod ReadsBack

@@ -3,15 +3,23 @@
 use Prim.Native.Nat.{ℕ, _*_, _≤_, _<_}
 use mathlib.Core.Path.{_≡_}
 use mathlib.Core.Bool.{true}
-use mathlib.Core.List.{List}
-use lib.ListN.{length}
+use mathlib.Core.List.{List, _++_}
+use lib.ListN.{length, take, drop}
+use Rattle.square.specs.declared.Answer.{Answer}
+use Rattle.square.specs.Answer.{writeAnswer, writeBytes}
 use Rattle.square.specs.Numbers.{allAtMost}
-use Rattle.board_builder.specs.BoardBuilder.{numbersInRange}
+use Rattle.board_builder.specs.declared.BoardBuilder.{BoardBuilder}
+use Rattle.board_builder.specs.BoardBuilder.{inRange, numbersInRange, boardOf, emptyBoard}
 use Rattle.action.specs.Layout.{actionSize}
 use Rattle.actions.specs.Part.{movesIn, actionsHeld}
-use Rattle.game_rules.specs.Limits.{Limits}
+use Rattle.position.specs.Layout.{positionAt}
+use Rattle.game_rules.specs.Limits.{Limits, actionsLength}
+use Rattle.game_rules.specs.Good.{Good}
+use Rattle.game_rules.specs.Calls.{longEnough}
+use Rattle.roll_text.specs.declared.Roll.{Roll}
 use Rattle.roll_text.specs.Number.{mostGroups, reach}
 use Rattle.roll_text.specs.Roll.{rolled, largestNumbers, withinBounds, rollText, readRoll}
+use Rattle.roll_text.specs.Calls.{rollAnswer, rollOver, judged, writeCheck, gameText}
 
 -- a start with n actions in range, within the limits: each of the bytes is one, and there are no others
 pub record Game (L : Limits) (numbers : List ℕ) (n : ℕ) (bs : List ℕ) : Type 0 where
@@ -55,3 +63,60 @@ OneGame = (L : Limits) (numbers : List ℕ) (n : ℕ) (bs others : List ℕ) (m 
 -- the bounds are those of a record in range
 abbrev pub BoundsAreTheRecords : Type 0
 BoundsAreTheRecords = (numbers : List ℕ) → withinBounds largestNumbers numbers ≡ numbersInRange numbers
+
+-- ---- the two calls, of any programs
+
+-- any writer of rolls: what it answers to a record, an actions part, a count and the length of a room, and what it leaves in the room
+pub record Writer : Type 0 where
+  pub answer : BoardBuilder → List ℕ → ℕ → ℕ → Answer
+  pub room : BoardBuilder → List ℕ → ℕ → List ℕ → List ℕ
+
+-- any reader: what it answers to a roll and the length of an actions part, and what it leaves in the part
+pub record Reader : Type 0 where
+  pub answer : List ℕ → ℕ → Roll
+  pub part : List ℕ → List ℕ → List ℕ
+
+-- those of crates roll_writer and roll_reader
+abbrev pub rollWriter : Limits → Writer
+rollWriter L =
+    record {
+      answer = λ (b : BoardBuilder) (part : List ℕ) (n room : ℕ). writeAnswer (writeCheck L b part n) (gameText b part n) room;
+      room = λ (b : BoardBuilder) (part : List ℕ) (n : ℕ) (out : List ℕ). writeBytes (writeCheck L b part n) (gameText b part n) out;
+    }
+
+abbrev pub rollReader : Limits → Reader
+rollReader L =
+    record {
+      answer = λ (s : List ℕ) (room : ℕ). rollAnswer (judged L s room);
+      part = λ (s part : List ℕ). rollOver (judged L s (length part)) part;
+    }
+
+-- the bytes that a writer wrote: as many from the front of its room as its value says
+abbrev pub wrote : Writer → BoardBuilder → List ℕ → ℕ → List ℕ → List ℕ
+wrote w b part n out = take (w .answer b part n (length out) .value) (w .room b part n out)
+
+-- a record in range, a part that is long enough, a count and moves within the limits, and an action in range at each place that is counted
+pub record Writable (L : Limits) (b : BoardBuilder) (part : List ℕ) (n : ℕ) : Type 0 where
+  pub start : inRange b ≡ true
+  pub long : actionsLength L ≤ length part
+  pub few : n ≤ L .most-actions
+  pub few-moves : movesIn part n ≤ L .most-moves
+  pub held : actionsHeld part n ≡ true
+
+-- a game written and read back: accepted, the value is the length of the bytes written, and exactly these are changed; they are read with 0 as the same
+-- count and the same record, and the part has the counted actions' bytes, and behind them what stood there
+pub record BackAgain (w : Writer) (r : Reader) (b : BoardBuilder) (part : List ℕ) (n : ℕ) (out old : List ℕ) : Type 0 where
+  pub accepts : w .answer b part n (length out) .number ≡ 0
+  pub long : w .answer b part n (length out) .value ≡ length (wrote w b part n out)
+  pub behind : w .room b part n out ≡ wrote w b part n out ++ drop (w .answer b part n (length out) .value) out
+  pub back : r .answer (wrote w b part n out) (length old) ≡ record { number = 0; actions = n; board = b }
+  pub actions : r .part (wrote w b part n out) old ≡ take (actionSize * n) part ++ drop (actionSize * n) old
+
+abbrev pub ReadsBack : Limits → Writer → Reader → Type 0
+ReadsBack L w r =
+    (b : BoardBuilder) (part : List ℕ) (n : ℕ) (out old : List ℕ) → Writable L b part n → allAtMost 255 part ≡ true
+    → length (gameText b part n) ≤ length out → actionsLength L ≤ length old → BackAgain w r b part n out old
+
+-- it is kept by ours
+abbrev pub WrittenReadsBack : Type 0
+WrittenReadsBack = (L : Limits) → Countable L → ReadsBack L (rollWriter L) (rollReader L)
