@@ -7,3 +7,6 @@ pub mod ByFields
 pub mod Plain
 pub mod Counted
 pub mod ReadsBack
+pub mod Refusals
+pub mod WritesBack
+pub mod OfGood

@@ -65,12 +65,12 @@ module _ (L : Limits) (b : BoardBuilder) (part : List ℕ) (n : ℕ) (w : Writab
   bs : List ℕ
   bs = take (actionSize * n) part
 
-  fits : actionSize * n ≤ length part
-  fits = omega (arith, w .few, w .long)
+  all-there : actionSize * n ≤ length part
+  all-there = omega (arith, w .few, w .long)
 
   long : length bs ≡ actionSize * n
   unfolding bs
-  long = length-take-le (actionSize * n) part fits
+  long = length-take-le (actionSize * n) part all-there
 
   both : bs ++ drop (actionSize * n) part ≡ part
   unfolding bs

@@ -120,3 +120,43 @@ ReadsBack L w r =
 -- it is kept by ours
 abbrev pub WrittenReadsBack : Type 0
 WrittenReadsBack = (L : Limits) → Countable L → ReadsBack L (rollWriter L) (rollReader L)
+
+-- an accepted read: what it gives back can be written; there are exactly 4 bytes an action, and behind them nothing is changed
+pub record GivesGame (L : Limits) (r : Reader) (s old : List ℕ) : Type 0 where
+  pub game : Writable L (r .answer s (length old) .board) (r .part s old) (r .answer s (length old) .actions)
+  pub long : length (r .part s old) ≡ length old
+  pub bytes : allAtMost 255 (take (actionSize * r .answer s (length old) .actions) (r .part s old)) ≡ true
+  pub behind : drop (actionSize * r .answer s (length old) .actions) (r .part s old) ≡ drop (actionSize * r .answer s (length old) .actions) old
+
+abbrev pub AcceptedReads : Type 0
+AcceptedReads =
+    (L : Limits) (s old : List ℕ) → allAtMost 255 s ≡ true → rollReader L .answer s (length old) .number ≡ 0 → GivesGame L (rollReader L) s old
+
+-- a refused read: no actions, the empty record, and no byte is changed
+pub record GivesNothing (r : Reader) (s old : List ℕ) : Type 0 where
+  pub no-actions : r .answer s (length old) .actions ≡ 0
+  pub empty : r .answer s (length old) .board ≡ emptyBoard
+  pub unchanged : r .part s old ≡ old
+
+abbrev pub RefusedReads : Type 0
+RefusedReads = (L : Limits) (s old : List ℕ) → (rollReader L .answer s (length old) .number ≡ 0 → ⊥) → GivesNothing (rollReader L) s old
+
+-- an accepted roll written again, from what the reader gave back: accepted, and the same bytes
+pub record WrittenAgain (w : Writer) (r : Reader) (s old out : List ℕ) : Type 0 where
+  pub accepts : w .answer (r .answer s (length old) .board) (r .part s old) (r .answer s (length old) .actions) (length out) .number ≡ 0
+  pub long : w .answer (r .answer s (length old) .board) (r .part s old) (r .answer s (length old) .actions) (length out) .value ≡ length s
+  pub same-bytes : wrote w (r .answer s (length old) .board) (r .part s old) (r .answer s (length old) .actions) out ≡ s
+
+-- whatever stood in the part before, and in any room that is long enough
+abbrev pub WritesBack : Writer → Reader → Type 0
+WritesBack w r =
+    (s old out : List ℕ) → allAtMost 255 s ≡ true → r .answer s (length old) .number ≡ 0 → length s ≤ length out → WrittenAgain w r s old out
+
+-- it is kept by ours
+abbrev pub ReadIsWrittenBack : Type 0
+ReadIsWrittenBack = (L : Limits) → WritesBack (rollWriter L) (rollReader L)
+
+-- a good log's actions can be written, with its start, the record of position 0
+abbrev pub GoodIsWritable : Type 0
+GoodIsWritable =
+    (L : Limits) (acts ps : List ℕ) (n m : ℕ) → longEnough L acts ps ≡ true → Good L acts ps n m → Writable L (boardOf (positionAt ps 0 .board)) acts n
