@@ -10,3 +10,4 @@ pub mod ReadsBack
 pub mod Refusals
 pub mod WritesBack
 pub mod OfGood
+pub mod Hollow

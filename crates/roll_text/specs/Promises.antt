@@ -160,3 +160,25 @@ ReadIsWrittenBack = (L : Limits) → WritesBack (rollWriter L) (rollReader L)
 abbrev pub GoodIsWritable : Type 0
 GoodIsWritable =
     (L : Limits) (acts ps : List ℕ) (n m : ℕ) → longEnough L acts ps ≡ true → Good L acts ps n m → Writable L (boardOf (positionAt ps 0 .board)) acts n
+
+-- Reading back is not kept by a writer that takes no notice of which record in range it is given, whatever reads ..
+abbrev pub OneConstantStartFails : Type 0
+OneConstantStartFails =
+    (L : Limits) (w : Writer) (r : Reader)
+    → ((a b : BoardBuilder) (part : List ℕ) (n room : ℕ) → inRange a ≡ true → inRange b ≡ true → w .answer a part n room ≡ w .answer b part n room)
+    → ((a b : BoardBuilder) (part : List ℕ) (n : ℕ) (out : List ℕ) → inRange a ≡ true → inRange b ≡ true → w .room a part n out ≡ w .room b part n out)
+    → ReadsBack L w r
+    → ⊥
+
+-- .. nor, where one action is allowed, by one that takes no notice of the actions ..
+abbrev pub OneConstantActionFails : Type 0
+OneConstantActionFails =
+    (L : Limits) (w : Writer) (r : Reader) → 0 < L .most-actions
+    → ((b : BoardBuilder) (p q : List ℕ) (n room : ℕ) → w .answer b p n room ≡ w .answer b q n room)
+    → ((b : BoardBuilder) (p q : List ℕ) (n : ℕ) (out : List ℕ) → w .room b p n out ≡ w .room b q n out)
+    → ReadsBack L w r
+    → ⊥
+
+-- .. nor by a reader that always refuses, whatever writes
+abbrev pub AlwaysRefusingFails : Type 0
+AlwaysRefusingFails = (L : Limits) (w : Writer) (r : Reader) → ((s : List ℕ) (room : ℕ) → r .answer s room .number ≡ 0 → ⊥) → ReadsBack L w r → ⊥
