@@ -2,10 +2,9 @@
 -- Assumes nothing.
 use mathlib.Core.Path.{_≡_, refl, sym, ap, ap₂, _∙_}
 use mathlib.Core.Bool.{true}
-use mathlib.Core.List.{List, [], _∷_, _++_}
-use Prim.Native.Nat.{ℕ, zero, suc, _+_, _*_, _≤_, _<_}
+use mathlib.Core.List.{List, _∷_, _++_}
+use Prim.Native.Nat.{ℕ, zero, suc, _+_, _≤_, _<_}
 use native.Mathlib.Omega.{arith}
-use lib.Dec.{leb}
 use lib.ListN.{length, take, drop, getD, replicate, length-append, length-replicate}
 use Rattle.square.specs.declared.Answer.{Answer}
 use Rattle.square.specs.Numbers.{allAtMost}
@@ -16,7 +15,7 @@ use Rattle.actions.specs.Part.{actionsHeld, movesIn}
 use Rattle.game_rules.specs.Limits.{Limits, actionsLength}
 use Rattle.roll_text.specs.declared.Roll.{Roll}
 use Rattle.roll_text.specs.Calls.{gameText}
-use Rattle.roll_text.specs.Promises.{Writer, Reader, wrote, Writable, BackAgain, ReadsBack, OneConstantStartFails, OneConstantActionFails, AlwaysRefusingFails}
+use Rattle.roll_text.specs.Promises.{wrote, Writable, OneConstantStartFails, OneConstantActionFails, AlwaysRefusingFails}
 
 empty-in-range : inRange emptyBoard ≡ true
 unfolding inRange allAtMost

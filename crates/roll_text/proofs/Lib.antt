@@ -11,3 +11,4 @@ pub mod Refusals
 pub mod WritesBack
 pub mod OfGood
 pub mod Hollow
+pub mod AtSmallest

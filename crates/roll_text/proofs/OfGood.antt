@@ -1,9 +1,9 @@
 -- A good log can be written as a roll.
 -- Assumes nothing.
-use mathlib.Core.Path.{_≡_, refl, ap, ap₂, sym, _∙_}
+use mathlib.Core.Path.{_≡_, refl, ap, ap₂}
 use mathlib.Core.Bool.{Bool, true, false, _&&_}
 use mathlib.Core.List.{List}
-use Prim.Native.Nat.{ℕ, zero, suc, _≤_}
+use Prim.Native.Nat.{ℕ, zero, suc}
 use native.Mathlib.Omega.{arith}
 use lib.Dec.{eqb, leb}
 use lib.ListN.{length}
@@ -12,7 +12,7 @@ use Rattle.square.specs.Parts.{item}
 use Rattle.square.specs.Numbers.{same}
 use Rattle.square.proofs.Numbers.{both-left, both-right}
 use Rattle.board_builder.specs.BoardBuilder.{numbersInRange}
-use Rattle.actions.specs.Part.{actionAt, isHeld, actionsHeld}
+use Rattle.actions.specs.Part.{isHeld, actionsHeld}
 use Rattle.position.specs.Layout.{Position, positionSize, positionAt, positionOf}
 use Rattle.stored_position.specs.Bytes.{positionBytes, positionCheck, isPosition}
 use Rattle.stored_position.proofs.Checks.{bad-board}
@@ -20,7 +20,7 @@ use Rattle.game_rules.specs.Limits.{Limits, actionsLength, positionsLength}
 use Rattle.game_rules.specs.Good.{sound, nextSound}
 use Rattle.game_rules.proofs.Checks.{actions-most, moves-most}
 use Rattle.game_rules.proofs.Decide.{holding-reads}
-use Rattle.game_rules.proofs.Log.{sound-next, sound-held}
+use Rattle.game_rules.proofs.Log.{sound-held}
 use Rattle.roll_text.specs.Promises.{GoodIsWritable}
 use Rattle.roll_text.proofs.WritesBack.{record-in-range}
 
@@ -52,8 +52,9 @@ passes-in-range p e = by (numbersInRange (p .board)) refl
 pub good-is-writable : GoodIsWritable
 good-is-writable L acts ps n m long (h, a, g) =
     let r = holding-reads L acts ps n m h a g in
+    let first = sound-start L acts ps n (r .ok) in
     record {
-      start = record-in-range (positionAt ps 0 .board) (passes-in-range (positionAt ps 0) (start-passes (item positionSize ps 0) (sound-start L acts ps n (r .ok))));
+      start = record-in-range (positionAt ps 0 .board) (passes-in-range (positionAt ps 0) (start-passes (item positionSize ps 0) first));
       long = leb-true _ _ (both-left (leb (actionsLength L) (length acts)) (leb (positionsLength L) (length ps)) long);
       few = omega (arith, g .action-count, actions-most L h a);
       few-moves = omega (arith, r .count, g .move-count, moves-most L h a);

@@ -14,17 +14,16 @@ use Rattle.square.specs.Numbers.{allAtMost}
 use Rattle.square.proofs.Numbers.{most-take}
 use Rattle.square.proofs.Writes.{write-fits}
 use Rattle.board_builder.specs.declared.BoardBuilder.{BoardBuilder}
-use Rattle.board_builder.specs.BoardBuilder.{inRange, numbers, boardOf}
+use Rattle.board_builder.specs.BoardBuilder.{numbers}
 use Rattle.board_builder.proofs.Ranges.{in-range}
 use Rattle.board_builder.proofs.Numbers.{numbers-of-record}
 use Rattle.stored_position.proofs.Checks.{numbers-range}
 use Rattle.action.specs.Layout.{actionSize}
 use Rattle.actions.specs.Part.{movesIn, actionsHeld}
 use Rattle.game_rules.specs.Limits.{Limits, actionsLength}
-use Rattle.roll_text.specs.declared.Roll.{Roll}
 use Rattle.roll_text.specs.Roll.{Rolled, rolled, rollText, readRoll}
 use Rattle.roll_text.specs.Calls.{rollAnswer, rollOver, judged, writeCheck, gameText}
-use Rattle.roll_text.specs.Promises.{Game, Countable, Writer, rollWriter, rollReader, wrote, Writable, BackAgain, WrittenReadsBack}
+use Rattle.roll_text.specs.Promises.{Game, Countable, rollWriter, wrote, Writable, WrittenReadsBack}
 use Rattle.roll_text.proofs.Back.{rolls-read-back}
 use Rattle.roll_text.proofs.Bounds.{bounds-are-the-records}
 use Rattle.roll_text.proofs.Counted.{roll-counted, held-counted, moves-counted}
@@ -41,7 +40,8 @@ pub record Wrote (L : Limits) (b : BoardBuilder) (part : List ℕ) (n : ℕ) (ou
   pub room : rollWriter L .room b part n out ≡ overwrite (gameText b part n) out
   pub bytes : wrote (rollWriter L) b part n out ≡ gameText b part n
 
-pub writes : (L : Limits) (b : BoardBuilder) (part : List ℕ) (n : ℕ) (out : List ℕ) → Writable L b part n → length (gameText b part n) ≤ length out → Wrote L b part n out
+pub writes : (L : Limits) (b : BoardBuilder) (part : List ℕ) (n : ℕ) (out : List ℕ) → Writable L b part n → length (gameText b part n) ≤ length out
+    → Wrote L b part n out
 writes L b part n out w fits =
     let text = gameText b part n in
     let check = check-passes L b part n w in
@@ -106,7 +106,8 @@ written-reads-back L small b part n out old w bytes fits enough =
     let text = gameText b part n in
     let o = writes L b part n out w fits in
     let value : rollWriter L .answer b part n (length out) .value ≡ length text = ap (λ (a : Answer). a .value) (o .answer) in
-    let r : judged L text (length old) ≡ rolled (numbers b) n (take (actionSize * n) part) = judged-long L text (length old) enough ∙ reads L b part n w bytes small in
+    let r : judged L text (length old) ≡ rolled (numbers b) n (take (actionSize * n) part)
+    = judged-long L text (length old) enough ∙ reads L b part n w bytes small in
     let over : rollOver (judged L text (length old)) old ≡ take (actionSize * n) part ++ drop (actionSize * n) old
     = ap (λ (x : Rolled). rollOver x old) r ∙ ap (λ (i : ℕ). take (actionSize * n) part ++ drop i old) (counted-long L b part n w bytes) in
     let answer : rollAnswer (judged L text (length old)) ≡ record { number = 0; actions = n; board = b }

@@ -3,7 +3,7 @@
 use mathlib.Core.Path.{_≡_, refl, sym, ap, _∙_}
 use mathlib.Core.Bool.{Bool, true, false, not, false≢true}
 use mathlib.Core.List.{List, [], _∷_}
-use Prim.Native.Nat.{ℕ, zero, suc, _+_, _*_, _-_, _/_, _%_}
+use Prim.Native.Nat.{ℕ, zero, suc, _-_, _/_, _%_}
 use lib.Dec.{eqb, leb, ltb}
 use lib.ListN.{drop}
 use borrow.Author.Tests.{eq-eqb}
@@ -15,7 +15,8 @@ use Rattle.roll_text.specs.declared.Number.the-variants.{Got, Bad}
 use Rattle.roll_text.specs.declared.Entry.{Entry}
 use Rattle.roll_text.specs.declared.Entry.the-variants.{Move, Plain, Stop}
 use Rattle.roll_text.specs.Number.{readNumber}
-use Rattle.roll_text.specs.Roll.{Front, stopped, front, putNumber, oneNumber, readNumbers, movedBy, isCode, coded, readEntry, Acts, halted, acts, putAction, next, readActions}
+use Rattle.roll_text.specs.Roll.{Front, stopped, front, putNumber, oneNumber, readNumbers}
+use Rattle.roll_text.specs.Roll.{Acts, halted, acts, movedBy, isCode, coded, readEntry, putAction, next, readActions}
 use Rattle.roll_text.specs.Roll.{Rolled, refusal, rolled, withActions, withCount, withFront, readRoll, largestNumbers}
 use Rattle.roll_text.specs.Calls.{rollAnswer, judged}
 

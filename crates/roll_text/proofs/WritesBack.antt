@@ -1,31 +1,31 @@
 -- What a read leaves, accepted or refused, and that each accepted roll is written back as it came.
 -- Assumes nothing.
 use mathlib.Core.Path.{_≡_, refl, ap, sym, _∙_}
-use mathlib.Core.Bool.{Bool, true, false, _&&_}
-use mathlib.Core.List.{List, _++_}
-use Prim.Native.Nat.{ℕ, _+_, _*_, _≤_}
+use mathlib.Core.Bool.{Bool, true, false}
+use mathlib.Core.List.{List}
+use Prim.Native.Nat.{ℕ, _*_, _≤_}
 use native.Mathlib.Omega.{arith}
 use lib.Dec.{eqb, ltb}
-use lib.ListN.{length, take, drop, length-append, length-drop}
+use lib.ListN.{length, drop, length-append, length-drop}
 use lib.Seq.{take-at, drop-at}
 use borrow.Author.Tests.{ltb-false}
 use Rattle.square.specs.declared.Answer.{Answer}
-use Rattle.square.specs.Answer.{partTooShort, accepted, overwrite}
+use Rattle.square.specs.Answer.{partTooShort, overwrite}
 use Rattle.square.specs.Numbers.{allAtMost}
 use Rattle.square.proofs.Numbers.{both-right}
-use Rattle.board_builder.specs.BoardBuilder.{recordSize, inRange, numbersInRange, numbers, boardOf}
+use Rattle.board_builder.specs.BoardBuilder.{recordSize, inRange, numbersInRange, boardOf}
 use Rattle.board_builder.proofs.Numbers.{record-of-numbers}
 use Rattle.action.specs.Layout.{actionSize}
-use Rattle.actions.specs.Part.{movesIn, actionsHeld}
 use Rattle.game_rules.specs.Limits.{Limits, actionsLength}
-use Rattle.roll_text.specs.Roll.{Rolled, refusal, rolled, largestNumbers, withinBounds, rollText, readRoll}
+use Rattle.roll_text.specs.Roll.{Rolled, refusal, rolled, largestNumbers, rollText, readRoll}
 use Rattle.roll_text.specs.Calls.{rollAnswer, rollOver, judged, gameText}
-use Rattle.roll_text.specs.Promises.{Game, WrittenBack, rollReader, rollWriter, wrote, Writable, GivesGame, AcceptedReads, GivesNothing, RefusedReads, WrittenAgain, ReadIsWrittenBack}
+use Rattle.roll_text.specs.Promises.{Game, WrittenBack, rollReader, rollWriter, Writable, GivesGame, WrittenAgain}
+use Rattle.roll_text.specs.Promises.{AcceptedReads, RefusedReads, ReadIsWrittenBack}
 use Rattle.roll_text.proofs.Forth.{accepted-written-back}
 use Rattle.roll_text.proofs.Bounds.{bounds-length, long-bounds, bounds-are-the-records}
 use Rattle.roll_text.proofs.Counted.{roll-counted, held-counted, moves-counted}
 use Rattle.roll_text.proofs.ReadsBack.{writes}
-use Rattle.roll_text.proofs.Refusals.{rollTold, judged-told, accepted-rolled}
+use Rattle.roll_text.proofs.Refusals.{judged-told, accepted-rolled}
 
 -- ---- refused
 

@@ -36,7 +36,8 @@ Countable L = L .most-actions < reach mostGroups
 
 -- a written roll reads back
 abbrev pub RollsReadBack : Type 0
-RollsReadBack = (L : Limits) (numbers : List ℕ) (n : ℕ) (bs : List ℕ) → Countable L → Game L numbers n bs → readRoll L (rollText numbers n bs) ≡ rolled numbers n bs
+RollsReadBack =
+    (L : Limits) (numbers : List ℕ) (n : ℕ) (bs : List ℕ) → Countable L → Game L numbers n bs → readRoll L (rollText numbers n bs) ≡ rolled numbers n bs
 
 -- each accepted roll is a game's, and is written back as it came
 pub record WrittenBack (L : Limits) (s numbers : List ℕ) (n : ℕ) (bs : List ℕ) : Type 0 where
@@ -44,7 +45,8 @@ pub record WrittenBack (L : Limits) (s numbers : List ℕ) (n : ℕ) (bs : List 
   pub text : s ≡ rollText numbers n bs
 
 abbrev pub AcceptedWrittenBack : Type 0
-AcceptedWrittenBack = (L : Limits) (s numbers : List ℕ) (n : ℕ) (bs : List ℕ) → allAtMost 255 s ≡ true → readRoll L s ≡ rolled numbers n bs → WrittenBack L s numbers n bs
+AcceptedWrittenBack =
+    (L : Limits) (s numbers : List ℕ) (n : ℕ) (bs : List ℕ) → allAtMost 255 s ≡ true → readRoll L s ≡ rolled numbers n bs → WrittenBack L s numbers n bs
 
 -- one start with one action list has one roll: two rolls that read alike are one, and one roll is of one game
 abbrev pub OneRoll : Type 0
