@@ -12,3 +12,4 @@ pub mod WritesBack
 pub mod OfGood
 pub mod Hollow
 pub mod AtSmallest
+pub mod OneEach

@@ -158,6 +158,25 @@ WritesBack w r =
 abbrev pub ReadIsWrittenBack : Type 0
 ReadIsWrittenBack = (L : Limits) → WritesBack (rollWriter L) (rollReader L)
 
+-- so, of any programs: where rolls are written back, two accepted rolls that give back the same are one roll ..
+abbrev pub OneRollAGame : Type 0
+OneRollAGame =
+    (w : Writer) (r : Reader) → WritesBack w r → (s t old : List ℕ) → allAtMost 255 s ≡ true → allAtMost 255 t ≡ true
+    → r .answer s (length old) .number ≡ 0 → r .answer s (length old) ≡ r .answer t (length old) → r .part s old ≡ r .part t old → s ≡ t
+
+-- .. and where games are read back, two games with the same bytes have one start and one action list
+pub record OneStart (b : BoardBuilder) (part : List ℕ) (n : ℕ) (c : BoardBuilder) (other : List ℕ) (m : ℕ) : Type 0 where
+  pub starts : b ≡ c
+  pub counts : n ≡ m
+  pub actions : take (actionSize * n) part ≡ take (actionSize * m) other
+
+abbrev pub OneGameARoll : Type 0
+OneGameARoll =
+    (L : Limits) (w : Writer) (r : Reader) → ReadsBack L w r → (b c : BoardBuilder) (part other : List ℕ) (n m : ℕ) (out room : List ℕ)
+    → Writable L b part n → Writable L c other m → allAtMost 255 part ≡ true → allAtMost 255 other ≡ true
+    → length (gameText b part n) ≤ length out → length (gameText c other m) ≤ length room
+    → wrote w b part n out ≡ wrote w c other m room → OneStart b part n c other m
+
 -- a good log's actions can be written, with its start, the record of position 0
 abbrev pub GoodIsWritable : Type 0
 GoodIsWritable =
