@@ -43,6 +43,6 @@ one-game-a-roll L w r back b c part other n m out room u v small tiny fits enoug
       starts = ap (λ (a : Roll). a .board) answers;
       counts = counts;
       actions = sym (front L b part n (drop (actionSize * n) part) u)
-      ∙ ap₂ (λ (i : ℕ) (l : List ℕ). take (actionSize * i) l) counts parts
-      ∙ front L c other m (drop (actionSize * m) part) v;
+          ∙ ap₂ (λ (i : ℕ) (l : List ℕ). take (actionSize * i) l) counts parts
+          ∙ front L c other m (drop (actionSize * m) part) v;
     }

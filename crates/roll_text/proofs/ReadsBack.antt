@@ -52,7 +52,7 @@ writes L b part n out w fits =
       answer = answer;
       room = room;
       bytes = ap (λ (a : Answer). take (a .value) (writeBytes (writeCheck L b part n) text out)) answer
-      ∙ ap (take (length text)) room ∙ take-at text (drop (length text) out) (length text) refl;
+          ∙ ap (take (length text)) room ∙ take-at text (drop (length text) out) (length text) refl;
     }
 
 -- ---- the reader
