@@ -23,7 +23,8 @@ use Rattle.actions.specs.Part.{movesIn, actionsHeld}
 use Rattle.game_rules.specs.Limits.{Limits, actionsLength}
 use Rattle.roll_text.specs.Roll.{Rolled, rolled, rollText, readRoll}
 use Rattle.roll_text.specs.Calls.{rollAnswer, rollOver, judged, writeCheck, gameText}
-use Rattle.roll_text.specs.Promises.{Game, Countable, rollWriter, wrote, Writable, WrittenReadsBack}
+use Rattle.roll_text.specs.Promises.{Game, Countable, rollWriter, wrote, Writable, LimitsAreCountable, WrittenReadsBack}
+use Rattle.roll_text.proofs.Entries.{reach-five}
 use Rattle.roll_text.proofs.Back.{rolls-read-back}
 use Rattle.roll_text.proofs.Bounds.{bounds-are-the-records}
 use Rattle.roll_text.proofs.Counted.{roll-counted, held-counted, moves-counted}
@@ -99,6 +100,9 @@ module _ (L : Limits) (b : BoardBuilder) (part : List ℕ) (n : ℕ) (w : Writab
   pub counted-long : length (take (actionSize * n) part) ≡ actionSize * n
   unfolding bs
   counted-long = long
+
+pub limits-are-countable : LimitsAreCountable
+limits-are-countable = omega (arith, reach-five)
 
 pub written-reads-back : WrittenReadsBack
 unfolding rollAnswer rollOver

@@ -13,7 +13,7 @@ use Rattle.board_builder.specs.BoardBuilder.{inRange, numbersInRange, boardOf, 
 use Rattle.action.specs.Layout.{actionSize}
 use Rattle.actions.specs.Part.{movesIn, actionsHeld}
 use Rattle.position.specs.Layout.{positionAt}
-use Rattle.game_rules.specs.Limits.{Limits, actionsLength}
+use Rattle.game_rules.specs.Limits.{Limits, limits, actionsLength}
 use Rattle.game_rules.specs.Good.{Good}
 use Rattle.game_rules.specs.Calls.{longEnough}
 use Rattle.roll_text.specs.declared.Roll.{Roll}
@@ -33,6 +33,10 @@ pub record Game (L : Limits) (numbers : List ℕ) (n : ℕ) (bs : List ℕ) : Ty
 -- five groups hold the count
 abbrev pub Countable : Limits → Type 0
 Countable L = L .most-actions < reach mostGroups
+
+-- those of document 01 do
+abbrev pub LimitsAreCountable : Type 0
+LimitsAreCountable = Countable limits
 
 -- a written roll reads back
 abbrev pub RollsReadBack : Type 0
