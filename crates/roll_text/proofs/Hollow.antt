@@ -118,8 +118,8 @@ one-constant-action-fails L w r some same-answer same-room back =
     let i = back emptyBoard q 1 (s ++ t) old (black-offers L some) (black-bytes L) (fits-second s t) long in
     let texts : wrote w emptyBoard p 1 (s ++ t) ≡ wrote w emptyBoard q 1 (s ++ t)
     = ap₂ (λ (a : Answer) (l : List ℕ). take (a .value) l)
-    (same-answer emptyBoard p q 1 (length (s ++ t)))
-    (same-room emptyBoard p q 1 (s ++ t)) in
+    (same-answer emptyBoard p q 1 (length (s ++ t)) (white-offers L some) (black-offers L some))
+    (same-room emptyBoard p q 1 (s ++ t) (white-offers L some) (black-offers L some)) in
     let parts = sym (e .actions) ∙ ap (λ (l : List ℕ). r .part l old) texts ∙ i .actions in
     let colours : _≡_ {A = ℕ} 0 1 = sym (colour-read L 0) ∙ ap (λ (l : List ℕ). getD l 1 0) parts ∙ colour-read L 1 in
     omega arith

@@ -195,12 +195,12 @@ OneConstantStartFails =
     → ReadsBack L w r
     → ⊥
 
--- .. nor, where one action is allowed, by one that takes no notice of the actions ..
+-- .. nor, where one action is allowed, by one that takes no notice of which actions in range it is given ..
 abbrev pub OneConstantActionFails : Type 0
 OneConstantActionFails =
     (L : Limits) (w : Writer) (r : Reader) → 0 < L .most-actions
-    → ((b : BoardBuilder) (p q : List ℕ) (n room : ℕ) → w .answer b p n room ≡ w .answer b q n room)
-    → ((b : BoardBuilder) (p q : List ℕ) (n : ℕ) (out : List ℕ) → w .room b p n out ≡ w .room b q n out)
+    → ((b : BoardBuilder) (p q : List ℕ) (n room : ℕ) → Writable L b p n → Writable L b q n → w .answer b p n room ≡ w .answer b q n room)
+    → ((b : BoardBuilder) (p q : List ℕ) (n : ℕ) (out : List ℕ) → Writable L b p n → Writable L b q n → w .room b p n out ≡ w .room b q n out)
     → ReadsBack L w r
     → ⊥
 
