@@ -5,3 +5,11 @@ pub mod Forth
 pub mod Bounds
 pub mod ByFields
 pub mod Plain
+pub mod Counted
+pub mod ReadsBack
+pub mod Refusals
+pub mod WritesBack
+pub mod OfGood
+pub mod Hollow
+pub mod AtSmallest
+pub mod OneEach

@@ -1,0 +1,40 @@
+-- Numbers and refusals of a roll at their smallest, each row computed.
+-- Assumes nothing.
+use mathlib.Core.Path.{refl}
+use Rattle.square.specs.Answer.{writeAnswer}
+use Rattle.square.specs.Numbers.{allAtMost}
+use Rattle.board_builder.specs.BoardBuilder.{inRange, numbers}
+use Rattle.action.specs.Layout.{actionOf}
+use Rattle.actions.specs.Part.{movesIn, actionsHeld}
+use Rattle.roll_text.specs.Number.{groups, behind, readGroups}
+use Rattle.roll_text.specs.Roll.{largestNumbers, numbersText, actionsText, rollText, isCode, putNumber, oneNumber, readNumbers, movedBy, coded}
+use Rattle.roll_text.specs.Roll.{putAction, next, readActions, withActions, withCount, withFront, readRoll}
+use Rattle.roll_text.specs.Calls.{rollAnswer, judged, writeCheck}
+use Rattle.roll_text.specs.AtSmallest.{NumbersAtSmallest, ReadingAtSmallest, WritingAtSmallest}
+
+pub numbers-at-smallest : NumbersAtSmallest
+unfolding groups behind readGroups
+numbers-at-smallest =
+    record { one-group = refl; lowest-first = refl; reads = refl; cut-short = refl; needless = refl; six-groups = refl }
+
+pub reading-at-smallest : ReadingAtSmallest
+unfolding behind readGroups largestNumbers isCode putNumber oneNumber readNumbers movedBy coded putAction next readActions withActions withCount withFront
+    readRoll rollAnswer judged
+reading-at-smallest =
+    record {
+      gives-16 = refl;
+      gives-5 = refl;
+      shortest-before-5 = refl;
+      count-gives-13 = refl;
+      shortest-before-13 = refl;
+      move-gives-13 = refl;
+      code-gives-17 = refl;
+      too-short = refl;
+      too-long = refl;
+      accepted = refl;
+    }
+
+pub writing-at-smallest : WritingAtSmallest
+unfolding writeAnswer allAtMost inRange numbers actionOf movesIn actionsHeld groups numbersText actionsText rollText writeCheck
+writing-at-smallest =
+    record { gives-16 = refl; gives-5 = refl; count-gives-13 = refl; move-gives-13 = refl; gives-17 = refl; gives-7 = refl; accepted = refl }

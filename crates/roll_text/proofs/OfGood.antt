@@ -1,0 +1,62 @@
+-- A good log can be written as a roll.
+-- Assumes nothing.
+use mathlib.Core.Path.{_≡_, refl, ap, ap₂}
+use mathlib.Core.Bool.{Bool, true, false, _&&_}
+use mathlib.Core.List.{List}
+use Prim.Native.Nat.{ℕ, zero, suc}
+use native.Mathlib.Omega.{arith}
+use lib.Dec.{eqb, leb}
+use lib.ListN.{length}
+use borrow.Author.Tests.{leb-true, eqb-true}
+use Rattle.square.specs.Parts.{item}
+use Rattle.square.specs.Numbers.{same}
+use Rattle.square.proofs.Numbers.{both-left, both-right}
+use Rattle.board_builder.specs.BoardBuilder.{numbersInRange}
+use Rattle.actions.specs.Part.{isHeld, actionsHeld}
+use Rattle.position.specs.Layout.{Position, positionSize, positionAt, positionOf}
+use Rattle.stored_position.specs.Bytes.{positionBytes, positionCheck, isPosition}
+use Rattle.stored_position.proofs.Checks.{bad-board}
+use Rattle.game_rules.specs.Limits.{Limits, actionsLength, positionsLength}
+use Rattle.game_rules.specs.Good.{sound, nextSound}
+use Rattle.game_rules.proofs.Checks.{actions-most, moves-most}
+use Rattle.game_rules.proofs.Decide.{holding-reads}
+use Rattle.game_rules.proofs.Log.{sound-held}
+use Rattle.roll_text.specs.Promises.{GoodIsWritable}
+use Rattle.roll_text.proofs.WritesBack.{record-in-range}
+
+-- each action of a sound log is one
+sound-all-held : (L : Limits) (acts ps : List ℕ) (n : ℕ) → sound L acts ps n ≡ true → actionsHeld acts n ≡ true
+unfolding sound actionsHeld
+sound-all-held L acts ps zero e = refl
+sound-all-held L acts ps (suc i) e =
+    ap₂ _&&_ (sound-all-held L acts ps i (both-left (sound L acts ps i) (nextSound L acts ps i) e))
+    (ap isHeld (sound-held L acts ps i (both-right (sound L acts ps i) (nextSound L acts ps i) e)))
+
+-- its start is a position
+sound-start : (L : Limits) (acts ps : List ℕ) (n : ℕ) → sound L acts ps n ≡ true → isPosition (item positionSize ps 0) ≡ true
+unfolding sound
+sound-start L acts ps zero e = e
+sound-start L acts ps (suc i) e = sound-start L acts ps i (both-left (sound L acts ps i) (nextSound L acts ps i) e)
+
+start-passes : (s : List ℕ) → isPosition s ≡ true → positionCheck (positionOf s) ≡ 0
+unfolding isPosition
+start-passes s e = eqb-true (positionCheck (positionOf s)) 0 (both-left (eqb (positionCheck (positionOf s)) 0) (same s (positionBytes (positionOf s))) e)
+
+passes-in-range : (p : Position) → positionCheck p ≡ 0 → numbersInRange (p .board) ≡ true
+passes-in-range p e = by (numbersInRange (p .board)) refl
+  where
+    by : (t : Bool) → numbersInRange (p .board) ≡ t → numbersInRange (p .board) ≡ true
+    by true f = f
+    by false f = absurd (omega (arith, bad-board p f, e))
+
+pub good-is-writable : GoodIsWritable
+good-is-writable L acts ps n m long (h, a, g) =
+    let r = holding-reads L acts ps n m h a g in
+    let first = sound-start L acts ps n (r .ok) in
+    record {
+      start = record-in-range (positionAt ps 0 .board) (passes-in-range (positionAt ps 0) (start-passes (item positionSize ps 0) first));
+      long = leb-true _ _ (both-left (leb (actionsLength L) (length acts)) (leb (positionsLength L) (length ps)) long);
+      few = omega (arith, g .action-count, actions-most L h a);
+      few-moves = omega (arith, r .count, g .move-count, moves-most L h a);
+      held = sound-all-held L acts ps n (r .ok);
+    }

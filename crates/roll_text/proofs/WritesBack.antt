@@ -1,0 +1,126 @@
+-- What a read leaves, accepted or refused, and that each accepted roll is written back as it came.
+-- Assumes nothing.
+use mathlib.Core.Path.{_≡_, refl, ap, sym, _∙_}
+use mathlib.Core.Bool.{Bool, true, false}
+use mathlib.Core.List.{List}
+use Prim.Native.Nat.{ℕ, _*_, _≤_}
+use native.Mathlib.Omega.{arith}
+use lib.Dec.{eqb, ltb}
+use lib.ListN.{length, drop, length-append, length-drop}
+use lib.Seq.{take-at, drop-at}
+use borrow.Author.Tests.{ltb-false}
+use Rattle.square.specs.declared.Answer.{Answer}
+use Rattle.square.specs.Answer.{partTooShort, overwrite}
+use Rattle.square.specs.Numbers.{allAtMost}
+use Rattle.square.proofs.Numbers.{both-right}
+use Rattle.board_builder.specs.BoardBuilder.{recordSize, inRange, numbersInRange, boardOf}
+use Rattle.board_builder.proofs.Numbers.{record-of-numbers}
+use Rattle.action.specs.Layout.{actionSize}
+use Rattle.game_rules.specs.Limits.{Limits, actionsLength}
+use Rattle.roll_text.specs.Roll.{Rolled, refusal, rolled, largestNumbers, rollText, readRoll}
+use Rattle.roll_text.specs.Calls.{rollAnswer, rollOver, judged, gameText}
+use Rattle.roll_text.specs.Promises.{Game, WrittenBack, rollReader, rollWriter, Writable, GivesGame, WrittenAgain}
+use Rattle.roll_text.specs.Promises.{AcceptedReads, RefusedReads, ReadIsWrittenBack}
+use Rattle.roll_text.proofs.Forth.{accepted-written-back}
+use Rattle.roll_text.proofs.Bounds.{bounds-length, long-bounds, bounds-are-the-records}
+use Rattle.roll_text.proofs.Counted.{roll-counted, held-counted, moves-counted}
+use Rattle.roll_text.proofs.ReadsBack.{writes}
+use Rattle.roll_text.proofs.Refusals.{judged-told, accepted-rolled}
+
+-- ---- refused
+
+gives-nothing : (x : Rolled) (old : List ℕ) → (rollAnswer x .number ≡ 0 → ⊥)
+    → (rollAnswer x .actions ≡ 0) × (rollAnswer x .board ≡ rollAnswer (refusal 0) .board) × (rollOver x old ≡ old)
+unfolding rollAnswer rollOver
+gives-nothing (refusal k) old h = (refl, refl, refl)
+gives-nothing (rolled xs n bs) old h = absurd (h refl)
+
+pub refused-reads : RefusedReads
+unfolding rollAnswer
+refused-reads L s old h =
+    let (a, b, c) = gives-nothing (judged L s (length old)) old h in
+    record { no-actions = a; empty = b; unchanged = c }
+
+-- ---- accepted
+
+-- a part that is long enough, and a roll that is read
+record Judged (L : Limits) (s : List ℕ) (room : ℕ) (xs : List ℕ) (n : ℕ) (bs : List ℕ) : Type 0 where
+  enough : actionsLength L ≤ room
+  read : readRoll L s ≡ rolled xs n bs
+
+judged-read : (L : Limits) (s : List ℕ) (room : ℕ) (xs : List ℕ) (n : ℕ) (bs : List ℕ) → judged L s room ≡ rolled xs n bs → Judged L s room xs n bs
+unfolding judged
+judged-read L s room xs n bs e = by (ltb room (actionsLength L)) refl
+  where
+    by : (t : Bool) → ltb room (actionsLength L) ≡ t → Judged L s room xs n bs
+    by true f =
+        let g : refusal partTooShort ≡ rolled xs n bs = simp f at e in
+        let z : _≡_ {A = ℕ} 0 1 = cc in absurd (omega arith)
+    by false f = record { enough = ltb-false room (actionsLength L) f; read = simp f at e }
+
+pub record-in-range : (xs : List ℕ) → numbersInRange xs ≡ true → inRange (boardOf xs) ≡ true
+unfolding numbersInRange
+record-in-range xs e = both-right (eqb (length xs) recordSize) (inRange (boardOf xs)) e
+
+-- what an accepted read gives back, by the roll's start xs, count n and actions bs
+module _ (L : Limits) (s old xs : List ℕ) (n : ℕ) (bs : List ℕ) (small : allAtMost 255 s ≡ true) (is : judged L s (length old) ≡ rolled xs n bs) where
+  enough : actionsLength L ≤ length old
+  enough = judged-read L s (length old) xs n bs is .enough
+
+  back : WrittenBack L s xs n bs
+  back = accepted-written-back L s xs n bs small (judged-read L s (length old) xs n bs is .read)
+
+  game : Game L xs n bs
+  game = back .game
+
+  fits : length bs ≤ length old
+  fits = omega (arith, game .long, game .few, enough)
+
+  as-long : length (overwrite bs old) ≡ length old
+  as-long = length-append bs (drop (length bs) old) ∙ omega (arith, length-drop (length bs) old, fits)
+
+  writable : Writable L (boardOf xs) (overwrite bs old) n
+  writable =
+      record {
+        start = record-in-range xs (sym (bounds-are-the-records xs) ∙ game .start);
+        long = omega (arith, as-long, enough);
+        few = game .few;
+        few-moves = omega (arith, moves-counted n bs (drop (length bs) old) (game .long), game .few-moves);
+        held = held-counted n bs (drop (length bs) old) (game .long) ∙ game .in-range;
+      }
+
+  text : gameText (boardOf xs) (overwrite bs old) n ≡ s
+  text =
+      ap (λ (l : List ℕ). rollText l n (overwrite bs old)) (record-of-numbers xs (bounds-length largestNumbers xs (game .start) ∙ long-bounds))
+      ∙ roll-counted n bs (drop (length bs) old) (game .long) xs
+      ∙ sym (back .text)
+
+  pub gives : GivesGame L (rollReader L) s old
+  unfolding rollAnswer rollOver
+  gives =
+      record {
+        game = rw is writable;
+        long = rw is as-long;
+        bytes = rw is (ap (allAtMost 255) (take-at bs (drop (length bs) old) (actionSize * n) (game .long)) ∙ game .bytes);
+        behind = rw is (drop-at bs (drop (length bs) old) (actionSize * n) (game .long) ∙ ap (λ (i : ℕ). drop i old) (game .long));
+      }
+
+  pub again : (out : List ℕ) → length s ≤ length out → WrittenAgain (rollWriter L) (rollReader L) s old out
+  unfolding rollAnswer rollOver
+  again out room =
+      let o = writes L (boardOf xs) (overwrite bs old) n out writable (omega (arith, ap length text, room)) in
+      record {
+        accepts = rw is (ap (λ (a : Answer). a .number) (o .answer));
+        long = rw is (ap (λ (a : Answer). a .value) (o .answer) ∙ ap length text);
+        same-bytes = rw is (o .bytes ∙ text);
+      }
+
+pub accepted-reads : AcceptedReads
+accepted-reads L s old small e =
+    let r = accepted-rolled (judged L s (length old)) (judged-told L s (length old)) e in
+    gives L s old (r .start) (r .count) (r .actions) small (r .is)
+
+pub read-is-written-back : ReadIsWrittenBack
+read-is-written-back L s old out small e room =
+    let r = accepted-rolled (judged L s (length old)) (judged-told L s (length old)) e in
+    again L s old (r .start) (r .count) (r .actions) small (r .is) out room
