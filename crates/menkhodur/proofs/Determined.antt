@@ -158,7 +158,8 @@ menkhodur-game-declare-draw-acts κs a x y e f p q = p .1 ∙ sym (q .1)
 pub menkhodur-game-result-answer : OneAnswer menkhodur-game-result·k.ps menkhodur-game-result·k.r menkhodur-game-result.Learnt
 menkhodur-game-result-answer κs a x y e f p q = p ∙ sym q
 
-pub menkhodur-game-can-declare-draw-answer : OneAnswer menkhodur-game-can-declare-draw·k.ps menkhodur-game-can-declare-draw·k.r menkhodur-game-can-declare-draw.Learnt
+pub menkhodur-game-can-declare-draw-answer : OneAnswer menkhodur-game-can-declare-draw·k.ps menkhodur-game-can-declare-draw·k.r
+    menkhodur-game-can-declare-draw.Learnt
 menkhodur-game-can-declare-draw-answer κs a x y e f p q = p ∙ sym q
 
 pub menkhodur-roll-write-answer : OneAnswer menkhodur-roll-write·k.ps menkhodur-roll-write·k.r menkhodur-roll-write.Learnt

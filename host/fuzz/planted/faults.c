@@ -1,0 +1,172 @@
+/* Archives with one fault each, to see that the harness finds it: `run` builds this file with FAULT set and puts it before the archive's own
+ * function, which it renames. WRAPS or RARE in a comment names the function for `run`; a RARE fault shows only at values that no branch of
+ * the archive's code tells from others, and a minute may not be enough to find it. */
+#include "../../menkhodur.h"
+
+#include <string.h>
+
+#if FAULT == 1 /* WRAPS fen_write: one byte behind its text is written */
+menkhodur_answer real_fen_write(menkhodur_board b, uint8_t *out, size_t room);
+menkhodur_answer menkhodur_fen_write(menkhodur_board b, uint8_t *out, size_t room)
+{
+    menkhodur_answer a = real_fen_write(b, out, room);
+    if (a.number == 0 && a.value < room) out[a.value] = 0;
+    return a;
+}
+#elif FAULT == 2 /* WRAPS san_name: a byte is written before the room is found too short */
+menkhodur_answer real_san_name(menkhodur_board b, const uint16_t *list, size_t entries, uint64_t move, uint8_t *out, size_t room);
+menkhodur_answer menkhodur_san_name(menkhodur_board b, const uint16_t *list, size_t entries, uint64_t move, uint8_t *out, size_t room)
+{
+    menkhodur_answer a = real_san_name(b, list, entries, move, out, room);
+    if (a.number == 7 && room) out[0] = 'N';
+    return a;
+}
+#elif FAULT == 3 /* WRAPS san_name: the length of a name with a mark is one too long */
+menkhodur_answer real_san_name(menkhodur_board b, const uint16_t *list, size_t entries, uint64_t move, uint8_t *out, size_t room);
+menkhodur_answer menkhodur_san_name(menkhodur_board b, const uint16_t *list, size_t entries, uint64_t move, uint8_t *out, size_t room)
+{
+    menkhodur_answer a = real_san_name(b, list, entries, move, out, room);
+    if (a.number == 0 && a.value > 8) a.value++;
+    return a;
+}
+#elif FAULT == 4 /* WRAPS game_make_move: 12 and 13 are swapped */
+menkhodur_counts real_game_make_move(uint8_t *a, size_t al, uint8_t *p, size_t pl, uint64_t ac, uint64_t mc, uint64_t move,
+                                     menkhodur_board next, uint8_t in_check, const uint16_t *list, size_t entries);
+menkhodur_counts menkhodur_game_make_move(uint8_t *a, size_t al, uint8_t *p, size_t pl, uint64_t ac, uint64_t mc, uint64_t move,
+                                          menkhodur_board next, uint8_t in_check, const uint16_t *list, size_t entries)
+{
+    menkhodur_counts c = real_game_make_move(a, al, p, pl, ac, mc, move, next, in_check, list, entries);
+    if (c.number == 12 || c.number == 13) c.number = 25 - c.number;
+    return c;
+}
+#elif FAULT == 5 /* WRAPS fen_read: one byte behind the text is read */
+menkhodur_fen real_fen_read(const uint8_t *text, size_t length);
+menkhodur_fen menkhodur_fen_read(const uint8_t *text, size_t length)
+{
+    menkhodur_fen f = real_fen_read(text, length);
+    f.offset = length > 60 && ((const volatile uint8_t *)text)[length] == 0xFF && f.number == 99;
+    return f;
+}
+#elif FAULT == 6 /* WRAPS game_resign: black's resignation changes a byte of the positions */
+menkhodur_counts real_game_resign(uint8_t *a, size_t al, const uint8_t *p, size_t pl, uint64_t ac, uint64_t mc, uint8_t colour);
+menkhodur_counts menkhodur_game_resign(uint8_t *a, size_t al, const uint8_t *p, size_t pl, uint64_t ac, uint64_t mc, uint8_t colour)
+{
+    menkhodur_counts c = real_game_resign(a, al, p, pl, ac, mc, colour);
+    if (c.number == 0) ((uint8_t *)p)[MENKHODUR_POSITION_SIZE * mc + 579] ^= colour;
+    return c;
+}
+#elif FAULT == 7 /* WRAPS game_result: 9 stands before 16 */
+menkhodur_answer real_game_result(const uint8_t *a, size_t al, const uint8_t *p, size_t pl, uint64_t ac, uint64_t mc);
+menkhodur_answer menkhodur_game_result(const uint8_t *a, size_t al, const uint8_t *p, size_t pl, uint64_t ac, uint64_t mc)
+{
+    menkhodur_answer r = real_game_result(a, al, p, pl, ac, mc);
+    if (r.number == 16 && (ac > MENKHODUR_MAX_ACTIONS || mc > MENKHODUR_MAX_MOVES)) r.number = 9;
+    return r;
+}
+#elif FAULT == 8 /* WRAPS game_start: a byte of a long list is lost */
+menkhodur_counts real_game_start(uint8_t *a, size_t al, uint8_t *p, size_t pl, menkhodur_board b, uint8_t check, const uint16_t *list, size_t entries);
+menkhodur_counts menkhodur_game_start(uint8_t *a, size_t al, uint8_t *p, size_t pl, menkhodur_board b, uint8_t check, const uint16_t *list, size_t entries)
+{
+    menkhodur_counts c = real_game_start(a, al, p, pl, b, check, list, entries);
+    if (c.number == 0 && entries > 200) p[70 + 2 * entries - 1] = 0;
+    return c;
+}
+#elif FAULT == 9 /* WRAPS game_can_declare_draw: a claim stands at 99 moves */
+menkhodur_answer real_game_can_declare_draw(const uint8_t *a, size_t al, const uint8_t *p, size_t pl, uint64_t ac, uint64_t mc);
+menkhodur_answer menkhodur_game_can_declare_draw(const uint8_t *a, size_t al, const uint8_t *p, size_t pl, uint64_t ac, uint64_t mc)
+{
+    menkhodur_answer r = real_game_can_declare_draw(a, al, p, pl, ac, mc);
+    if (r.number == 0 && mc == 99) r.value = 1;
+    return r;
+}
+#elif FAULT == 10 /* WRAPS game_offer_draw: an offer refused with 10 is counted */
+menkhodur_counts real_game_offer_draw(uint8_t *a, size_t al, const uint8_t *p, size_t pl, uint64_t ac, uint64_t mc, uint8_t colour);
+menkhodur_counts menkhodur_game_offer_draw(uint8_t *a, size_t al, const uint8_t *p, size_t pl, uint64_t ac, uint64_t mc, uint8_t colour)
+{
+    menkhodur_counts c = real_game_offer_draw(a, al, p, pl, ac, mc, colour);
+    c.actions += c.number == 10;
+    return c;
+}
+#elif FAULT == 11 /* WRAPS move_write: a move over 65,535 is cut to 16 bits */
+menkhodur_answer real_move_write(uint64_t move, uint8_t *out, size_t room);
+menkhodur_answer menkhodur_move_write(uint64_t move, uint8_t *out, size_t room)
+{
+    return real_move_write((uint16_t)move, out, room);
+}
+#elif FAULT == 12 /* WRAPS san_read: O-O-O# is read as O-O-O */
+menkhodur_answer real_san_read(menkhodur_board b, const uint16_t *list, size_t entries, const uint8_t *text, size_t length);
+menkhodur_answer menkhodur_san_read(menkhodur_board b, const uint16_t *list, size_t entries, const uint8_t *text, size_t length)
+{
+    return real_san_read(b, list, entries, text, length == 6 && memcmp(text, "O-O-O#", 6) == 0 ? 5 : length);
+}
+#elif FAULT == 13 /* WRAPS move_read: something is kept between calls */
+menkhodur_answer real_move_read(const uint8_t *text, size_t length);
+menkhodur_answer menkhodur_move_read(const uint8_t *text, size_t length)
+{
+    static uint8_t last;
+    menkhodur_answer a = real_move_read(text, length);
+    if (a.number == 0 && last == 'h' && text[0] == 'b') a.value ^= 1;
+    last = length ? text[0] : 0;
+    return a;
+}
+#elif FAULT == 14 /* WRAPS game_accept_draw: the offer of the side to move stands after the other's move */
+menkhodur_counts real_game_accept_draw(uint8_t *a, size_t al, const uint8_t *p, size_t pl, uint64_t ac, uint64_t mc);
+menkhodur_counts menkhodur_game_accept_draw(uint8_t *a, size_t al, const uint8_t *p, size_t pl, uint64_t ac, uint64_t mc)
+{
+    menkhodur_counts c = real_game_accept_draw(a, al, p, pl, ac, mc);
+    if (c.number == 14 && ac >= 2 && ac < MENKHODUR_MAX_ACTIONS && a[4 * ac - 8] == 2 && a[4 * ac - 4] == 1) {
+        memcpy(a + 4 * ac, "\3\0\0", 4);
+        c = (menkhodur_counts){ 0, ac + 1, mc };
+    }
+    return c;
+}
+#elif FAULT == 15 /* WRAPS fen_read: black's queen side right is lost in texts of more than 300 bytes */
+menkhodur_fen real_fen_read(const uint8_t *text, size_t length);
+menkhodur_fen menkhodur_fen_read(const uint8_t *text, size_t length)
+{
+    menkhodur_fen f = real_fen_read(text, length);
+    if (f.number == 0 && length > 300) f.board.black_castle_rights &= 1;
+    return f;
+}
+#elif FAULT == 16 /* RARE move_read: the one text h8a1r is read as another move */
+menkhodur_answer real_move_read(const uint8_t *text, size_t length);
+menkhodur_answer menkhodur_move_read(const uint8_t *text, size_t length)
+{
+    menkhodur_answer a = real_move_read(text, length);
+    if (length == 5 && memcmp(text, "h8a1r", 5) == 0) a.value++;
+    return a;
+}
+#elif FAULT == 17 /* WRAPS san_read: a list of exactly 255 entries is refused */
+menkhodur_answer real_san_read(menkhodur_board b, const uint16_t *list, size_t entries, const uint8_t *text, size_t length);
+menkhodur_answer menkhodur_san_read(menkhodur_board b, const uint16_t *list, size_t entries, const uint8_t *text, size_t length)
+{
+    menkhodur_answer a = real_san_read(b, list, entries, text, length);
+    return entries == 255 ? (menkhodur_answer){ 6, 0 } : a;
+}
+#elif FAULT == 18 /* RARE game_declare_draw: an accepted claim after an odd number of moves names black */
+menkhodur_counts real_game_declare_draw(uint8_t *a, size_t al, const uint8_t *p, size_t pl, uint64_t ac, uint64_t mc);
+menkhodur_counts menkhodur_game_declare_draw(uint8_t *a, size_t al, const uint8_t *p, size_t pl, uint64_t ac, uint64_t mc)
+{
+    menkhodur_counts c = real_game_declare_draw(a, al, p, pl, ac, mc);
+    if (c.number == 0) a[4 * ac + 1] = mc % 2;
+    return c;
+}
+#elif FAULT == 19 /* WRAPS fen_write: file h has rank 6 with black to move too */
+menkhodur_answer real_fen_write(menkhodur_board b, uint8_t *out, size_t room);
+menkhodur_answer menkhodur_fen_write(menkhodur_board b, uint8_t *out, size_t room)
+{
+    menkhodur_answer a = real_fen_write(b, out, room);
+    if (a.number == 0 && b.side_to_move && b.en_passant == 8) out[a.value - 5] = '6';
+    return a;
+}
+#elif FAULT == 20 /* RARE game_make_move: the last entry of a list of exactly 128 is changed */
+menkhodur_counts real_game_make_move(uint8_t *a, size_t al, uint8_t *p, size_t pl, uint64_t ac, uint64_t mc, uint64_t move,
+                                     menkhodur_board next, uint8_t in_check, const uint16_t *list, size_t entries);
+menkhodur_counts menkhodur_game_make_move(uint8_t *a, size_t al, uint8_t *p, size_t pl, uint64_t ac, uint64_t mc, uint64_t move,
+                                          menkhodur_board next, uint8_t in_check, const uint16_t *list, size_t entries)
+{
+    menkhodur_counts c = real_game_make_move(a, al, p, pl, ac, mc, move, next, in_check, list, entries);
+    if (c.number == 0 && entries == 128) p[MENKHODUR_POSITION_SIZE * (mc + 1) + 70 + 2 * 127] ^= 1;
+    return c;
+}
+#endif

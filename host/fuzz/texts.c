@@ -1,0 +1,354 @@
+/* Squares, rights, board steps and texts: what document 01 says of their answers and of the bytes lent. */
+#include "fuzz.h"
+
+#include <string.h>
+
+static struct lent text_part, room_part;
+
+static const char letters[] = " pnbrqk";
+
+void texts_begin(void)
+{
+    if (!text_part.low) lent_make(&text_part, MOST_TEXT);
+    if (!room_part.low) lent_make(&room_part, MOST_TEXT);
+}
+
+static menkhodur_answer accepted_if(bool accepted, uint64_t value, uint64_t otherwise)
+{
+    return (menkhodur_answer){ accepted ? MENKHODUR_ACCEPTED : otherwise, accepted ? value : 0 };
+}
+
+/* ---- Squares, rights, steps ---- */
+
+void call_version(struct input *in)
+{
+    (void)in;
+    about("version");
+    for (unsigned turn = 0; turn < 2; turn++) expect("version", MENKHODUR_VERSION, CALL(turn, menkhodur_version));
+}
+
+void call_make_square(struct input *in)
+{
+    uint8_t rank = take(in), file = take(in);
+    about("make_square");
+    for (unsigned turn = 0; turn < 2; turn++)
+        expect_answer(accepted_if(rank < 8 && file < 8, 8u * rank + file, 5), CALL(turn, menkhodur_make_square, rank, file));
+}
+
+void call_rights(struct input *in)
+{
+    uint8_t rights = take(in), other = take(in);
+    for (unsigned turn = 0; turn < 2; turn++) {
+        bool good = rights < 4 && other < 4;
+        about("rights_add");
+        expect_answer(accepted_if(good, rights | other, 5), CALL(turn, menkhodur_rights_add, rights, other));
+        about("rights_remove");
+        expect_answer(accepted_if(good, rights & ~other & 3u, 5), CALL(turn, menkhodur_rights_remove, rights, other));
+    }
+}
+
+void call_square_rights(struct input *in)
+{
+    static const uint8_t by_file[8] = { 2, 0, 0, 0, 3, 0, 0, 1 };
+    uint8_t colour = take(in), square = take(in);
+    uint64_t rights = square / 8 == (colour ? 7 : 0) ? by_file[square % 8] : 0;
+    about("square_rights");
+    for (unsigned turn = 0; turn < 2; turn++)
+        expect_answer(accepted_if(colour < 2 && square < 64, rights, 5), CALL(turn, menkhodur_square_rights, colour, square));
+}
+
+/* Which number a step sets, 68 if a parameter is out of range. */
+static unsigned number_set(unsigned which, uint8_t first, uint8_t second)
+{
+    switch (which) {
+    case 0: return first < 64 && second >= 1 && second <= 12 ? first : 68;
+    case 1: return first < 64 ? first : 68;
+    case 2: return first < 2 ? 64 : 68;
+    case 3: return first < 2 && second < 4 ? 65u + first : 68;
+    default: return first < 9 ? 67 : 68;
+    }
+}
+
+static menkhodur_stepped board_step(unsigned turn, unsigned which, menkhodur_board b, uint8_t first, uint8_t second)
+{
+    static const char *const names[5] = { "piece", "clear_square", "side_to_move", "castle_rights", "en_passant" };
+    about(names[which]);
+    switch (which) {
+    case 0: return CALL(turn, menkhodur_piece, b, first, second);
+    case 1: return CALL(turn, menkhodur_clear_square, b, first);
+    case 2: return CALL(turn, menkhodur_side_to_move, b, first);
+    case 3: return CALL(turn, menkhodur_castle_rights, b, first, second);
+    default: return CALL(turn, menkhodur_en_passant, b, first);
+    }
+}
+
+void call_board_step(struct input *in)
+{
+    unsigned which = take(in) % 5;
+    uint8_t first = take(in), second = take(in);
+    unsigned at = board_good(&in->board) ? number_set(which, first, second) : 68;
+    menkhodur_board want = in->board;
+    if (at < 68) *number_of(&want, at) = which == 0 || which == 3 ? second : which == 1 ? 0 : first;
+    for (unsigned turn = 0; turn < 2; turn++) {
+        menkhodur_stepped got = board_step(turn, which, in->board, first, second);
+        expect("number", at < 68 ? 0 : 5, got.number);
+        expect_bytes("board", &want, &got.board, sizeof want);
+    }
+    in->board = want;
+}
+
+/* ---- Texts, lent ---- */
+
+static void lend_text(struct input *in, unsigned turn)
+{
+    lend(&text_part, in->length, in->front, turn);
+    lent_put(&text_part, 0, in->text, in->length);
+}
+
+/* The room that the input asks for: any, or the text's own length and a byte around it. */
+static size_t take_room(struct input *in, size_t length)
+{
+    unsigned room = take(in);
+    if (room < 100) return room;
+    if (room < 120) return length;
+    if (room < 140) return length - (length > 0);
+    return length + room % 16;
+}
+
+/* After a writer's call: the whole room is as before, but for the text of an accepted one. */
+static void expect_room(menkhodur_answer got, const uint8_t *text)
+{
+    if (got.number == MENKHODUR_ACCEPTED) lent_expect(&room_part, 0, text, got.value);
+    lent_same("room", &room_part);
+}
+
+/* ---- FEN ---- */
+
+static int code_of(uint8_t byte)
+{
+    const char *at = byte ? strchr(letters + 1, byte | 0x20) : NULL;
+    if (!at) return -1;
+    return (int)(at - letters) + (byte & 0x20 ? 6 : 0);
+}
+
+/* Document 01's placement: files and ranks step around, and a later man stands over an earlier one. */
+static bool place(const uint8_t *text, size_t length, menkhodur_board *b)
+{
+    unsigned rank = 7, file = 0;
+    for (size_t i = 0; i < length; i++) {
+        uint8_t byte = text[i];
+        bool man = byte != ' ' && code_of(byte) > 0;
+        if (byte == '/') rank += 7, file = 0;
+        else if (byte >= '1' && byte <= '8') file += byte - '0';
+        else if (man) b->pieces[rank % 8 * 8 + file % 8] = (uint8_t)code_of(byte), file++;
+        else return false;
+    }
+    return true;
+}
+
+struct tokens {
+    const uint8_t *at[4];
+    size_t length[4];
+    unsigned count;
+};
+
+static struct tokens split(const uint8_t *text, size_t length)
+{
+    struct tokens t = { { text }, { 0 }, 1 };
+    for (size_t i = 0; i < length; i++) {
+        if (text[i] != ' ') t.length[t.count - 1]++;
+        else if (t.count < 4) t.at[t.count++] = text + i + 1;
+        else break;
+    }
+    return t;
+}
+
+static bool has(const struct tokens *t, char letter)
+{
+    return t->length[2] && memchr(t->at[2], letter, t->length[2]);
+}
+
+static bool model_read(const uint8_t *text, size_t length, menkhodur_board *b)
+{
+    struct tokens t = split(text, length);
+    const uint8_t *square = t.at[3];
+    memset(b, 0, sizeof *b);
+    if (t.count < 4 || !place(t.at[0], t.length[0], b)) return false;
+    if (t.length[1] != 1 || !memchr("wWbB", t.at[1][0], 4)) return false;
+    b->side_to_move = (t.at[1][0] | 0x20) == 'b';
+    b->white_castle_rights = (uint8_t)(has(&t, 'K') + 2 * has(&t, 'Q'));
+    b->black_castle_rights = (uint8_t)(has(&t, 'k') + 2 * has(&t, 'q'));
+    if (t.length[3] >= 2 && square[0] >= 'a' && square[0] <= 'h' && square[1] >= '1' && square[1] <= '8')
+        b->en_passant = (uint8_t)(square[0] - 'a' + 1);
+    return true;
+}
+
+/* ---- FEN, written ---- */
+
+static size_t put_rank(const uint8_t *men, uint8_t *text)
+{
+    size_t at = 0, empty = 0;
+    for (unsigned file = 0; file < 8; file++) {
+        unsigned man = men[file];
+        if (!man && ++empty && file < 7) continue;
+        if (empty) text[at++] = (uint8_t)('0' + empty);
+        if (man) text[at++] = (uint8_t)(man > 6 ? letters[man - 6] : letters[man] - 32);
+        empty = 0;
+    }
+    return at;
+}
+
+/* Document 01's one text of a record in range; the length. */
+static size_t model_fen(const menkhodur_board *b, uint8_t *text)
+{
+    static const char rights[5] = "KQkq";
+    unsigned held = b->white_castle_rights | (unsigned)b->black_castle_rights << 2;
+    size_t at = 0;
+    for (unsigned rank = 8; rank > 0; rank--) {
+        at += put_rank(b->pieces + 8 * (rank - 1), text + at);
+        text[at++] = rank > 1 ? '/' : ' ';
+    }
+    text[at++] = b->side_to_move ? 'b' : 'w';
+    text[at++] = ' ';
+    for (unsigned i = 0; i < 4; i++)
+        if (held >> i & 1) text[at++] = (uint8_t)rights[i];
+    if (!held) text[at++] = '-';
+    text[at++] = ' ';
+    text[at++] = b->en_passant ? (uint8_t)('a' + b->en_passant - 1) : '-';
+    if (b->en_passant) text[at++] = b->side_to_move ? '3' : '6';
+    memcpy(text + at, " 0 1", 4);
+    return at + 4;
+}
+
+static void expect_writes(const menkhodur_board *b, size_t room)
+{
+    uint8_t text[MENKHODUR_LONGEST_FEN + 16];
+    bool good = board_good(b);
+    size_t length = good ? model_fen(b, text) : 0;
+    menkhodur_answer want = { !good ? 5 : room < length ? 7 : 0, length };
+    for (unsigned turn = 0; turn < 2; turn++) {
+        menkhodur_answer got;
+        lend(&room_part, room, turn, turn);
+        about("fen_write");
+        got = CALL(turn, menkhodur_fen_write, *b, room ? room_part.bytes : NULL, room);
+        expect_answer(want, got);
+        expect_room(got, text);
+    }
+    if (good) expect("25 to 85 bytes", 1, length >= MENKHODUR_SHORTEST_FEN && length <= MENKHODUR_LONGEST_FEN);
+}
+
+/* The record's FEN reads back to the same record. */
+static void expect_round_trip(const menkhodur_board *b)
+{
+    menkhodur_answer length;
+    menkhodur_fen again;
+    lend(&room_part, MENKHODUR_LONGEST_FEN, false, 0);
+    length = menkhodur_fen_write(*b, room_part.bytes, MENKHODUR_LONGEST_FEN);
+    about("fen_read of what fen_write wrote");
+    expect("number", 0, length.number);
+    again = menkhodur_fen_read(room_part.bytes, length.value);
+    expect("number", 0, again.number);
+    expect_bytes("board", b, &again.board, sizeof again.board);
+}
+
+void call_fen_write(struct input *in)
+{
+    uint8_t text[MENKHODUR_LONGEST_FEN + 16];
+    size_t length = board_good(&in->board) ? model_fen(&in->board, text) : 0;
+    expect_writes(&in->board, take_room(in, length));
+    if (!length) return;
+    expect_writes(&in->board, length);
+    expect_writes(&in->board, length - 1);
+    expect_round_trip(&in->board);
+}
+
+void text_of_board(struct input *in)
+{
+    in->length = board_good(&in->board) ? model_fen(&in->board, in->text) : 0;
+}
+
+/* ---- FEN, read ---- */
+
+void call_fen_read(struct input *in)
+{
+    menkhodur_board want;
+    bool accepted = model_read(in->text, in->length, &want);
+    if (!accepted) memset(&want, 0, sizeof want);
+    for (unsigned turn = 0; turn < 2; turn++) {
+        menkhodur_fen got;
+        lend_text(in, turn);
+        about("fen_read");
+        got = CALL(turn, menkhodur_fen_read, in->length ? text_part.bytes : NULL, in->length);
+        expect("number", accepted ? 0 : 1, got.number);
+        expect("offset", 0, got.offset);
+        expect_bytes("board", &want, &got.board, sizeof want);
+        lent_same("text", &text_part);
+    }
+    if (!accepted) return;
+    in->board = want;
+    expect_round_trip(&want);
+}
+
+/* ---- Coordinate texts ---- */
+
+static bool is_square(const uint8_t *s)
+{
+    return s[0] >= 'a' && s[0] <= 'h' && s[1] >= '1' && s[1] <= '8';
+}
+
+static unsigned square_of(const uint8_t *s)
+{
+    return 8u * (s[1] - '1') + (s[0] - 'a');
+}
+
+static menkhodur_answer model_move(const uint8_t *s, size_t length)
+{
+    uint64_t promotion = 0;
+    if (length < 2) return accepted_if(false, 0, 3);
+    if (!is_square(s)) return accepted_if(false, 0, 2);
+    if (length < 4) return accepted_if(false, 0, 3);
+    if (!is_square(s + 2)) return accepted_if(false, 0, 2);
+    if (length == 5) promotion = s[4] == 'n' ? 2 : s[4] == 'b' ? 3 : s[4] == 'r' ? 4 : s[4] == 'q' ? 5 : 7;
+    return accepted_if(promotion < 7, square_of(s) + 64 * square_of(s + 2) + 4096 * promotion, 3);
+}
+
+void call_move_read(struct input *in)
+{
+    menkhodur_answer want = model_move(in->text, in->length);
+    for (unsigned turn = 0; turn < 2; turn++) {
+        lend_text(in, turn);
+        about("move_read");
+        expect_answer(want, CALL(turn, menkhodur_move_read, in->length ? text_part.bytes : NULL, in->length));
+        lent_same("text", &text_part);
+    }
+    if (want.number == 0) in->move = want.value;
+}
+
+static size_t model_coordinates(uint64_t move, uint8_t *text)
+{
+    text[0] = (uint8_t)('a' + move % 8);
+    text[1] = (uint8_t)('1' + move / 8 % 8);
+    text[2] = (uint8_t)('a' + move / 64 % 8);
+    text[3] = (uint8_t)('1' + move / 512 % 8);
+    text[4] = (uint8_t)letters[move / 4096];
+    return move / 4096 ? 5 : 4;
+}
+
+void call_move_write(struct input *in)
+{
+    bool good = in->move <= MENKHODUR_LAST_MOVE;
+    uint8_t text[5];
+    size_t length = good ? model_coordinates(in->move, text) : 0, room = take_room(in, length);
+    menkhodur_answer want = { !good ? 6 : room < length ? 7 : 0, length };
+    for (unsigned turn = 0; turn < 2; turn++) {
+        menkhodur_answer got;
+        lend(&room_part, room, in->front, turn);
+        about("move_write");
+        got = CALL(turn, menkhodur_move_write, in->move, room ? room_part.bytes : NULL, room);
+        expect_answer(want, got);
+        expect_room(got, text);
+    }
+    if (!good || (length == 5 && !memchr("qrnb", text[4], 4))) return;
+    about("move_read of what move_write writes");
+    expect_answer((menkhodur_answer){ 0, in->move }, menkhodur_move_read(text, length));
+}
