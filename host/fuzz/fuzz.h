@@ -41,6 +41,8 @@ TWIN_OF(menkhodur_game_accept_draw);
 TWIN_OF(menkhodur_game_declare_draw);
 TWIN_OF(menkhodur_game_result);
 TWIN_OF(menkhodur_game_can_declare_draw);
+TWIN_OF(menkhodur_roll_write);
+TWIN_OF(menkhodur_roll_read);
 #endif
 
 /* ---- Violations (lent.c) ---- */
@@ -115,6 +117,7 @@ typedef void step(struct input *in);
 step call_version, call_make_square, call_rights, call_square_rights, call_board_step;
 step call_fen_read, call_fen_write, call_move_read, call_move_write, call_san_read, call_san_name;
 step call_start, call_log, call_round, tamper, garbage, long_log, log_to_registers;
+step call_roll_write, call_roll_read, add_actions, roll_of_game, poke_roll, insert_in_roll, cut_roll;
 
 /* The texts that the register can be set to. */
 void text_of_board(struct input *in);
@@ -125,5 +128,6 @@ void texts_begin(void);
 void san_begin(void);
 void log_begin(void);
 void log_end(void);
+void rolls_begin(void);
 
 #endif

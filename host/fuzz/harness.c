@@ -252,7 +252,7 @@ static step *const steps[] = {
     take_text, poke_text, insert_in_text, cut_text, text_of_board, text_of_move, pick_move, any_move, turn_sides, log_to_registers,
     call_version, call_make_square, call_rights, call_square_rights, call_board_step, call_fen_read, call_fen_write, call_move_read,
     call_move_write, call_san_read, call_san_name, call_start, call_log, call_log, call_log, call_round, tamper, garbage, long_log,
-    add_row, stretch_text,
+    add_row, stretch_text, call_roll_write, call_roll_read, add_actions, roll_of_game, poke_roll, insert_in_roll, cut_roll,
 };
 
 int LLVMFuzzerTestOneInput(const uint8_t *data, size_t size);
@@ -268,6 +268,7 @@ int LLVMFuzzerTestOneInput(const uint8_t *data, size_t size)
     texts_begin();
     san_begin();
     log_begin();
+    rolls_begin();
     for (unsigned i = 0; in.at < in.end && i < MOST_STEPS; i++) steps[take(&in) % (sizeof steps / sizeof *steps)](&in);
     log_end();
     return 0;

@@ -22,7 +22,8 @@ use Rattle.roll_text.specs.declared.Entry.{Entry}
 use Rattle.roll_text.specs.declared.Entry.the-variants.{Move, Plain, Stop}
 use Rattle.roll_text.specs.declared.Roll.{Roll}
 use Rattle.roll_text.specs.Number.{readNumber}
-use Rattle.roll_text.specs.Roll.{Front, stopped, front, Acts, halted, acts, Rolled, refusal, largestNumbers, isCode, movedBy, coded, readEntry, putAction, next, readNumbers, readActions, withActions, withCount, withFront, readRoll}
+use Rattle.roll_text.specs.Roll.{Front, stopped, front, Acts, halted, acts, Rolled, refusal, largestNumbers, isCode, movedBy}
+use Rattle.roll_text.specs.Roll.{coded, readEntry, putAction, next, readNumbers, readActions, withActions, withCount, withFront, readRoll}
 use Rattle.roll_text.specs.Calls.{frontNumber, actsNumber, actsOver, isActs, rollAnswer, rollOver, judged}
 use Rattle.roll_reader.proofs.Reading.{number-put}
 use Rattle.roll_reader.proofs.Fronts.{start-passed}
@@ -50,7 +51,8 @@ unfolding withFront frontNumber
 front-refused L (stopped k) h = refl
 front-refused L (front xs s) h = absurd (h refl)
 
-pub bad-record : (s : List ℕ) (room wrong : ℕ) → 8192 ≤ room → wrong ≡ frontNumber (readNumbers largestNumbers s) → (wrong ≡ 0 → ⊥) → judged limits s room ≡ refusal wrong
+pub bad-record : (s : List ℕ) (room wrong : ℕ) → 8192 ≤ room → wrong ≡ frontNumber (readNumbers largestNumbers s) → (wrong ≡ 0 → ⊥) → judged limits s
+    room ≡ refusal wrong
 unfolding readRoll
 bad-record s room wrong h e n = long-part s room h ∙ front-refused limits (readNumbers largestNumbers s) (λ z. n (e ∙ z)) ∙ ap refusal (sym e)
 
@@ -75,7 +77,8 @@ module _ (s behind : List ℕ) (room wrong : ℕ) (count : Number) (h : 8192 ≤
   unfolding withCount
   over-count n size f k = at-count (Got n size) f ∙ simp (lt-leb _ _ k)
 
-  pub at-actions : (n size : ℕ) (text : List ℕ) → count ≡ Got n size → n ≤ 2048 → text ≡ drop size behind → judged limits s room ≡ withActions (take 68 s) n (readActions n 1024 text)
+  pub at-actions : (n size : ℕ) (text : List ℕ) → count ≡ Got n size → n ≤ 2048 → text ≡ drop size behind → judged limits s room ≡ withActions (take 68
+      s) n (readActions n 1024 text)
   unfolding withCount
   at-actions n size text f k t =
       let d : text ≡ drop size (drop 68 s) = t ∙ ap (drop size) rest in
@@ -159,7 +162,8 @@ acts-there (suc n) left s e = by (readEntry (eqb left 0) s) refl (λ l t. acts-t
         → isActs (next (readEntry (eqb left 0) s) left s (λ l t. readActions n l t)) ≡ true
     by (Move move size) f rec =
         let g : actsNumber (putAction (fields 1 0 move) (readActions n (left - 1) (drop size s))) ≡ 0 = rw f at e in
-        rw f (is-put (fields 1 0 move) (readActions n (left - 1) (drop size s)) ∙ rec (left - 1) (drop size s) (sym (number-put (fields 1 0 move) (readActions n (left - 1) (drop size s))) ∙ g))
+        rw f (is-put (fields 1 0 move) (readActions n (left - 1) (drop size s)) ∙ rec (left - 1) (drop size s) (sym (number-put (fields 1 0 move)
+            (readActions n (left - 1) (drop size s))) ∙ g))
     by (Plain code size) f rec =
         let fs = fields (code / 2) (code % 2) 0 in
         let g : actsNumber (putAction fs (readActions n left (drop size s))) ≡ 0 = rw f at e in

@@ -30,12 +30,14 @@ last-group zero s h l b = absurd (h refl)
 last-group (suc k) [] h l b = absurd (l refl)
 last-group (suc k) (x ∷ xs) h l b = sym (read-last k x xs b)
 
-more-groups : (k : ℕ) (s : List ℕ) → (k ≡ 0 → ⊥) → (length s ≡ 0 → ⊥) → 128 ≤ getD s 0 0 → readGroups k s ≡ behind (getD s 0 0 % 128) (readGroups (k - 1) (drop 1 s))
+more-groups : (k : ℕ) (s : List ℕ) → (k ≡ 0 → ⊥) → (length s ≡ 0 → ⊥) → 128 ≤ getD s 0 0 → readGroups k s ≡ behind (getD s 0 0 % 128) (readGroups (k -
+    1) (drop 1 s))
 more-groups zero s h l b = absurd (h refl)
 more-groups (suc k) [] h l b = absurd (l refl)
 more-groups (suc k) (x ∷ xs) h l b = let e : suc k - 1 ≡ k = omega arith in rw e (read-more k x xs b)
 
-module _ (k : ℕ) (s t : List ℕ) (more : Number) (some : k ≡ 0 → ⊥) (there : length s ≡ 0 → ⊥) (big : 128 ≤ getD s 0 0) (left : t ≡ drop 1 s) (is : more ≡ readGroups (k - 1) t) where
+module _ (k : ℕ) (s t : List ℕ) (more : Number) (some : k ≡ 0 → ⊥) (there : length s ≡ 0 → ⊥) (big : 128 ≤ getD s 0 0) (left : t ≡ drop 1 s) (is : more
+    ≡ readGroups (k - 1) t) where
   on : readGroups k s ≡ behind (getD s 0 0 % 128) more
   on = more-groups k s some there big ∙ ap (behind (getD s 0 0 % 128)) (sym (is ∙ ap (readGroups (k - 1)) left))
 
@@ -71,7 +73,8 @@ sized k s more n size h e f =
     record { number = omega (arith, w .small); most = omega (arith, w .most) }
 
 -- four bytes, one after the other
-pub written-four : (l : List ℕ) (at a b c d : ℕ) → at + 4 ≤ length l → set (set (set (set l at a) (at + 1) b) (at + 2) c) (at + 3) d ≡ written l at (a ∷ b ∷ c ∷ d ∷ [])
+pub written-four : (l : List ℕ) (at a b c d : ℕ) → at + 4 ≤ length l → set (set (set (set l at a) (at + 1) b) (at + 2) c) (at + 3) d ≡ written l at (a
+    ∷ b ∷ c ∷ d ∷ [])
 written-four l at a b c d h =
     ap (λ (m : List ℕ). set (set (set m (at + 1) b) (at + 2) c) (at + 3) d) (set-written l at a (omega arith))
     ∙ ap (λ (m : List ℕ). set (set m (at + 2) c) (at + 3) d) (written-next l at (a ∷ []) (omega arith) (at + 1) b refl (omega arith))

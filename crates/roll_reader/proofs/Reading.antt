@@ -43,7 +43,8 @@ module _ (full : Bool) (s : List ℕ) (first : Number) (is : first ≡ readNumbe
   pub full-entry : (code size : ℕ) → first ≡ Got code size → code ≡ 2 → full ≡ true → Stop logFull ≡ readEntry full s
   full-entry code size e h k = sym (at-code (Got code size) e ∙ rw (h, k) (coded-full s size))
 
-  module _ (code size : ℕ) (e : first ≡ Got code size) (two : code ≡ 2) (room : full ≡ false) (t : List ℕ) (second : Number) (left : t ≡ drop size s) (reads : second ≡ readNumber t) where
+  module _ (code size : ℕ) (e : first ≡ Got code size) (two : code ≡ 2) (room : full ≡ false) (t : List ℕ) (second : Number) (left : t ≡ drop size s)
+      (reads : second ≡ readNumber t) where
     at-move : readEntry full s ≡ movedBy size second
     at-move = at-code (Got code size) e ∙ rw (two, room) (coded-move s size) ∙ ap (movedBy size) (sym (reads ∙ ap readNumber left))
 
@@ -129,7 +130,8 @@ module _ (m left at : ℕ) (s t : List ℕ) (e : Entry) (some : 0 < m) (within :
   stop-turn k f = turned ∙ ap (λ (x : Entry). next x left (drop at s) (λ l u. readActions (m - 1) l u)) f
 
 -- a short move, three bytes
-pub short-turn : (m left at : ℕ) (s : List ℕ) (move : ℕ) → 0 < m → at ≤ length s → readEntry (eqb left 0) (drop at s) ≡ Move move 3 → MoveTurn m left at s move 3
+pub short-turn : (m left at : ℕ) (s : List ℕ) (move : ℕ) → 0 < m → at ≤ length s → readEntry (eqb left 0) (drop at s) ≡ Move move 3 → MoveTurn m left
+    at s move 3
 short-turn m left at s move some fits e = move-turn m left at s (drop at s) (Move move 3) some fits refl (sym e) move 3 refl
 
 -- no action is left: the text is at its end, or too long

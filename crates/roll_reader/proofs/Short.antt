@@ -26,12 +26,15 @@ two-groups low high rest l h n m = simp (le-ltb low 128 l, lt-ltb high 128 h, ne
 one-on : (s : List ℕ) (at next : ℕ) → next ≡ at + 1 → at < length s → drop at s ≡ getD s at 0 ∷ drop next s
 one-on s at next e h = let n : suc at ≡ next = omega arith in drop-cons s at 0 h ∙ ap (λ (k : ℕ). getD s at 0 ∷ drop k s) n
 
-pub short : (s : List ℕ) (at left : ℕ) → (left ≡ 0 → ⊥) → at + 3 ≤ length s → getD s at 0 ≡ 2 → 128 ≤ getD s (at + 1) 0 → getD s (at + 2) 0 < 128 → (getD s (at + 2) 0 ≡ 0 → ⊥)
+pub short : (s : List ℕ) (at left : ℕ) → (left ≡ 0 → ⊥) → at + 3 ≤ length s → getD s at 0 ≡ 2 → 128 ≤ getD s (at + 1) 0 → getD s (at + 2) 0 < 128 →
+    (getD s (at + 2) 0 ≡ 0 → ⊥)
     → ShortMove s at left (getD s (at + 1) 0 % 128 + 128 * getD s (at + 2) 0)
 short s at left some h code l k n =
     let low : ℕ = getD s (at + 1) 0 in
     let high : ℕ = getD s (at + 2) 0 in
-    let behind-code = one-on s (at + 1) (at + 2) (omega arith) (omega arith) ∙ ap (λ (t : List ℕ). low ∷ t) (one-on s (at + 2) (at + 3) (omega arith) (omega arith)) in
+    let behind-code = one-on s (at + 1) (at + 2) (omega arith) (omega arith) ∙ ap (λ (t : List ℕ). low ∷ t) (one-on s (at + 2) (at + 3) (omega arith)
+    (omega arith)) in
     let whole : drop at s ≡ 2 ∷ low ∷ high ∷ drop (at + 3) s =
     one-on s at (at + 1) refl (omega arith) ∙ ap (λ (t : List ℕ). getD s at 0 ∷ t) behind-code ∙ ap (λ (c : ℕ). c ∷ low ∷ high ∷ drop (at + 3) s) code in
-    record { there = λ m. ap (λ (t : Bool). readEntry t (drop at s)) (ne-eqb left 0 some) ∙ ap (readEntry false) whole ∙ two-groups low high (drop (at + 3) s) l k n m }
+    record { there = λ m. ap (λ (t : Bool). readEntry t (drop at s)) (ne-eqb left 0 some) ∙ ap (readEntry false) whole ∙ two-groups low high (drop (at
+        + 3) s) l k n m }

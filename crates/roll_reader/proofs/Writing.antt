@@ -51,7 +51,8 @@ wrote-none part s n most =
 pub wrote-length : (part out s : List ℕ) (n most i left at : ℕ) → Wrote part out s n most i left at → i ≤ n → 4 * n ≤ length part → length out ≡ length part
 wrote-length part out s n most i left at w h fits = ap length (w .bytes) ∙ length-written part 0 (w .done) (omega (arith, w .long))
 
-pub wrote-more : (part out new s : List ℕ) (n most i left at other further : ℕ) (bs : List ℕ) → Wrote part out s n most i left at → length bs ≡ 4 → i < n → 4 * n ≤ length part
+pub wrote-more : (part out new s : List ℕ) (n most i left at other further : ℕ) (bs : List ℕ) → Wrote part out s n most i left at → length bs ≡ 4 → i <
+    n → 4 * n ≤ length part
     → readActions (n - i) left (drop at s) ≡ putAction bs (readActions (n - i - 1) other (drop further s)) → new ≡ written out (4 * i) bs
     → Wrote part new s n most (i + 1) other further
 wrote-more part out new s n most i left at other further bs w four h fits e f =
@@ -85,4 +86,5 @@ wrote-all part out s n most i left at w h e = by (ltb at (length s)) refl
     by false f =
         w .bytes
         ∙ front-written (w .done) part
-        ∙ sym (ap (λ (x : Acts). actsOver x part) (w .left-over ∙ ap (putAction (w .done)) (over (acts []) (end-turn left at s (ltb-false at (length s) f)))) ∙ over-put (w .done) part)
+        ∙ sym (ap (λ (x : Acts). actsOver x part) (w .left-over ∙ ap (putAction (w .done)) (over (acts []) (end-turn left at s (ltb-false at (length s)
+            f)))) ∙ over-put (w .done) part)

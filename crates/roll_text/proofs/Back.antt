@@ -14,7 +14,8 @@ use Rattle.game_rules.specs.Limits.{Limits}
 use Rattle.actions.specs.Part.{oneIfMove}
 use Rattle.action.specs.Layout.{actionSize}
 use Rattle.roll_text.specs.Number.{numberText, readNumber}
-use Rattle.roll_text.specs.Roll.{front, acts, rolled, largestNumbers, withinBounds, numbersText, actionsText, rollText, putNumber, readNumbers, putAction, readActions, withActions, withCount, withFront, readRoll}
+use Rattle.roll_text.specs.Roll.{front, acts, rolled, largestNumbers, withinBounds, numbersText, actionsText, rollText}
+use Rattle.roll_text.specs.Roll.{putNumber, readNumbers, putAction, readActions, withActions, withCount, withFront, readRoll}
 use Rattle.roll_text.proofs.ByFields.{actionInRange, actionsInRange, movesAmong, held-in-range, as-many-moves}
 use Rattle.roll_text.specs.Promises.{Countable, RollsReadBack}
 use Rattle.roll_text.proofs.Numbers.{numbers-read-back}
@@ -46,7 +47,8 @@ actions-back (suc n) left (k ∷ c ∷ l ∷ u ∷ bs) long small e few =
     let hl : l ≤ 255 = most-head 255 l (u ∷ bs) small2 in
     let here : actionInRange k c (l + 256 * u) ≡ true = both-left (actionInRange k c (l + 256 * u)) (actionsInRange n bs) e in
     let there : actionsInRange n bs ≡ true = both-right (actionInRange k c (l + 256 * u)) (actionsInRange n bs) e in
-    let r = actions-back n (left - oneIfMove k c (l + 256 * u)) bs (omega (arith, long)) (most-tail 255 u bs (most-tail 255 l (u ∷ bs) small2)) there (omega (arith, few)) in
+    let r = actions-back n (left - oneIfMove k c (l + 256 * u)) bs (omega (arith, long)) (most-tail 255 u bs (most-tail 255 l (u ∷ bs) small2)) there
+    (omega (arith, few)) in
     action-next k c l u left (actionsText n bs) (λ j t. readActions n j t) hl here (omega (arith, few)) ∙ ap (putAction (k ∷ c ∷ l ∷ u ∷ [])) r
 
 pub small-bounds : allAtMost 12 largestNumbers ≡ true

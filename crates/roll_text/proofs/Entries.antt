@@ -45,12 +45,14 @@ code-range c e = (low (leb 4 c) refl, high (leb c 11) refl)
     low true f = leb-true 4 c f
     low false f =
         let h = leb-false 4 c f in
-        absurd (false≢true (sym (no-code c (λ z. omega arith) (λ z. omega arith) (λ z. omega arith) (λ z. omega arith) (λ z. omega arith) (λ z. omega arith)) ∙ e))
+        absurd (false≢true (sym (no-code c (λ z. omega arith) (λ z. omega arith) (λ z. omega arith) (λ z. omega arith) (λ z. omega arith) (λ z. omega
+            arith)) ∙ e))
     high : (t : Bool) → leb c 11 ≡ t → c ≤ 11
     high true f = leb-true c 11 f
     high false f =
         let h = leb-false c 11 f in
-        absurd (false≢true (sym (no-code c (λ z. omega arith) (λ z. omega arith) (λ z. omega arith) (λ z. omega arith) (λ z. omega arith) (λ z. omega arith)) ∙ e))
+        absurd (false≢true (sym (no-code c (λ z. omega arith) (λ z. omega arith) (λ z. omega arith) (λ z. omega arith) (λ z. omega arith) (λ z. omega
+            arith)) ∙ e))
 
 -- ---- an action that was written reads back
 
@@ -98,11 +100,13 @@ move-back move rest h =
 behind-both : (a b rest : List ℕ) → drop (length a + length b) (a ++ (b ++ rest)) ≡ rest
 behind-both a b rest = lib.Seq.drop-append-add a (b ++ rest) (length b) ∙ lib.Seq.drop-append-seam b rest
 
-pub next-move : (left : ℕ) (s : List ℕ) (move size : ℕ) (go : ℕ → List ℕ → Acts) → next (Move move size) left s go ≡ putAction (fields 1 0 move) (go (left - 1) (drop size s))
+pub next-move : (left : ℕ) (s : List ℕ) (move size : ℕ) (go : ℕ → List ℕ → Acts) → next (Move move size) left s go ≡ putAction (fields 1 0 move) (go
+    (left - 1) (drop size s))
 unfolding next
 next-move left s move size go = refl
 
-pub next-plain : (left : ℕ) (s : List ℕ) (code size : ℕ) (go : ℕ → List ℕ → Acts) → next (Plain code size) left s go ≡ putAction (fields (code / 2) (code % 2) 0) (go left (drop size s))
+pub next-plain : (left : ℕ) (s : List ℕ) (code size : ℕ) (go : ℕ → List ℕ → Acts) → next (Plain code size) left s go ≡ putAction (fields (code / 2)
+    (code % 2) 0) (go left (drop size s))
 unfolding next
 next-plain left s code size go = refl
 
@@ -150,7 +154,8 @@ pub no-move : (kind colour move : ℕ) → (kind ≡ 1 → ⊥) → oneIfMove ki
 no-move kind colour move h = simp (ne-eqb _ _ h)
 
 -- the action at the front, with `left` moves to come
-pub action-next : (k c l u left : ℕ) (rest : List ℕ) (go : ℕ → List ℕ → Acts) → l ≤ 255 → actionInRange k c (l + 256 * u) ≡ true → oneIfMove k c (l + 256 * u) ≤ left
+pub action-next : (k c l u left : ℕ) (rest : List ℕ) (go : ℕ → List ℕ → Acts) → l ≤ 255 → actionInRange k c (l + 256 * u) ≡ true → oneIfMove k c (l +
+    256 * u) ≤ left
     → next (readEntry (eqb left 0) (actionText k c (l + 256 * u) ++ rest)) left (actionText k c (l + 256 * u) ++ rest) go
     ≡ putAction (k ∷ c ∷ l ∷ u ∷ []) (go (left - oneIfMove k c (l + 256 * u)) rest)
 action-next k c l u left rest go hl e few = by (eqb k 1) refl
@@ -164,7 +169,8 @@ action-next k c l u left rest go hl e few = by (eqb k 1) refl
         let o = one-move k c (l + 256 * u) one m in
         let some : eqb left 0 ≡ false = ne-eqb left 0 (λ z. omega arith) in
         let code : codeOf k c ≡ 2 = omega (arith, m .none) in
-        let text : actionText k c (l + 256 * u) ≡ numberText 2 ++ numberText (l + 256 * u) = text-move k c (l + 256 * u) one ∙ ap (λ (x : ℕ). numberText x ++ numberText (l + 256 * u)) code in
+        let text : actionText k c (l + 256 * u) ≡ numberText 2 ++ numberText (l + 256 * u) = text-move k c (l + 256 * u) one ∙ ap (λ (x : ℕ).
+            numberText x ++ numberText (l + 256 * u)) code in
         let low : (l + 256 * u) % 256 ≡ l = omega arith in
         let high : (l + 256 * u) / 256 ≡ u = omega arith in
         let zero : c ≡ 0 = m .none in

@@ -21,7 +21,12 @@ use Rattle.roll_text.specs.declared.Number.the-variants.{Got, Bad}
 use Rattle.roll_text.specs.declared.Entry.{Entry}
 use Rattle.roll_text.specs.declared.Entry.the-variants.{Move, Plain, Stop}
 use Rattle.roll_text.specs.Number.{numberText, readNumber}
-use Rattle.roll_text.specs.Roll.{Front, stopped, front, Acts, halted, acts, refusal, rolled, largestNumbers, withinBounds, numbersText, actionText, actionsText, rollText, isCode, putNumber, oneNumber, readNumbers, movedBy, coded, readEntry, putAction, next, readActions, withActions, withCount, withFront, readRoll}
+use Rattle.roll_text.specs.Roll.{Front, stopped, front, Acts, halted}
+use Rattle.roll_text.specs.Roll.{acts, refusal, rolled, largestNumbers, withinBounds}
+use Rattle.roll_text.specs.Roll.{numbersText, actionText, actionsText, rollText}
+use Rattle.roll_text.specs.Roll.{isCode, putNumber, oneNumber, readNumbers, movedBy}
+use Rattle.roll_text.specs.Roll.{coded, readEntry, putAction, next, readActions}
+use Rattle.roll_text.specs.Roll.{withActions, withCount, withFront, readRoll}
 use Rattle.roll_text.proofs.ByFields.{moveInRange, actionInRange, actionsInRange, movesAmong, held-in-range, as-many-moves}
 use Rattle.roll_text.specs.Promises.{WrittenBack, AcceptedWrittenBack, OneRoll, OneGame}
 use Rattle.roll_text.proofs.Numbers.{accepted-is-shortest}
@@ -48,7 +53,8 @@ put-number x (front xs t) numbers rest e n s go most g h =
     let b : t ≡ rest = cc in
     record { first = x; size = n; others = xs; is = refl; within = h; then = g ∙ ap (front xs) b; whole = a }
 
-one-number : (most : ℕ) (x : Number) (s : List ℕ) (go : List ℕ → Front) (numbers rest : List ℕ) → oneNumber most x s go ≡ front numbers rest → Numbered most x s go numbers rest
+one-number : (most : ℕ) (x : Number) (s : List ℕ) (go : List ℕ → Front) (numbers rest : List ℕ) → oneNumber most x s go ≡ front numbers rest → Numbered
+    most x s go numbers rest
 unfolding oneNumber
 one-number most Bad s go numbers rest e = let z : _≡_ {A = ℕ} 0 1 = cc in absurd (omega arith)
 one-number most (Got x size) s go numbers rest e = by (leb x most) refl
@@ -312,7 +318,8 @@ with-actions L numbers m size s (acts cs) all n bs h f e =
     let d : all ≡ numbers = cc in
     record { size = size; is = ap (λ (i : ℕ). Got i size) a; few = omega arith; start = d; actions = rw a at (f ∙ ap acts b) }
 
-with-count : (L : Limits) (numbers : List ℕ) (x : Number) (s all : List ℕ) (n : ℕ) (bs : List ℕ) → withCount L numbers x s ≡ rolled all n bs → Ended L numbers x s all n bs
+with-count : (L : Limits) (numbers : List ℕ) (x : Number) (s all : List ℕ) (n : ℕ) (bs : List ℕ) → withCount L numbers x s ≡ rolled all n bs → Ended L
+    numbers x s all n bs
 unfolding withCount
 with-count L numbers Bad s all n bs e = let z : _≡_ {A = ℕ} 0 1 = cc in absurd (omega arith)
 with-count L numbers (Got m size) s all n bs e = by (leb m (L .most-actions)) refl
@@ -350,5 +357,6 @@ one-roll L s t numbers n bs small tiny e f = accepted-written-back L s numbers n
 
 pub one-game : OneGame
 one-game L numbers n bs others m cs small g h e =
-    let a : rolled numbers n bs ≡ rolled others m cs = sym (rolls-read-back L numbers n bs small g) ∙ ap (readRoll L) e ∙ rolls-read-back L others m cs small h in
+    let a : rolled numbers n bs ≡ rolled others m cs = sym (rolls-read-back L numbers n bs small g) ∙ ap (readRoll L) e ∙ rolls-read-back L others m cs
+    small h in
     record { starts = cc; counts = cc; actions = cc }

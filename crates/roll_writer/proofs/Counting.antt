@@ -83,7 +83,8 @@ module _ (n i : ℕ) (s t : List ℕ) (h : i < n) (rest : t ≡ drop (4 * i) s) 
   pub text-turn : actionsText (n - i) (drop (4 * i) s) ≡ actionText (kindAt t) (colourAt t) (moveNumberAt t) ++ actionsText (n - (i + 1)) (drop (4 * (i + 1)) s)
   text-turn = text-one (n - i) (drop (4 * i) s) (omega arith) ∙ rw (less, four i s, rest)
 
-  pub length-turn : length (actionsText (n - i) (drop (4 * i) s)) ≡ length (actionText (kindAt t) (colourAt t) (moveNumberAt t)) + length (actionsText (n - (i + 1)) (drop (4 * (i + 1)) s))
+  pub length-turn : length (actionsText (n - i) (drop (4 * i) s)) ≡ length (actionText (kindAt t) (colourAt t) (moveNumberAt t)) + length (actionsText
+      (n - (i + 1)) (drop (4 * (i + 1)) s))
   length-turn = ap length text-turn ∙ length-append (actionText (kindAt t) (colourAt t) (moveNumberAt t)) (actionsText (n - (i + 1)) (drop (4 * (i + 1)) s))
 
 pub text-end : (n i : ℕ) (s : List ℕ) → n ≤ i → actionsText (n - i) s ≡ []
@@ -106,14 +107,16 @@ pub record SoFar (part l out : List ℕ) (from n i at : ℕ) : Type 0 where
 pub so-far-none : (part l : List ℕ) (from n : ℕ) → SoFar part l l from n 0 from
 so-far-none part l from n = record { done = []; split = rw (whole n); here = omega arith; bytes = written-none l from }
 
-pub so-far-fits : (part l out : List ℕ) (from n i at : ℕ) (t : List ℕ) → SoFar part l out from n i at → i < n → t ≡ drop (4 * i) part → from + length (actionsText n part) ≤ length l
+pub so-far-fits : (part l out : List ℕ) (from n i at : ℕ) (t : List ℕ) → SoFar part l out from n i at → i < n → t ≡ drop (4 * i) part → from + length
+    (actionsText n part) ≤ length l
     → (at + length (actionText (kindAt t) (colourAt t) (moveNumberAt t)) ≤ length l) × (length out ≡ length l)
 so-far-fits part l out from n i at t w h r fits =
     let a = ap length (w .split) ∙ length-append (w .done) (actionsText (n - i) (drop (4 * i) part)) in
     let b = length-turn n i part t h r in
     (omega (arith, a, b, w .here), ap length (w .bytes) ∙ length-written l from (w .done) (omega (arith, a)))
 
-pub so-far-more : (part l out new : List ℕ) (from n i at : ℕ) (t : List ℕ) → SoFar part l out from n i at → i < n → (r : t ≡ drop (4 * i) part) → from + length (actionsText n part) ≤ length l
+pub so-far-more : (part l out new : List ℕ) (from n i at : ℕ) (t : List ℕ) → SoFar part l out from n i at → i < n → (r : t ≡ drop (4 * i) part) → from
+    + length (actionsText n part) ≤ length l
     → new ≡ written out at (actionText (kindAt t) (colourAt t) (moveNumberAt t))
     → SoFar part l new from n (i + 1) (at + length (actionText (kindAt t) (colourAt t) (moveNumberAt t)))
 so-far-more part l out new from n i at t w h r fits e =
@@ -123,16 +126,19 @@ so-far-more part l out new from n i at t w h r fits e =
     let d = length-append (w .done) x in
     record {
       done = w .done ++ x;
-      split = w .split ∙ ap (λ (y : List ℕ). w .done ++ y) (text-turn n i part t h r) ∙ sym (append-assoc (w .done) x (actionsText (n - (i + 1)) (drop (4 * (i + 1)) part)));
+      split = w .split ∙ ap (λ (y : List ℕ). w .done ++ y) (text-turn n i part t h r) ∙ sym (append-assoc (w .done) x (actionsText (n - (i + 1)) (drop
+          (4 * (i + 1)) part)));
       here = omega (arith, d, w .here);
-      bytes = e ∙ ap (λ (y : List ℕ). written y at x) (w .bytes) ∙ written-behind l from (w .done) (omega (arith, a)) at x (sym (w .here)) (omega (arith, a, b, w .here));
+      bytes = e ∙ ap (λ (y : List ℕ). written y at x) (w .bytes) ∙ written-behind l from (w .done) (omega (arith, a)) at x (sym (w .here)) (omega
+          (arith, a, b, w .here));
     }
 
 pub so-far-all : (part l out : List ℕ) (from n i at : ℕ) → SoFar part l out from n i at → n ≤ i → out ≡ written l from (actionsText n part)
 so-far-all part l out from n i at w h =
     w .bytes ∙ ap (written l from) (sym (w .split ∙ ap (λ (y : List ℕ). w .done ++ y) (text-end n i (drop (4 * i) part) h) ∙ append-nil (w .done)))
 
-pub so-far-length : (part l out : List ℕ) (from n i at : ℕ) → SoFar part l out from n i at → from + length (actionsText n part) ≤ length l → length out ≡ length l
+pub so-far-length : (part l out : List ℕ) (from n i at : ℕ) → SoFar part l out from n i at → from + length (actionsText n part) ≤ length l → length out
+    ≡ length l
 so-far-length part l out from n i at w fits =
     let a = ap length (w .split) ∙ length-append (w .done) (actionsText (n - i) (drop (4 * i) part)) in
     ap length (w .bytes) ∙ length-written l from (w .done) (omega (arith, a))

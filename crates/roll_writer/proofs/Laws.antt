@@ -47,7 +47,8 @@ pub one-byte : (n : ℕ) → n < 128 → 1 ≡ length (numberText n)
 one-byte n h = sym (ap length (groups-last 4 n h))
 
 pub two-bytes : (n : ℕ) → 128 ≤ n → n < 16384 → 2 ≡ length (numberText n)
-two-bytes n h l = let z : n / 128 < 128 = omega arith in sym (ap length (groups-more 4 n h ∙ ap (λ (m : List ℕ). (128 + n % 128) ∷ m) (groups-last 3 (n / 128) z)))
+two-bytes n h l = let z : n / 128 < 128 = omega arith in sym (ap length (groups-more 4 n h ∙ ap (λ (m : List ℕ). (128 + n % 128) ∷ m) (groups-last 3 (n
+    / 128) z)))
 
 pub three-bytes : (n : ℕ) → 16384 ≤ n → n < 2097152 → 3 ≡ length (numberText n)
 three-bytes n h l =

@@ -100,7 +100,9 @@ read-groups-returns-4 : (t : ℕ) → read-groups-lts.Need-returns-4 (
   read-groups-below t,
   read-groups.Post,
 ) (read-groups-at t) read-groups.Post
-read-groups-returns-4 t c = needless _ _ _ _ (c .before .before .before .before .before .before .before .before .before .if1 .left) (c .before .before .before .before .before .before .before .before .if2 .left) (c .before .before .before .before .before .before .if3 .left) (c .before .before .before .before .before .rest .ensures) (c .before .before .before .before .read-groups .ensures) _ _ (c .before .before .more .given .1) (c .if4 .taken)
+read-groups-returns-4 t c = needless _ _ _ _ (c .before .before .before .before .before .before .before .before .before .if1 .left) (c .before .before
+    .before .before .before .before .before .before .if2 .left) (c .before .before .before .before .before .before .if3 .left) (c .before .before
+    .before .before .before .rest .ensures) (c .before .before .before .before .read-groups .ensures) _ _ (c .before .before .more .given .1) (c .if4 .taken)
 
 read-groups-cast-t16 : (t : ℕ) → read-groups-lts.Need-cast-t16 (
   rest-reads.Asked,
@@ -116,7 +118,8 @@ read-groups-mul-t17 : (t : ℕ) → read-groups-lts.Need-mul-t17 (
   read-groups-below t,
   read-groups.Post,
 ) (read-groups-at t) read-groups.Post
-read-groups-mul-t17 t c = let z = sized _ _ _ _ _ (omega arith) (c .before .before .before .before .read-groups .ensures) (c .before .before .more .given .1) in omega arith
+read-groups-mul-t17 t c = let z = sized _ _ _ _ _ (omega arith) (c .before .before .before .before .read-groups .ensures) (c .before .before .more
+    .given .1) in omega arith
 
 read-groups-add-t18 : (t : ℕ) → read-groups-lts.Need-add-t18 (
   rest-reads.Asked,
@@ -124,7 +127,8 @@ read-groups-add-t18 : (t : ℕ) → read-groups-lts.Need-add-t18 (
   read-groups-below t,
   read-groups.Post,
 ) (read-groups-at t) read-groups.Post
-read-groups-add-t18 t c = let z = sized _ _ _ _ _ (omega arith) (c .before .before .before .before .read-groups .ensures) (c .before .before .more .given .1) in omega arith
+read-groups-add-t18 t c = let z = sized _ _ _ _ _ (omega arith) (c .before .before .before .before .read-groups .ensures) (c .before .before .more
+    .given .1) in omega arith
 
 read-groups-add-t19 : (t : ℕ) → read-groups-lts.Need-add-t19 (
   rest-reads.Asked,
@@ -132,7 +136,8 @@ read-groups-add-t19 : (t : ℕ) → read-groups-lts.Need-add-t19 (
   read-groups-below t,
   read-groups.Post,
 ) (read-groups-at t) read-groups.Post
-read-groups-add-t19 t c = let z = sized _ _ _ _ _ (omega arith) (c .before .before .before .before .read-groups .ensures) (c .before .before .more .given .1) in omega arith
+read-groups-add-t19 t c = let z = sized _ _ _ _ _ (omega arith) (c .before .before .before .before .read-groups .ensures) (c .before .before .more
+    .given .1) in omega arith
 
 read-groups-enum-told : (t : ℕ) → read-groups-lts.Need-enum-told (
   rest-reads.Asked,
@@ -148,7 +153,9 @@ read-groups-returns-5 : (t : ℕ) → read-groups-lts.Need-returns-5 (
   read-groups-below t,
   read-groups.Post,
 ) (read-groups-at t) read-groups.Post
-read-groups-returns-5 t c = joined _ _ _ _ (c .before .before .before .before .before .before .before .before .before .if1 .left) (c .before .before .before .before .before .before .before .before .if2 .left) (c .before .before .before .before .before .before .if3 .left) (c .before .before .before .before .before .rest .ensures) (c .before .before .before .before .read-groups .ensures) _ _ (c .before .before .more .given .1) (c .if4 .left)
+read-groups-returns-5 t c = joined _ _ _ _ (c .before .before .before .before .before .before .before .before .before .if1 .left) (c .before .before
+    .before .before .before .before .before .before .if2 .left) (c .before .before .before .before .before .before .if3 .left) (c .before .before
+    .before .before .before .rest .ensures) (c .before .before .before .before .read-groups .ensures) _ _ (c .before .before .more .given .1) (c .if4 .left)
 
 read-groups-returns-6 : (t : ℕ) → read-groups-lts.Need-returns-6 (
   rest-reads.Asked,
@@ -156,7 +163,9 @@ read-groups-returns-6 : (t : ℕ) → read-groups-lts.Need-returns-6 (
   read-groups-below t,
   read-groups.Post,
 ) (read-groups-at t) read-groups.Post
-read-groups-returns-6 t c = cut _ _ _ _ (c .before .before .before .before .before .before .before .if1 .left) (c .before .before .before .before .before .before .if2 .left) (c .before .before .before .before .if3 .left) (c .before .before .before .rest .ensures) (c .before .before .read-groups .ensures) (c .enum-told .given .1)
+read-groups-returns-6 t c = cut _ _ _ _ (c .before .before .before .before .before .before .before .if1 .left) (c .before .before .before .before
+    .before .before .if2 .left) (c .before .before .before .before .if3 .left) (c .before .before .before .rest .ensures) (c .before .before
+    .read-groups .ensures) (c .enum-told .given .1)
 
 pub +read-groups-spec : {M : Type 1} → statement M
 +read-groups-spec = close μ-read-groups λ t. read-groups-lts.spec (

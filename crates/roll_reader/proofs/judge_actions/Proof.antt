@@ -29,7 +29,8 @@ add-at c =
     let at = c .before .before .before .loop .at in
     let left = c .before .before .before .loop .left in
     let i = c .before .before .before .loop .i in
-    let t = short-turn (n - i) left at s (c .before .short-move .result) (omega (arith, c .before .before .loop-test .taken)) (c .before .before .before .loop .inv .1) (c .before .short-move .ensures .there (omega (arith, c .if1 .taken))) in
+    let t = short-turn (n - i) left at s (c .before .short-move .result) (omega (arith, c .before .before .loop-test .taken)) (c .before .before
+    .before .loop .inv .1) (c .before .short-move .ensures .there (omega (arith, c .if1 .taken))) in
     omega (arith, t .inside)
 
 sub-left : tie.Need-sub-left Inv-loop μ-loop
@@ -39,7 +40,8 @@ sub-left c =
     let at = c .before .before .before .loop .at in
     let left = c .before .before .before .loop .left in
     let i = c .before .before .before .loop .i in
-    let t = short-turn (n - i) left at s (c .before .short-move .result) (omega (arith, c .before .before .loop-test .taken)) (c .before .before .before .loop .inv .1) (c .before .short-move .ensures .there (omega (arith, c .if1 .taken))) in
+    let t = short-turn (n - i) left at s (c .before .short-move .result) (omega (arith, c .before .before .loop-test .taken)) (c .before .before
+    .before .loop .inv .1) (c .before .short-move .ensures .there (omega (arith, c .if1 .taken))) in
     t .some
 
 add-i : tie.Need-add-i Inv-loop μ-loop
@@ -55,8 +57,10 @@ loop-again c =
     let at = c .before .before .before .loop .at in
     let left = c .before .before .before .loop .left in
     let i = c .before .before .before .loop .i in
-    let t = short-turn (n - i) left at s (c .before .short-move .result) (omega (arith, c .before .before .loop-test .taken)) (c .before .before .before .loop .inv .1) (c .before .short-move .ensures .there (omega (arith, c .if1 .taken))) in
-    (omega (arith, c .before .before .loop-test .taken), t .inside, judged-move (actsNumber (readActions n (c .before .before .before .before .before .args .most) s)) n i left at s _ 3 t (c .before .before .before .loop .inv .2))
+    let t = short-turn (n - i) left at s (c .before .short-move .result) (omega (arith, c .before .before .loop-test .taken)) (c .before .before
+    .before .loop .inv .1) (c .before .short-move .ensures .there (omega (arith, c .if1 .taken))) in
+    (omega (arith, c .before .before .loop-test .taken), t .inside, judged-move (actsNumber (readActions n (c .before .before .before .before .before
+    .args .most) s)) n i left at s _ 3 t (c .before .before .before .loop .inv .2))
 
 rest-requires : tie.Need-rest-requires Inv-loop μ-loop
 rest-requires c κs = search needs
@@ -77,7 +81,9 @@ add-at-2 c =
     let at = c .before .before .before .before .before .before .before .before .loop .at in
     let left = c .before .before .before .before .before .before .before .before .loop .left in
     let i = c .before .before .before .before .before .before .before .before .loop .i in
-    let t = move-turn (n - i) left at s _ _ (omega (arith, c .before .before .before .before .before .before .before .loop-test .taken)) (c .before .before .before .before .before .before .before .before .loop .inv .1) (c .before .before .before .before .rest .ensures) (c .before .before .before .read-entry .ensures) _ _ (c .before .e .given .1) in
+    let t = move-turn (n - i) left at s _ _ (omega (arith, c .before .before .before .before .before .before .before .loop-test .taken)) (c .before
+    .before .before .before .before .before .before .before .loop .inv .1) (c .before .before .before .before .rest .ensures) (c .before .before
+    .before .read-entry .ensures) _ _ (c .before .e .given .1) in
     omega (arith, t .inside)
 
 sub-left-2 : tie.Need-sub-left-2 Inv-loop μ-loop
@@ -87,7 +93,9 @@ sub-left-2 c =
     let at = c .before .before .before .before .before .before .before .before .loop .at in
     let left = c .before .before .before .before .before .before .before .before .loop .left in
     let i = c .before .before .before .before .before .before .before .before .loop .i in
-    let t = move-turn (n - i) left at s _ _ (omega (arith, c .before .before .before .before .before .before .before .loop-test .taken)) (c .before .before .before .before .before .before .before .before .loop .inv .1) (c .before .before .before .before .rest .ensures) (c .before .before .before .read-entry .ensures) _ _ (c .before .e .given .1) in
+    let t = move-turn (n - i) left at s _ _ (omega (arith, c .before .before .before .before .before .before .before .loop-test .taken)) (c .before
+    .before .before .before .before .before .before .before .loop .inv .1) (c .before .before .before .before .rest .ensures) (c .before .before
+    .before .read-entry .ensures) _ _ (c .before .e .given .1) in
     t .some
 
 loop-less-2 : tie.Need-loop-less-2 Inv-loop μ-loop
@@ -100,8 +108,12 @@ loop-again-2 c =
     let at = c .before .before .before .before .before .before .before .before .loop .at in
     let left = c .before .before .before .before .before .before .before .before .loop .left in
     let i = c .before .before .before .before .before .before .before .before .loop .i in
-    let t = move-turn (n - i) left at s _ _ (omega (arith, c .before .before .before .before .before .before .before .loop-test .taken)) (c .before .before .before .before .before .before .before .before .loop .inv .1) (c .before .before .before .before .rest .ensures) (c .before .before .before .read-entry .ensures) _ _ (c .before .e .given .1) in
-    (omega (arith, c .before .before .before .before .before .before .before .loop-test .taken), t .inside, judged-move (actsNumber (readActions n (c .before .before .before .before .before .before .before .before .before .before .args .most) s)) n i left at s _ _ t (c .before .before .before .before .before .before .before .before .loop .inv .2))
+    let t = move-turn (n - i) left at s _ _ (omega (arith, c .before .before .before .before .before .before .before .loop-test .taken)) (c .before
+    .before .before .before .before .before .before .before .loop .inv .1) (c .before .before .before .before .rest .ensures) (c .before .before
+    .before .read-entry .ensures) _ _ (c .before .e .given .1) in
+    (omega (arith, c .before .before .before .before .before .before .before .loop-test .taken), t .inside, judged-move (actsNumber (readActions n (c
+    .before .before .before .before .before .before .before .before .before .before .args .most) s)) n i left at s _ _ t (c .before .before .before
+    .before .before .before .before .before .loop .inv .2))
 
 enum-known-e-2 : tie.Need-enum-known-e-2 Inv-loop μ-loop
 enum-known-e-2 c = search needs
@@ -113,7 +125,9 @@ add-at-3 c =
     let at = c .before .before .before .before .before .before .before .before .loop .at in
     let left = c .before .before .before .before .before .before .before .before .loop .left in
     let i = c .before .before .before .before .before .before .before .before .loop .i in
-    let t = plain-turn (n - i) left at s _ _ (omega (arith, c .before .before .before .before .before .before .before .loop-test .taken)) (c .before .before .before .before .before .before .before .before .loop .inv .1) (c .before .before .before .before .rest .ensures) (c .before .before .before .read-entry .ensures) _ _ (c .before .e2 .given .1) in
+    let t = plain-turn (n - i) left at s _ _ (omega (arith, c .before .before .before .before .before .before .before .loop-test .taken)) (c .before
+    .before .before .before .before .before .before .before .loop .inv .1) (c .before .before .before .before .rest .ensures) (c .before .before
+    .before .read-entry .ensures) _ _ (c .before .e2 .given .1) in
     omega (arith, t .inside)
 
 loop-less-3 : tie.Need-loop-less-3 Inv-loop μ-loop
@@ -126,8 +140,12 @@ loop-again-3 c =
     let at = c .before .before .before .before .before .before .before .before .loop .at in
     let left = c .before .before .before .before .before .before .before .before .loop .left in
     let i = c .before .before .before .before .before .before .before .before .loop .i in
-    let t = plain-turn (n - i) left at s _ _ (omega (arith, c .before .before .before .before .before .before .before .loop-test .taken)) (c .before .before .before .before .before .before .before .before .loop .inv .1) (c .before .before .before .before .rest .ensures) (c .before .before .before .read-entry .ensures) _ _ (c .before .e2 .given .1) in
-    (omega (arith, c .before .before .before .before .before .before .before .loop-test .taken), t .inside, judged-plain (actsNumber (readActions n (c .before .before .before .before .before .before .before .before .before .before .args .most) s)) n i left at s _ _ t (c .before .before .before .before .before .before .before .before .loop .inv .2))
+    let t = plain-turn (n - i) left at s _ _ (omega (arith, c .before .before .before .before .before .before .before .loop-test .taken)) (c .before
+    .before .before .before .before .before .before .before .loop .inv .1) (c .before .before .before .before .rest .ensures) (c .before .before
+    .before .read-entry .ensures) _ _ (c .before .e2 .given .1) in
+    (omega (arith, c .before .before .before .before .before .before .before .loop-test .taken), t .inside, judged-plain (actsNumber (readActions n (c
+    .before .before .before .before .before .before .before .before .before .before .args .most) s)) n i left at s _ _ t (c .before .before .before
+    .before .before .before .before .before .loop .inv .2))
 
 enum-known-e-3 : tie.Need-enum-known-e-3 Inv-loop μ-loop
 enum-known-e-3 c = search needs
@@ -139,7 +157,9 @@ returns c =
     let at = c .before .before .before .before .before .before .before .before .loop .at in
     let left = c .before .before .before .before .before .before .before .before .loop .left in
     let i = c .before .before .before .before .before .before .before .before .loop .i in
-    let stop = stop-turn (n - i) left at s _ _ (omega (arith, c .before .before .before .before .before .before .before .loop-test .taken)) (c .before .before .before .before .before .before .before .before .loop .inv .1) (c .before .before .before .before .rest .ensures) (c .before .before .before .read-entry .ensures) _ (c .before .e3 .given .1) in
+    let stop = stop-turn (n - i) left at s _ _ (omega (arith, c .before .before .before .before .before .before .before .loop-test .taken)) (c .before
+    .before .before .before .before .before .before .before .loop .inv .1) (c .before .before .before .before .rest .ensures) (c .before .before
+    .before .read-entry .ensures) _ (c .before .e3 .given .1) in
     sym (c .before .before .before .before .before .before .before .before .loop .inv .2 ∙ ap actsNumber stop ∙ number-halted _)
 
 returns-2 : tie.Need-returns-2 Inv-loop μ-loop
@@ -149,7 +169,8 @@ returns-2 c =
     let at = c .before .before .loop .at in
     let left = c .before .before .loop .left in
     let i = c .before .before .loop .i in
-    judged-long (actsNumber (readActions n (c .before .before .before .before .args .most) s)) n i left at s (c .before .loop-test .left) (c .if2 .taken) (c .before .before .loop .inv .2)
+    judged-long (actsNumber (readActions n (c .before .before .before .before .args .most) s)) n i left at s (c .before .loop-test .left) (c .if2
+        .taken) (c .before .before .loop .inv .2)
 
 returns-3 : tie.Need-returns-3 Inv-loop μ-loop
 returns-3 c = 
@@ -158,7 +179,8 @@ returns-3 c =
     let at = c .before .before .loop .at in
     let left = c .before .before .loop .left in
     let i = c .before .before .loop .i in
-    judged-end (actsNumber (readActions n (c .before .before .before .before .args .most) s)) n i left at s (c .before .loop-test .left) (c .if2 .left) (c .before .before .loop .inv .2)
+    judged-end (actsNumber (readActions n (c .before .before .before .before .args .most) s)) n i left at s (c .before .loop-test .left) (c .if2 .left)
+        (c .before .before .loop .inv .2)
 
 pub judge-actions-spec : {M : Type 1} → statement M
 judge-actions-spec =

@@ -11,7 +11,8 @@ numbers-in-range-requires : tie.Need-numbers-in-range-requires
 numbers-in-range-requires c κs = search needs
 
 returns : tie.Need-returns
-returns c = record-there (c .before .before .before .before .args .s .now) _ (c .before .before .front .ensures) (sym (c .before .numbers-in-range .ensures) ∙ c .if1 .taken)
+returns c = record-there (c .before .before .before .before .args .s .now) _ (c .before .before .front .ensures) (sym (c .before .numbers-in-range
+    .ensures) ∙ c .if1 .taken)
 
 judge-numbers-requires : tie.Need-judge-numbers-requires
 judge-numbers-requires c κs = search needs

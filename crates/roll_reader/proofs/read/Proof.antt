@@ -3,7 +3,8 @@ use mathlib.Core.Path.{ap, sym, _∙_}
 use native.Mathlib.Omega.{arith}
 use lib.ListN.{length}
 use Rattle.roll_text.specs.Calls.{rollAnswer}
-use Rattle.roll_reader.proofs.Answers.{over-refusal, short-part, bad-record, record-long, no-count, over-count, at-actions, bad-actions, written-over, roll-answer, accepted-actions}
+use Rattle.roll_reader.proofs.Answers.{over-refusal, short-part, bad-record, record-long, no-count, over-count}
+use Rattle.roll_reader.proofs.Answers.{at-actions, bad-actions, written-over, roll-answer, accepted-actions}
 use Rattle.roll_reader.proofs.read.Statement.{statement}
 use Rattle.roll_reader.proofs.read.Tie as tie
 
@@ -11,7 +12,8 @@ refusal-requires : tie.Need-refusal-requires
 refusal-requires c κs = search needs
 
 returns : tie.Need-returns
-returns c = let j = short-part (c .before .before .before .before .args .s .now) (length (c .before .before .before .before .args .part .now)) (c .before .if1 .taken) in (c .refusal .ensures ∙ ap rollAnswer (sym j), over-refusal _ _ (c .before .before .before .before .args .part .now) j)
+returns c = let j = short-part (c .before .before .before .before .args .s .now) (length (c .before .before .before .before .args .part .now)) (c
+    .before .if1 .taken) in (c .refusal .ensures ∙ ap rollAnswer (sym j), over-refusal _ _ (c .before .before .before .before .args .part .now) j)
 
 judge-record-requires : tie.Need-judge-record-requires
 judge-record-requires c κs = search needs
@@ -20,7 +22,9 @@ refusal-requires-2 : tie.Need-refusal-requires-2
 refusal-requires-2 c κs = search needs
 
 returns-2 : tie.Need-returns-2
-returns-2 c = let j = bad-record (c .before .before .before .before .before .before .args .s .now) (length (c .before .before .before .before .before .before .args .part .now)) _ (c .before .before .before .if1 .left) (c .before .before .judge-record .ensures) (c .before .if2 .taken) in (c .refusal2 .ensures ∙ ap rollAnswer (sym j), over-refusal _ _ (c .before .before .before .before .before .before .args .part .now) j)
+returns-2 c = let j = bad-record (c .before .before .before .before .before .before .args .s .now) (length (c .before .before .before .before .before
+    .before .args .part .now)) _ (c .before .before .before .if1 .left) (c .before .before .judge-record .ensures) (c .before .if2 .taken) in
+    (c .refusal2 .ensures ∙ ap rollAnswer (sym j), over-refusal _ _ (c .before .before .before .before .before .before .args .part .now) j)
 
 rest-requires : tie.Need-rest-requires
 rest-requires c κs = search needs
@@ -35,7 +39,13 @@ refusal-requires-3 : tie.Need-refusal-requires-3
 refusal-requires-3 c κs = search needs
 
 returns-3 : tie.Need-returns-3
-returns-3 c = let j = over-count (c .before .before .before .before .before .before .before .before .before .before .before .before .args .s .now) _ (length (c .before .before .before .before .before .before .before .before .before .before .before .before .args .part .now)) _ _ (c .before .before .before .before .before .before .before .before .before .if1 .left) (c .before .before .before .before .before .before .before .before .judge-record .ensures) (c .before .before .before .before .before .before .before .if2 .left) (c .before .before .before .before .before .before .rest .ensures) (c .before .before .before .before .before .read-number .ensures) _ _ (c .before .before .before .count .given .1) (c .before .if3 .taken) in (c .refusal3 .ensures ∙ ap rollAnswer (sym j), over-refusal _ _ (c .before .before .before .before .before .before .before .before .before .before .before .before .args .part .now) j)
+returns-3 c = let j = over-count (c .before .before .before .before .before .before .before .before .before .before .before .before .args .s .now) _
+    (length (c .before .before .before .before .before .before .before .before .before .before .before .before .args .part .now)) _ _ (c .before
+    .before .before .before .before .before .before .before .before .if1 .left) (c .before .before .before .before .before .before .before .before
+    .judge-record .ensures) (c .before .before .before .before .before .before .before .if2 .left) (c .before .before .before .before .before .before
+    .rest .ensures) (c .before .before .before .before .before .read-number .ensures) _ _ (c .before .before .before .count .given .1) (c .before .if3
+    .taken) in (c .refusal3 .ensures ∙ ap rollAnswer (sym j), over-refusal _ _ (c .before .before .before .before .before .before .before .before
+    .before .before .before .before .args .part .now) j)
 
 rest-requires-2 : tie.Need-rest-requires-2
 rest-requires-2 c κs = search needs
@@ -47,13 +57,29 @@ refusal-requires-4 : tie.Need-refusal-requires-4
 refusal-requires-4 c κs = search needs
 
 returns-4 : tie.Need-returns-4
-returns-4 c = let j = bad-actions _ _ _ _ _ (at-actions (c .before .before .before .before .before .before .before .before .before .before .before .before .before .before .before .args .s .now) _ (length (c .before .before .before .before .before .before .before .before .before .before .before .before .before .before .before .args .part .now)) _ _ (c .before .before .before .before .before .before .before .before .before .before .before .before .if1 .left) (c .before .before .before .before .before .before .before .before .before .before .before .judge-record .ensures) (c .before .before .before .before .before .before .before .before .before .before .if2 .left) (c .before .before .before .before .before .before .before .before .before .rest .ensures) (c .before .before .before .before .before .before .before .before .read-number .ensures) _ _ _ (c .before .before .before .before .before .before .count .given .1) (c .before .before .before .before .if3 .left) (c .before .before .before .rest2 .ensures)) (c .before .before .judge-actions .ensures) (c .before .if4 .taken) in (c .refusal4 .ensures ∙ ap rollAnswer (sym j), over-refusal _ _ (c .before .before .before .before .before .before .before .before .before .before .before .before .before .before .before .args .part .now) j)
+returns-4 c = let j = bad-actions _ _ _ _ _ (at-actions (c .before .before .before .before .before .before .before .before .before .before .before
+    .before .before .before .before .args .s .now) _ (length (c .before .before .before .before .before .before .before .before .before .before .before
+    .before .before .before .before .args .part .now)) _ _ (c .before .before .before .before .before .before .before .before .before .before .before
+    .before .if1 .left) (c .before .before .before .before .before .before .before .before .before .before .before .judge-record .ensures) (c .before
+    .before .before .before .before .before .before .before .before .before .if2 .left) (c .before .before .before .before .before .before .before
+    .before .before .rest .ensures) (c .before .before .before .before .before .before .before .before .read-number .ensures) _ _ _ (c .before .before
+    .before .before .before .before .count .given .1) (c .before .before .before .before .if3 .left) (c .before .before .before .rest2 .ensures)) (c
+    .before .before .judge-actions .ensures) (c .before .if4 .taken) in
+    (c .refusal4 .ensures ∙ ap rollAnswer (sym j), over-refusal _ _ (c .before .before .before .before .before .before .before .before .before .before
+    .before .before .before .before .before .args .part .now) j)
 
 write-actions-requires : tie.Need-write-actions-requires
-write-actions-requires c κs = (accepted-actions _ _ _ _ (c .before .before .judge-actions .ensures) (c .before .if4 .left), omega (arith, c .before .before .before .before .before .before .before .before .before .before .before .before .if1 .left, c .before .before .before .before .if3 .left))
+write-actions-requires c κs = (accepted-actions _ _ _ _ (c .before .before .judge-actions .ensures) (c .before .if4 .left), omega (arith, c .before
+    .before .before .before .before .before .before .before .before .before .before .before .if1 .left, c .before .before .before .before .if3 .left))
 
 board-at-requires : tie.Need-board-at-requires
-board-at-requires c κs = record-long (c .before .before .before .before .before .before .before .before .before .before .before .before .before .before .before .before .before .before .args .s .now) _ (length (c .before .before .before .before .before .before .before .before .before .before .before .before .before .before .before .before .before .before .args .part .now)) _ _ (c .before .before .before .before .before .before .before .before .before .before .before .before .before .before .before .if1 .left) (c .before .before .before .before .before .before .before .before .before .before .before .before .before .before .judge-record .ensures) (c .before .before .before .before .before .before .before .before .before .before .before .before .before .if2 .left) (c .before .before .before .before .before .before .before .before .before .before .before .before .rest .ensures) (c .before .before .before .before .before .before .before .before .before .before .before .read-number .ensures)
+board-at-requires c κs = record-long (c .before .before .before .before .before .before .before .before .before .before .before .before .before .before
+    .before .before .before .before .args .s .now) _ (length (c .before .before .before .before .before .before .before .before .before .before .before
+    .before .before .before .before .before .before .before .args .part .now)) _ _ (c .before .before .before .before .before .before .before .before
+    .before .before .before .before .before .before .before .if1 .left) (c .before .before .before .before .before .before .before .before .before
+    .before .before .before .before .before .judge-record .ensures) (c .before .before .before .before .before .before .before .before .before .before
+    .before .before .before .if2 .left) (c .before .before .before .before .before .before .before .before .before .before .before .before .rest
+    .ensures) (c .before .before .before .before .before .before .before .before .before .before .before .read-number .ensures)
 
 enum-told : tie.Need-enum-told
 enum-told c = search needs
@@ -65,10 +91,28 @@ same-length : tie.Need-same-length
 same-length c = search needs
 
 returns-5 : tie.Need-returns-5
-returns-5 c = let j = at-actions (c .before .before .before .before .before .before .before .before .before .before .before .before .before .before .before .before .before .before .before .args .s .now) _ (length (c .before .before .before .before .before .before .before .before .before .before .before .before .before .before .before .before .before .before .before .args .part .now)) _ _ (c .before .before .before .before .before .before .before .before .before .before .before .before .before .before .before .before .if1 .left) (c .before .before .before .before .before .before .before .before .before .before .before .before .before .before .before .judge-record .ensures) (c .before .before .before .before .before .before .before .before .before .before .before .before .before .before .if2 .left) (c .before .before .before .before .before .before .before .before .before .before .before .before .before .rest .ensures) (c .before .before .before .before .before .before .before .before .before .before .before .before .read-number .ensures) _ _ _ (c .before .before .before .before .before .before .before .before .before .before .count .given .1) (c .before .before .before .before .before .before .before .before .if3 .left) (c .before .before .before .before .before .before .before .rest2 .ensures) in (roll-answer _ (c .before .before .before .before .before .before .before .before .before .before .before .before .before .before .before .before .before .before .before .args .s .now) _ _ _ j (accepted-actions _ _ _ _ (c .before .before .before .before .before .before .judge-actions .ensures) (c .before .before .before .before .before .if4 .left)) (c .board-at .ensures), written-over _ _ _ _ (c .before .before .before .before .before .before .before .before .before .before .before .before .before .before .before .before .before .before .before .args .part .now) _ j (c .before .before .before .write-actions .ensures))
+returns-5 c = let j = at-actions (c .before .before .before .before .before .before .before .before .before .before .before .before .before .before
+    .before .before .before .before .before .args .s .now) _ (length (c .before .before .before .before .before .before .before .before .before .before
+    .before .before .before .before .before .before .before .before .before .args .part .now)) _ _ (c .before .before .before .before .before .before
+    .before .before .before .before .before .before .before .before .before .before .if1 .left) (c .before .before .before .before .before .before
+    .before .before .before .before .before .before .before .before .before .judge-record .ensures) (c .before .before .before .before .before .before
+    .before .before .before .before .before .before .before .before .if2 .left) (c .before .before .before .before .before .before .before .before
+    .before .before .before .before .before .rest .ensures) (c .before .before .before .before .before .before .before .before .before .before .before
+    .before .read-number .ensures) _ _ _ (c .before .before .before .before .before .before .before .before .before .before .count .given .1) (c
+    .before .before .before .before .before .before .before .before .if3 .left) (c .before .before .before .before .before .before .before .rest2
+    .ensures) in (roll-answer _ (c .before .before .before .before .before .before .before .before .before .before .before .before .before .before
+    .before .before .before .before .before .args .s .now) _ _ _ j (accepted-actions _ _ _ _ (c .before .before .before .before .before .before
+    .judge-actions .ensures) (c .before .before .before .before .before .if4 .left)) (c .board-at .ensures), written-over _ _ _ _ (c .before .before
+    .before .before .before .before .before .before .before .before .before .before .before .before .before .before .before .before .before .args .part
+    .now) _ j (c .before .before .before .write-actions .ensures))
 
 returns-6 : tie.Need-returns-6
-returns-6 c = let j = no-count (c .before .before .before .before .before .before .before .before .before .before .args .s .now) _ (length (c .before .before .before .before .before .before .before .before .before .before .args .part .now)) _ _ (c .before .before .before .before .before .before .before .if1 .left) (c .before .before .before .before .before .before .judge-record .ensures) (c .before .before .before .before .before .if2 .left) (c .before .before .before .before .rest .ensures) (c .before .before .before .read-number .ensures) (c .before .enum-told .given .1) in (c .refusal5 .ensures ∙ ap rollAnswer (sym j), over-refusal _ _ (c .before .before .before .before .before .before .before .before .before .before .args .part .now) j)
+returns-6 c = let j = no-count (c .before .before .before .before .before .before .before .before .before .before .args .s .now) _ (length (c .before
+    .before .before .before .before .before .before .before .before .before .args .part .now)) _ _ (c .before .before .before .before .before .before
+    .before .if1 .left) (c .before .before .before .before .before .before .judge-record .ensures) (c .before .before .before .before .before .if2
+    .left) (c .before .before .before .before .rest .ensures) (c .before .before .before .read-number .ensures) (c .before .enum-told .given .1) in
+    (c .refusal5 .ensures ∙ ap rollAnswer (sym j), over-refusal _ _ (c .before .before .before .before .before .before .before .before .before .before
+    .args .part .now) j)
 
 pub read-spec : {M : Type 1} → statement M
 read-spec =

@@ -17,7 +17,8 @@ abbrev μ-loop : tie.MeasureT-loop
 μ-loop s n most out₀ at₀ left₀ i₀ out at left i = n - i
 
 loop-holds : tie.Need-loop-holds Inv-loop μ-loop
-loop-holds c = (omega arith, omega arith, wrote-none (c .before .before .args .out .now) (c .before .before .args .s .now) (c .before .before .args .n) (c .before .before .args .most))
+loop-holds c = (omega arith, omega arith, wrote-none (c .before .before .args .out .now) (c .before .before .args .s .now) (c .before .before .args .n)
+    (c .before .before .args .most))
 
 mul-to : tie.Need-mul-to Inv-loop μ-loop
 mul-to c = 
@@ -47,8 +48,10 @@ put-action-requires c κs =
     let left = c .before .before .before .before .loop .left in
     let i = c .before .before .before .before .loop .i in
     let w = c .before .before .before .before .loop .inv .2 in
-    let t = short-turn (n - i) left at s (c .before .before .short-move .result) (omega (arith, c .before .before .before .loop-test .taken)) (c .before .before .before .before .loop .inv .1) (c .before .before .short-move .ensures .there (omega (arith, c .before .if1 .taken))) in
-    let l = wrote-length part out s n most i left at w (c .before .before .before .before .loop .inv .0) (c .before .before .before .before .before .before .before .pre .1) in
+    let t = short-turn (n - i) left at s (c .before .before .short-move .result) (omega (arith, c .before .before .before .loop-test .taken)) (c
+    .before .before .before .before .loop .inv .1) (c .before .before .short-move .ensures .there (omega (arith, c .before .if1 .taken))) in
+    let l = wrote-length part out s n most i left at w (c .before .before .before .before .loop .inv .0) (c .before .before .before .before .before
+    .before .before .pre .1) in
     (omega (arith, c .before .before .before .loop-test .taken, c .before .before .before .before .before .before .before .pre .1), t .last)
 
 add-at : tie.Need-add-at Inv-loop μ-loop
@@ -62,7 +65,9 @@ add-at c =
     let left = c .before .before .before .before .before .before .before .loop .left in
     let i = c .before .before .before .before .before .before .before .loop .i in
     let w = c .before .before .before .before .before .before .before .loop .inv .2 in
-    let t = short-turn (n - i) left at s (c .before .before .before .before .before .short-move .result) (omega (arith, c .before .before .before .before .before .before .loop-test .taken)) (c .before .before .before .before .before .before .before .loop .inv .1) (c .before .before .before .before .before .short-move .ensures .there (omega (arith, c .before .before .before .before .if1 .taken))) in
+    let t = short-turn (n - i) left at s (c .before .before .before .before .before .short-move .result) (omega (arith, c .before .before .before
+    .before .before .before .loop-test .taken)) (c .before .before .before .before .before .before .before .loop .inv .1) (c .before .before .before
+    .before .before .short-move .ensures .there (omega (arith, c .before .before .before .before .if1 .taken))) in
     omega (arith, t .inside)
 
 sub-left : tie.Need-sub-left Inv-loop μ-loop
@@ -76,7 +81,9 @@ sub-left c =
     let left = c .before .before .before .before .before .before .before .loop .left in
     let i = c .before .before .before .before .before .before .before .loop .i in
     let w = c .before .before .before .before .before .before .before .loop .inv .2 in
-    let t = short-turn (n - i) left at s (c .before .before .before .before .before .short-move .result) (omega (arith, c .before .before .before .before .before .before .loop-test .taken)) (c .before .before .before .before .before .before .before .loop .inv .1) (c .before .before .before .before .before .short-move .ensures .there (omega (arith, c .before .before .before .before .if1 .taken))) in
+    let t = short-turn (n - i) left at s (c .before .before .before .before .before .short-move .result) (omega (arith, c .before .before .before
+    .before .before .before .loop-test .taken)) (c .before .before .before .before .before .before .before .loop .inv .1) (c .before .before .before
+    .before .before .short-move .ensures .there (omega (arith, c .before .before .before .before .if1 .taken))) in
     t .some
 
 add-i : tie.Need-add-i Inv-loop μ-loop
@@ -96,8 +103,12 @@ loop-again c =
     let left = c .before .before .before .before .before .before .before .loop .left in
     let i = c .before .before .before .before .before .before .before .loop .i in
     let w = c .before .before .before .before .before .before .before .loop .inv .2 in
-    let t = short-turn (n - i) left at s (c .before .before .before .before .before .short-move .result) (omega (arith, c .before .before .before .before .before .before .loop-test .taken)) (c .before .before .before .before .before .before .before .loop .inv .1) (c .before .before .before .before .before .short-move .ensures .there (omega (arith, c .before .before .before .before .if1 .taken))) in
-    (omega (arith, c .before .before .before .before .before .before .loop-test .taken), t .inside, wrote-more part out (c .before .before .put-action .last .0) s n most i left at _ _ _ w refl (c .before .before .before .before .before .before .loop-test .taken) (c .before .before .before .before .before .before .before .before .before .before .pre .1) (t .then) (c .before .before .put-action .ensures))
+    let t = short-turn (n - i) left at s (c .before .before .before .before .before .short-move .result) (omega (arith, c .before .before .before
+    .before .before .before .loop-test .taken)) (c .before .before .before .before .before .before .before .loop .inv .1) (c .before .before .before
+    .before .before .short-move .ensures .there (omega (arith, c .before .before .before .before .if1 .taken))) in
+    (omega (arith, c .before .before .before .before .before .before .loop-test .taken), t .inside, wrote-more part out (c .before .before .put-action
+    .last .0) s n most i left at _ _ _ w refl (c .before .before .before .before .before .before .loop-test .taken) (c .before .before .before .before
+    .before .before .before .before .before .before .pre .1) (t .then) (c .before .before .put-action .ensures))
 
 rest-requires : tie.Need-rest-requires Inv-loop μ-loop
 rest-requires c κs = search needs
@@ -122,9 +133,13 @@ put-action-requires-2 c κs =
     let left = c .before .before .before .before .before .before .before .before .before .loop .left in
     let i = c .before .before .before .before .before .before .before .before .before .loop .i in
     let w = c .before .before .before .before .before .before .before .before .before .loop .inv .2 in
-    let t = move-turn (n - i) left at s _ _ (omega (arith, c .before .before .before .before .before .before .before .before .loop-test .taken)) (c .before .before .before .before .before .before .before .before .before .loop .inv .1) (c .before .before .before .before .before .rest .ensures) (c .before .before .before .before .read-entry .ensures) _ _ (c .before .before .e .given .1) in
-    let l = wrote-length part out s n most i left at w (c .before .before .before .before .before .before .before .before .before .loop .inv .0) (c .before .before .before .before .before .before .before .before .before .before .before .before .pre .1) in
-    (omega (arith, c .before .before .before .before .before .before .before .before .loop-test .taken, c .before .before .before .before .before .before .before .before .before .before .before .before .pre .1), t .last)
+    let t = move-turn (n - i) left at s _ _ (omega (arith, c .before .before .before .before .before .before .before .before .loop-test .taken)) (c
+    .before .before .before .before .before .before .before .before .before .loop .inv .1) (c .before .before .before .before .before .rest .ensures)
+    (c .before .before .before .before .read-entry .ensures) _ _ (c .before .before .e .given .1) in
+    let l = wrote-length part out s n most i left at w (c .before .before .before .before .before .before .before .before .before .loop .inv .0) (c
+    .before .before .before .before .before .before .before .before .before .before .before .before .pre .1) in
+    (omega (arith, c .before .before .before .before .before .before .before .before .loop-test .taken, c .before .before .before .before .before
+    .before .before .before .before .before .before .before .pre .1), t .last)
 
 add-at-2 : tie.Need-add-at-2 Inv-loop μ-loop
 add-at-2 c = 
@@ -137,7 +152,10 @@ add-at-2 c =
     let left = c .before .before .before .before .before .before .before .before .before .before .before .before .loop .left in
     let i = c .before .before .before .before .before .before .before .before .before .before .before .before .loop .i in
     let w = c .before .before .before .before .before .before .before .before .before .before .before .before .loop .inv .2 in
-    let t = move-turn (n - i) left at s _ _ (omega (arith, c .before .before .before .before .before .before .before .before .before .before .before .loop-test .taken)) (c .before .before .before .before .before .before .before .before .before .before .before .before .loop .inv .1) (c .before .before .before .before .before .before .before .before .rest .ensures) (c .before .before .before .before .before .before .before .read-entry .ensures) _ _ (c .before .before .before .before .before .e .given .1) in
+    let t = move-turn (n - i) left at s _ _ (omega (arith, c .before .before .before .before .before .before .before .before .before .before .before
+    .loop-test .taken)) (c .before .before .before .before .before .before .before .before .before .before .before .before .loop .inv .1) (c .before
+    .before .before .before .before .before .before .before .rest .ensures) (c .before .before .before .before .before .before .before .read-entry
+    .ensures) _ _ (c .before .before .before .before .before .e .given .1) in
     omega (arith, t .inside)
 
 sub-left-2 : tie.Need-sub-left-2 Inv-loop μ-loop
@@ -151,7 +169,10 @@ sub-left-2 c =
     let left = c .before .before .before .before .before .before .before .before .before .before .before .before .loop .left in
     let i = c .before .before .before .before .before .before .before .before .before .before .before .before .loop .i in
     let w = c .before .before .before .before .before .before .before .before .before .before .before .before .loop .inv .2 in
-    let t = move-turn (n - i) left at s _ _ (omega (arith, c .before .before .before .before .before .before .before .before .before .before .before .loop-test .taken)) (c .before .before .before .before .before .before .before .before .before .before .before .before .loop .inv .1) (c .before .before .before .before .before .before .before .before .rest .ensures) (c .before .before .before .before .before .before .before .read-entry .ensures) _ _ (c .before .before .before .before .before .e .given .1) in
+    let t = move-turn (n - i) left at s _ _ (omega (arith, c .before .before .before .before .before .before .before .before .before .before .before
+    .loop-test .taken)) (c .before .before .before .before .before .before .before .before .before .before .before .before .loop .inv .1) (c .before
+    .before .before .before .before .before .before .before .rest .ensures) (c .before .before .before .before .before .before .before .read-entry
+    .ensures) _ _ (c .before .before .before .before .before .e .given .1) in
     t .some
 
 loop-less-2 : tie.Need-loop-less-2 Inv-loop μ-loop
@@ -168,8 +189,14 @@ loop-again-2 c =
     let left = c .before .before .before .before .before .before .before .before .before .before .before .before .loop .left in
     let i = c .before .before .before .before .before .before .before .before .before .before .before .before .loop .i in
     let w = c .before .before .before .before .before .before .before .before .before .before .before .before .loop .inv .2 in
-    let t = move-turn (n - i) left at s _ _ (omega (arith, c .before .before .before .before .before .before .before .before .before .before .before .loop-test .taken)) (c .before .before .before .before .before .before .before .before .before .before .before .before .loop .inv .1) (c .before .before .before .before .before .before .before .before .rest .ensures) (c .before .before .before .before .before .before .before .read-entry .ensures) _ _ (c .before .before .before .before .before .e .given .1) in
-    (omega (arith, c .before .before .before .before .before .before .before .before .before .before .before .loop-test .taken), t .inside, wrote-more part out (c .before .before .put-action2 .last .0) s n most i left at _ _ _ w refl (c .before .before .before .before .before .before .before .before .before .before .before .loop-test .taken) (c .before .before .before .before .before .before .before .before .before .before .before .before .before .before .before .pre .1) (t .then) (c .before .before .put-action2 .ensures))
+    let t = move-turn (n - i) left at s _ _ (omega (arith, c .before .before .before .before .before .before .before .before .before .before .before
+    .loop-test .taken)) (c .before .before .before .before .before .before .before .before .before .before .before .before .loop .inv .1) (c .before
+    .before .before .before .before .before .before .before .rest .ensures) (c .before .before .before .before .before .before .before .read-entry
+    .ensures) _ _ (c .before .before .before .before .before .e .given .1) in
+    (omega (arith, c .before .before .before .before .before .before .before .before .before .before .before .loop-test .taken), t .inside, wrote-more
+    part out (c .before .before .put-action2 .last .0) s n most i left at _ _ _ w refl (c .before .before .before .before .before .before .before
+    .before .before .before .before .loop-test .taken) (c .before .before .before .before .before .before .before .before .before .before .before
+    .before .before .before .before .pre .1) (t .then) (c .before .before .put-action2 .ensures))
 
 enum-known-e-2 : tie.Need-enum-known-e-2 Inv-loop μ-loop
 enum-known-e-2 c = search needs
@@ -185,7 +212,9 @@ cast-put-action c =
     let left = c .before .before .before .before .before .before .before .before .before .loop .left in
     let i = c .before .before .before .before .before .before .before .before .before .loop .i in
     let w = c .before .before .before .before .before .before .before .before .before .loop .inv .2 in
-    let t = plain-turn (n - i) left at s _ _ (omega (arith, c .before .before .before .before .before .before .before .before .loop-test .taken)) (c .before .before .before .before .before .before .before .before .before .loop .inv .1) (c .before .before .before .before .before .rest .ensures) (c .before .before .before .before .read-entry .ensures) _ _ (c .before .before .e2 .given .1) in
+    let t = plain-turn (n - i) left at s _ _ (omega (arith, c .before .before .before .before .before .before .before .before .loop-test .taken)) (c
+    .before .before .before .before .before .before .before .before .before .loop .inv .1) (c .before .before .before .before .before .rest .ensures)
+    (c .before .before .before .before .read-entry .ensures) _ _ (c .before .before .e2 .given .1) in
     omega (arith, code-range _ (t .is-code))
 
 cast-put-action-2 : tie.Need-cast-put-action-2 Inv-loop μ-loop
@@ -199,7 +228,9 @@ cast-put-action-2 c =
     let left = c .before .before .before .before .before .before .before .before .before .loop .left in
     let i = c .before .before .before .before .before .before .before .before .before .loop .i in
     let w = c .before .before .before .before .before .before .before .before .before .loop .inv .2 in
-    let t = plain-turn (n - i) left at s _ _ (omega (arith, c .before .before .before .before .before .before .before .before .loop-test .taken)) (c .before .before .before .before .before .before .before .before .before .loop .inv .1) (c .before .before .before .before .before .rest .ensures) (c .before .before .before .before .read-entry .ensures) _ _ (c .before .before .e2 .given .1) in
+    let t = plain-turn (n - i) left at s _ _ (omega (arith, c .before .before .before .before .before .before .before .before .loop-test .taken)) (c
+    .before .before .before .before .before .before .before .before .before .loop .inv .1) (c .before .before .before .before .before .rest .ensures)
+    (c .before .before .before .before .read-entry .ensures) _ _ (c .before .before .e2 .given .1) in
     omega (arith, code-range _ (t .is-code))
 
 put-action-requires-3 : tie.Need-put-action-requires-3 Inv-loop μ-loop
@@ -213,8 +244,10 @@ put-action-requires-3 c κs =
     let left = c .before .before .before .before .before .before .before .before .before .loop .left in
     let i = c .before .before .before .before .before .before .before .before .before .loop .i in
     let w = c .before .before .before .before .before .before .before .before .before .loop .inv .2 in
-    let l = wrote-length part out s n most i left at w (c .before .before .before .before .before .before .before .before .before .loop .inv .0) (c .before .before .before .before .before .before .before .before .before .before .before .before .pre .1) in
-    (omega (arith, c .before .before .before .before .before .before .before .before .loop-test .taken, c .before .before .before .before .before .before .before .before .before .before .before .before .pre .1), omega arith)
+    let l = wrote-length part out s n most i left at w (c .before .before .before .before .before .before .before .before .before .loop .inv .0) (c
+    .before .before .before .before .before .before .before .before .before .before .before .before .pre .1) in
+    (omega (arith, c .before .before .before .before .before .before .before .before .loop-test .taken, c .before .before .before .before .before
+    .before .before .before .before .before .before .before .pre .1), omega arith)
 
 add-at-3 : tie.Need-add-at-3 Inv-loop μ-loop
 add-at-3 c = 
@@ -227,7 +260,10 @@ add-at-3 c =
     let left = c .before .before .before .before .before .before .before .before .before .before .before .before .loop .left in
     let i = c .before .before .before .before .before .before .before .before .before .before .before .before .loop .i in
     let w = c .before .before .before .before .before .before .before .before .before .before .before .before .loop .inv .2 in
-    let t = plain-turn (n - i) left at s _ _ (omega (arith, c .before .before .before .before .before .before .before .before .before .before .before .loop-test .taken)) (c .before .before .before .before .before .before .before .before .before .before .before .before .loop .inv .1) (c .before .before .before .before .before .before .before .before .rest .ensures) (c .before .before .before .before .before .before .before .read-entry .ensures) _ _ (c .before .before .before .before .before .e2 .given .1) in
+    let t = plain-turn (n - i) left at s _ _ (omega (arith, c .before .before .before .before .before .before .before .before .before .before .before
+    .loop-test .taken)) (c .before .before .before .before .before .before .before .before .before .before .before .before .loop .inv .1) (c .before
+    .before .before .before .before .before .before .before .rest .ensures) (c .before .before .before .before .before .before .before .read-entry
+    .ensures) _ _ (c .before .before .before .before .before .e2 .given .1) in
     omega (arith, t .inside)
 
 loop-less-3 : tie.Need-loop-less-3 Inv-loop μ-loop
@@ -244,8 +280,14 @@ loop-again-3 c =
     let left = c .before .before .before .before .before .before .before .before .before .before .before .before .loop .left in
     let i = c .before .before .before .before .before .before .before .before .before .before .before .before .loop .i in
     let w = c .before .before .before .before .before .before .before .before .before .before .before .before .loop .inv .2 in
-    let t = plain-turn (n - i) left at s _ _ (omega (arith, c .before .before .before .before .before .before .before .before .before .before .before .loop-test .taken)) (c .before .before .before .before .before .before .before .before .before .before .before .before .loop .inv .1) (c .before .before .before .before .before .before .before .before .rest .ensures) (c .before .before .before .before .before .before .before .read-entry .ensures) _ _ (c .before .before .before .before .before .e2 .given .1) in
-    (omega (arith, c .before .before .before .before .before .before .before .before .before .before .before .loop-test .taken), t .inside, wrote-more part out (c .before .before .put-action3 .last .0) s n most i left at _ _ _ w refl (c .before .before .before .before .before .before .before .before .before .before .before .loop-test .taken) (c .before .before .before .before .before .before .before .before .before .before .before .before .before .before .before .pre .1) (t .then) (c .before .before .put-action3 .ensures))
+    let t = plain-turn (n - i) left at s _ _ (omega (arith, c .before .before .before .before .before .before .before .before .before .before .before
+    .loop-test .taken)) (c .before .before .before .before .before .before .before .before .before .before .before .before .loop .inv .1) (c .before
+    .before .before .before .before .before .before .before .rest .ensures) (c .before .before .before .before .before .before .before .read-entry
+    .ensures) _ _ (c .before .before .before .before .before .e2 .given .1) in
+    (omega (arith, c .before .before .before .before .before .before .before .before .before .before .before .loop-test .taken), t .inside, wrote-more
+    part out (c .before .before .put-action3 .last .0) s n most i left at _ _ _ w refl (c .before .before .before .before .before .before .before
+    .before .before .before .before .loop-test .taken) (c .before .before .before .before .before .before .before .before .before .before .before
+    .before .before .before .before .pre .1) (t .then) (c .before .before .put-action3 .ensures))
 
 enum-told : tie.Need-enum-told Inv-loop μ-loop
 enum-told c = search needs
@@ -261,7 +303,8 @@ same-length c =
     let left = c .before .before .before .before .before .before .before .loop .left in
     let i = c .before .before .before .before .before .before .before .loop .i in
     let w = c .before .before .before .before .before .before .before .loop .inv .2 in
-    wrote-length part out s n most i left at w (c .before .before .before .before .before .before .before .loop .inv .0) (c .before .before .before .before .before .before .before .before .before .before .pre .1)
+    wrote-length part out s n most i left at w (c .before .before .before .before .before .before .before .loop .inv .0) (c .before .before .before
+        .before .before .before .before .before .before .before .pre .1)
 
 returns : tie.Need-returns Inv-loop μ-loop
 returns c = 
@@ -274,7 +317,9 @@ returns c =
     let left = c .before .before .before .before .before .before .before .loop .left in
     let i = c .before .before .before .before .before .before .before .loop .i in
     let w = c .before .before .before .before .before .before .before .loop .inv .2 in
-    let stop = stop-turn (n - i) left at s _ _ (omega (arith, c .before .before .before .before .before .before .loop-test .taken)) (c .before .before .before .before .before .before .before .loop .inv .1) (c .before .before .before .rest .ensures) (c .before .before .read-entry .ensures) _ (c .enum-told .given .1) in
+    let stop = stop-turn (n - i) left at s _ _ (omega (arith, c .before .before .before .before .before .before .loop-test .taken)) (c .before .before
+    .before .before .before .before .before .loop .inv .1) (c .before .before .before .rest .ensures) (c .before .before .read-entry .ensures) _ (c
+    .enum-told .given .1) in
     absurd (wrote-stopped part out s n most i left at _ w (c .before .before .before .before .before .before .before .before .before .before .pre .0) stop)
 
 same-length-2 : tie.Need-same-length-2 Inv-loop μ-loop

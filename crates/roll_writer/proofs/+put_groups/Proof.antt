@@ -37,13 +37,15 @@ put-groups-slice-write-out : (t : ℕ) → put-groups-lts.Need-slice-write-out (
   put-groups-below t,
   put-groups.Post,
 ) (put-groups-at t) put-groups.Post
-put-groups-slice-write-out t c = let e = ap length (one-group (c .before .before .args .k) (c .before .before .args .n) (c .before .before .pre .1 .0 .0) (c .if1 .taken)) in omega (arith, e, c .before .before .pre .1 .1)
+put-groups-slice-write-out t c = let e = ap length (one-group (c .before .before .args .k) (c .before .before .args .n) (c .before .before .pre .1 .0
+    .0) (c .if1 .taken)) in omega (arith, e, c .before .before .pre .1 .1)
 
 put-groups-add-result : (t : ℕ) → put-groups-lts.Need-add-result (
   put-groups-below t,
   put-groups.Post,
 ) (put-groups-at t) put-groups.Post
-put-groups-add-result t c = let e = ap length (one-group (c .before .before .args .k) (c .before .before .args .n) (c .before .before .pre .1 .0 .0) (c .if1 .taken)) in omega (arith, e, c .before .before .pre .1 .1)
+put-groups-add-result t c = let e = ap length (one-group (c .before .before .args .k) (c .before .before .args .n) (c .before .before .pre .1 .0 .0) (c
+    .if1 .taken)) in omega (arith, e, c .before .before .pre .1 .1)
 
 put-groups-same-length : (t : ℕ) → put-groups-lts.Need-same-length (
   put-groups-below t,
@@ -57,7 +59,9 @@ put-groups-returns :
     (put-groups-below t, put-groups.Post)
     (put-groups-at t)
     put-groups.Post
-put-groups-returns t c = let e = one-group (c .before .before .args .k) (c .before .before .args .n) (c .before .before .pre .1 .0 .0) (c .if1 .taken) in (rw e, rw e (set-written (c .before .before .args .out .now) (c .before .before .args .at) (c .before .before .args .n) (omega (arith, ap length e, c .before .before .pre .1 .1))))
+put-groups-returns t c = let e = one-group (c .before .before .args .k) (c .before .before .args .n) (c .before .before .pre .1 .0 .0) (c .if1 .taken)
+    in (rw e, rw e (set-written (c .before .before .args .out .now) (c .before .before .args .at) (c .before .before .args .n) (omega (arith, ap length
+    e, c .before .before .pre .1 .1))))
 
 put-groups-cast-out-2 : (t : ℕ) → put-groups-lts.Need-cast-out-2 (
   put-groups-below t,
@@ -77,13 +81,15 @@ put-groups-slice-write-out-2 : (t : ℕ) → put-groups-lts.Need-slice-write-out
   put-groups-below t,
   put-groups.Post,
 ) (put-groups-at t) put-groups.Post
-put-groups-slice-write-out-2 t c = let e = ap length (group-and-more (c .before .before .args .k) (c .before .before .args .n) (c .before .before .pre .1 .0 .0) (c .if1 .left)) in omega (arith, e, c .before .before .pre .1 .1)
+put-groups-slice-write-out-2 t c = let e = ap length (group-and-more (c .before .before .args .k) (c .before .before .args .n) (c .before .before .pre
+    .1 .0 .0) (c .if1 .left)) in omega (arith, e, c .before .before .pre .1 .1)
 
 put-groups-add-put-groups : (t : ℕ) → put-groups-lts.Need-add-put-groups (
   put-groups-below t,
   put-groups.Post,
 ) (put-groups-at t) put-groups.Post
-put-groups-add-put-groups t c = let e = ap length (group-and-more (c .before .before .before .args .k) (c .before .before .before .args .n) (c .before .before .before .pre .1 .0 .0) (c .before .if1 .left)) in omega (arith, e, c .before .before .before .pre .1 .1)
+put-groups-add-put-groups t c = let e = ap length (group-and-more (c .before .before .before .args .k) (c .before .before .before .args .n) (c .before
+    .before .before .pre .1 .0 .0) (c .before .if1 .left)) in omega (arith, e, c .before .before .before .pre .1 .1)
 
 put-groups-sub-put-groups : (t : ℕ) → put-groups-lts.Need-sub-put-groups (
   put-groups-below t,
@@ -96,21 +102,36 @@ put-groups-put-groups-requires : (t : ℕ) → put-groups-lts.Need-put-groups-re
   put-groups.Post,
 ) (put-groups-at t) put-groups.Post
 put-groups-put-groups-requires t c κs = 
-    let e = ap length (group-and-more (c .before .before .before .args .k) (c .before .before .before .args .n) (c .before .before .before .pre .1 .0 .0) (c .before .if1 .left)) in
-    let h = reach-next (c .before .before .before .args .k) (c .before .before .before .args .n) (c .before .before .before .pre .1 .0 .1) (c .before .if1 .left) in
-    (omega (arith, c .before .before .before .pre .0, c .before .before .before .pre .1 .0 .0), (h, simp length-set (omega (arith, e, c .before .before .before .pre .1 .1))))
+    let e = ap length (group-and-more (c .before .before .before .args .k) (c .before .before .before .args .n) (c .before .before .before .pre .1 .0
+    .0) (c .before .if1 .left)) in
+    let h = reach-next (c .before .before .before .args .k) (c .before .before .before .args .n) (c .before .before .before .pre .1 .0 .1) (c .before
+    .if1 .left) in
+    (omega (arith, c .before .before .before .pre .0, c .before .before .before .pre .1 .0 .0), (h, simp length-set (omega (arith, e, c .before .before
+    .before .pre .1 .1))))
 
 put-groups-same-length-2 : (t : ℕ) → put-groups-lts.Need-same-length-2 (
   put-groups-below t,
   put-groups.Post,
 ) (put-groups-at t) put-groups.Post
-put-groups-same-length-2 t c = let w = put-done (c .before .before .before .before .before .before .args .out .now) (c .before .before .before .before .before .before .args .at) (c .before .before .before .before .before .before .args .k) (c .before .before .before .before .before .before .args .n) (c .before .before .put-groups .last .0) (c .before .before .before .before .before .before .pre .1 .0 .0) (c .before .before .before .before .if1 .left) (c .before .before .before .before .before .before .pre .1 .1) (c .before .before .put-groups .ensures .1) in ap length w ∙ length-written (c .before .before .before .before .before .before .args .out .now) (c .before .before .before .before .before .before .args .at) (groups (c .before .before .before .before .before .before .args .k) (c .before .before .before .before .before .before .args .n)) (c .before .before .before .before .before .before .pre .1 .1)
+put-groups-same-length-2 t c = let w = put-done (c .before .before .before .before .before .before .args .out .now) (c .before .before .before .before
+    .before .before .args .at) (c .before .before .before .before .before .before .args .k) (c .before .before .before .before .before .before .args
+    .n) (c .before .before .put-groups .last .0) (c .before .before .before .before .before .before .pre .1 .0 .0) (c .before .before .before .before
+    .if1 .left) (c .before .before .before .before .before .before .pre .1 .1) (c .before .before .put-groups .ensures .1) in
+    ap length w ∙ length-written (c .before .before .before .before .before .before .args .out .now) (c .before .before .before .before .before .before
+    .args .at) (groups (c .before .before .before .before .before .before .args .k) (c .before .before .before .before .before .before .args .n)) (c
+    .before .before .before .before .before .before .pre .1 .1)
 
 put-groups-returns-2 : (t : ℕ) → put-groups-lts.Need-returns-2 (
   put-groups-below t,
   put-groups.Post,
 ) (put-groups-at t) put-groups.Post
-put-groups-returns-2 t c = let w = put-done (c .before .before .before .before .before .before .args .out .now) (c .before .before .before .before .before .before .args .at) (c .before .before .before .before .before .before .args .k) (c .before .before .before .before .before .before .args .n) (c .before .before .put-groups .last .0) (c .before .before .before .before .before .before .pre .1 .0 .0) (c .before .before .before .before .if1 .left) (c .before .before .before .before .before .before .pre .1 .1) (c .before .before .put-groups .ensures .1) in let e = ap length (group-and-more (c .before .before .before .before .before .before .args .k) (c .before .before .before .before .before .before .args .n) (c .before .before .before .before .before .before .pre .1 .0 .0) (c .before .before .before .before .if1 .left)) in (omega (arith, e, c .before .before .put-groups .ensures .0), w)
+put-groups-returns-2 t c = let w = put-done (c .before .before .before .before .before .before .args .out .now) (c .before .before .before .before
+    .before .before .args .at) (c .before .before .before .before .before .before .args .k) (c .before .before .before .before .before .before .args
+    .n) (c .before .before .put-groups .last .0) (c .before .before .before .before .before .before .pre .1 .0 .0) (c .before .before .before .before
+    .if1 .left) (c .before .before .before .before .before .before .pre .1 .1) (c .before .before .put-groups .ensures .1) in
+    let e = ap length (group-and-more (c .before .before .before .before .before .before .args .k) (c .before .before .before .before .before .before
+    .args .n) (c .before .before .before .before .before .before .pre .1 .0 .0) (c .before .before .before .before .if1 .left)) in
+    (omega (arith, e, c .before .before .put-groups .ensures .0), w)
 
 pub +put-groups-spec : {M : Type 1} → statement M
 +put-groups-spec = close μ-put-groups λ t. put-groups-lts.spec (

@@ -28,7 +28,8 @@ byte-pair-requires : tie.Need-byte-pair-requires
 byte-pair-requires c κs = search needs
 
 returns : tie.Need-returns
-returns c = fields-of (c .before .before .before .before .before .before .args .acts .now) (c .before .before .before .before .before .before .args .at) (c .byte-pair .result) (c .byte-pair .ensures)
+returns c = fields-of (c .before .before .before .before .before .before .args .acts .now) (c .before .before .before .before .before .before .args
+    .at) (c .byte-pair .result) (c .byte-pair .ensures)
 
 pub fields-at-spec : {M : Type 1} → statement M
 fields-at-spec =

@@ -16,7 +16,8 @@ abbrev μ-loop : tie.MeasureT-loop
 μ-loop acts n out₀ from at₀ i₀ out at i = n - i
 
 loop-holds : tie.Need-loop-holds Inv-loop μ-loop
-loop-holds c = (omega arith, so-far-none (c .before .before .args .acts .now) (c .before .before .args .out .now) (c .before .before .args .from) (c .before .before .args .n))
+loop-holds c = (omega arith, so-far-none (c .before .before .args .acts .now) (c .before .before .args .out .now) (c .before .before .args .from) (c
+    .before .before .args .n))
 
 mul-fields-at : tie.Need-mul-fields-at Inv-loop μ-loop
 mul-fields-at c = omega (arith, c .loop-test .taken, c .before .before .before .before .pre .0)
@@ -29,7 +30,9 @@ put-text-requires c κs =
     let acts = c .before .before .before .before .before .before .args .acts .now in
     let l = c .before .before .before .before .before .before .args .out .now in
     let t = drop (4 * c .before .before .before .loop .i) acts in
-    let w = so-far-fits acts l (c .before .before .before .loop .out) (c .before .before .before .before .before .before .args .from) (c .before .before .before .before .before .before .args .n) (c .before .before .before .loop .i) (c .before .before .before .loop .at) t (c .before .before .before .loop .inv .1) (c .before .before .loop-test .taken) refl (c .before .before .before .before .before .before .pre .1) in
+    let w = so-far-fits acts l (c .before .before .before .loop .out) (c .before .before .before .before .before .before .args .from) (c .before
+    .before .before .before .before .before .args .n) (c .before .before .before .loop .i) (c .before .before .before .loop .at) t (c .before .before
+    .before .loop .inv .1) (c .before .before .loop-test .taken) refl (c .before .before .before .before .before .before .pre .1) in
     let e = ap (λ (f : Fields). length (actionText (f .kind) (f .colour) (f .number))) (c .before .fields-at .ensures) in
     omega (arith, w .0, w .1, e)
 
@@ -45,18 +48,28 @@ loop-again c =
     let l = c .before .before .before .before .before .before .before .before .before .args .out .now in
     let t = drop (4 * c .before .before .before .before .before .before .loop .i) acts in
     let at = c .before .before .before .before .before .before .loop .at in
-    let end = c .before .before .put-text .ensures .0 ∙ ap (λ (f : Fields). at + length (actionText (f .kind) (f .colour) (f .number))) (c .before .before .before .before .fields-at .ensures) in
-    let bytes = c .before .before .put-text .ensures .1 ∙ ap (λ (f : Fields). written (c .before .before .before .before .before .before .loop .out) at (actionText (f .kind) (f .colour) (f .number))) (c .before .before .before .before .fields-at .ensures) in (
+    let end = c .before .before .put-text .ensures .0 ∙ ap (λ (f : Fields). at + length (actionText (f .kind) (f .colour) (f .number))) (c .before
+    .before .before .before .fields-at .ensures) in
+    let bytes = c .before .before .put-text .ensures .1 ∙ ap (λ (f : Fields). written (c .before .before .before .before .before .before .loop .out) at
+    (actionText (f .kind) (f .colour) (f .number))) (c .before .before .before .before .fields-at .ensures) in (
       omega (arith, c .before .before .before .before .before .loop-test .taken),
       rw end
-      (so-far-more acts l (c .before .before .before .before .before .before .loop .out) (c .before .before .put-text .last .0) (c .before .before .before .before .before .before .before .before .before .args .from) (c .before .before .before .before .before .before .before .before .before .args .n) (c .before .before .before .before .before .before .loop .i) at t (c .before .before .before .before .before .before .loop .inv .1) (c .before .before .before .before .before .loop-test .taken) refl (c .before .before .before .before .before .before .before .before .before .pre .1) bytes),
+      (so-far-more acts l (c .before .before .before .before .before .before .loop .out) (c .before .before .put-text .last .0) (c .before .before
+          .before .before .before .before .before .before .before .args .from) (c .before .before .before .before .before .before .before .before
+          .before .args .n) (c .before .before .before .before .before .before .loop .i) at t (c .before .before .before .before .before .before .loop
+          .inv .1) (c .before .before .before .before .before .loop-test .taken) refl (c .before .before .before .before .before .before .before
+          .before .before .pre .1) bytes),
     )
 
 same-length : tie.Need-same-length Inv-loop μ-loop
-same-length c = so-far-length (c .before .before .before .before .args .acts .now) (c .before .before .before .before .args .out .now) (c .before .loop .out) (c .before .before .before .before .args .from) (c .before .before .before .before .args .n) (c .before .loop .i) (c .before .loop .at) (c .before .loop .inv .1) (c .before .before .before .before .pre .1)
+same-length c = so-far-length (c .before .before .before .before .args .acts .now) (c .before .before .before .before .args .out .now) (c .before .loop
+    .out) (c .before .before .before .before .args .from) (c .before .before .before .before .args .n) (c .before .loop .i) (c .before .loop .at) (c
+    .before .loop .inv .1) (c .before .before .before .before .pre .1)
 
 returns : tie.Need-returns Inv-loop μ-loop
-returns c = so-far-all (c .before .before .before .before .args .acts .now) (c .before .before .before .before .args .out .now) (c .before .loop .out) (c .before .before .before .before .args .from) (c .before .before .before .before .args .n) (c .before .loop .i) (c .before .loop .at) (c .before .loop .inv .1) (c .loop-test .left)
+returns c = so-far-all (c .before .before .before .before .args .acts .now) (c .before .before .before .before .args .out .now) (c .before .loop .out)
+    (c .before .before .before .before .args .from) (c .before .before .before .before .args .n) (c .before .loop .i) (c .before .loop .at) (c .before
+    .loop .inv .1) (c .loop-test .left)
 
 pub put-actions-spec : {M : Type 1} → statement M
 put-actions-spec =
