@@ -2,7 +2,7 @@
 -- to one record.
 -- Assumes nothing.
 use mathlib.Core.Path.{_≡_, refl, sym, ap, _∙_}
-use mathlib.Core.Bool.{Bool, true, false, cond, _&&_}
+use mathlib.Core.Bool.{Bool, true, false, cond}
 use mathlib.Core.List.{List, [], _∷_}
 use Prim.Native.Nat.{ℕ, _+_, _-_, _%_, _≤_, _<_}
 use native.Mathlib.Omega.{arith}
@@ -10,18 +10,19 @@ use lib.Dec.{eqb, ltb, lit≤}
 use lib.ListN.{length, length-set}
 use borrow.Author.Tests.{ltb-true}
 use Rattle.square.specs.declared.Answer.{Answer}
+use Rattle.square.specs.Answer.{tooFewTokens, badPlacement, badSide}
 use Rattle.square.specs.Square.{squareOf, between, readSquare}
 use Rattle.square.specs.Piece.{pieceOf}
 use Rattle.castle_rights.specs.CastleRights.{rights}
 use Rattle.board_builder.specs.declared.BoardBuilder.{BoardBuilder}
 use Rattle.square.specs.Numbers.{allAtMost, among}
 use Rattle.board_builder.specs.BoardBuilder.{squares, inRange}
-use Rattle.square.proofs.Numbers.{both-right, most-set}
+use Rattle.square.proofs.Numbers.{most-set}
 use Rattle.board_builder.proofs.Ranges.{range-holds}
 use Rattle.fen_text.specs.declared.Fen.{Fen}
 use Rattle.fen_text.specs.Token.{tokens}
-use Rattle.fen_text.specs.Placement.{Placement, start, down, skip, fill, spoil, placeCode, placeByte, placeAll}
-use Rattle.fen_text.specs.Read.{sideOf, rightsOf, fileRead, noFen, fenOf, assembled, ofTokens, readFen}
+use Rattle.fen_text.specs.Placement.{Placement, start, down, skip, fill, spoil, placeCode, placeByte, placeAll, firstBad}
+use Rattle.fen_text.specs.Read.{sideOf, rightsOf, fileRead, refusedAt, fenOf, sided, assembled, ofTokens, readFen}
 use Rattle.fen_text.specs.Write.{fenText}
 use Rattle.fen_text.specs.Promises.{OneKey, ReadsInRange, RefusedIsZero, KeysTellRecords, KeyOfKey}
 use Rattle.fen_text.proofs.Cases.{cond-both}
@@ -97,22 +98,22 @@ rights-most k q t = go (among k t) (among q t)
 file-most : (a : Answer) → fileRead a ≤ 8
 file-most a = cond-both (λ (n : ℕ). n ≤ 8) (eqb (a .number) 0) {x = a .value % 8 + 1} {y = 0} (omega arith) (omega arith)
 
--- an answer of 0 is a record in range, any other is the refusal
+-- an answer of 0 is a record in range, any other is a refusal with its number and offset
 record Told (f : Fen) : Type 0 where
   given : f .number ≡ 0 → inRange (f .board) ≡ true
-  taken : (f .number ≡ 0 → ⊥) → f ≡ noFen
+  taken : (f .number ≡ 0 → ⊥) → f ≡ refusedAt (f .number) (f .offset)
 
-told-none : Told noFen
-told-none = record { given = λ e. absurd (omega arith); taken = λ n. refl }
+told-none : (number offset : ℕ) → (number ≡ 0 → ⊥) → Told (refusedAt number offset)
+told-none number offset n = record { given = λ e. absurd (n e); taken = λ m. refl }
 
-assembled-told : (p : Placement) (side : ℕ) (castling ep : List ℕ) → Sound p → Told (assembled p side castling ep)
-unfolding assembled
-assembled-told p side castling ep s = go (p .good && ltb side 2) refl
+sided-told : (at : ℕ) (p : Placement) (side : ℕ) (castling ep : List ℕ) → Sound p → Told (sided at (p .pieces) side castling ep)
+unfolding sided
+sided-told at p side castling ep s = go (ltb side 2) refl
   where
-    go : (t : Bool) → p .good && ltb side 2 ≡ t → Told (assembled p side castling ep)
-    go false e = simp e told-none
+    go : (t : Bool) → ltb side 2 ≡ t → Told (sided at (p .pieces) side castling ep)
+    go false e = simp e (told-none badSide at (λ z. omega arith))
     go true e =
-        let low : side < 2 = ltb-true side 2 (both-right (p .good) (ltb side 2) e) in
+        let low : side < 2 = ltb-true side 2 e in
         simp e (record {
           given = λ z. range-holds _ (record {
             long = s .long;
@@ -125,17 +126,26 @@ assembled-told p side castling ep s = go (p .good && ltb side 2) refl
           taken = λ n. absurd (n refl);
         })
 
-tokens-told : (ts : List (List ℕ)) → Told (ofTokens ts)
+assembled-told : (a b c d : List ℕ) → Told (assembled a b c d)
+unfolding assembled
+assembled-told a b c d =
+    cond-both Told (placeAll start a .good)
+    {x = sided (length a + 1) (placeAll start a .pieces) (sideOf b) c d}
+    {y = refusedAt badPlacement (firstBad a)}
+    (sided-told (length a + 1) (placeAll start a) (sideOf b) c d (all-sound start a start-sound))
+    (told-none badPlacement (firstBad a) (λ z. omega arith))
+
+tokens-told : (n : ℕ) (ts : List (List ℕ)) → Told (ofTokens n ts)
 unfolding ofTokens
-tokens-told [] = told-none
-tokens-told (a ∷ []) = told-none
-tokens-told (a ∷ b ∷ []) = told-none
-tokens-told (a ∷ b ∷ c ∷ []) = told-none
-tokens-told (a ∷ b ∷ c ∷ d ∷ ts) = assembled-told (placeAll start a) (sideOf b) c d (all-sound start a start-sound)
+tokens-told n [] = told-none tooFewTokens n (λ z. omega arith)
+tokens-told n (a ∷ []) = told-none tooFewTokens n (λ z. omega arith)
+tokens-told n (a ∷ b ∷ []) = told-none tooFewTokens n (λ z. omega arith)
+tokens-told n (a ∷ b ∷ c ∷ []) = told-none tooFewTokens n (λ z. omega arith)
+tokens-told n (a ∷ b ∷ c ∷ d ∷ ts) = assembled-told a b c d
 
 read-told : (s : List ℕ) → Told (readFen s)
 unfolding readFen
-read-told s = tokens-told (tokens s)
+read-told s = tokens-told (length s) (tokens s)
 
 pub reads-in-range : ReadsInRange
 reads-in-range s e = read-told s .given e

@@ -5,4 +5,5 @@ pub mod Placed
 pub mod ReadBack
 pub mod Keys
 pub mod Hollow
+pub mod Faults
 pub mod Rows

@@ -7,6 +7,7 @@ use Prim.Native.Nat.{ℕ, zero, suc, _+_, _≤_, _<_}
 use native.Mathlib.Omega.{arith}
 use lib.Dec.{T, eqb, eqb·suc-zero, eqb→eq}
 use borrow.Author.Tests.{lt-ltb, ne-eqb}
+use lib.ListN.{length}
 use Rattle.square.specs.Piece.{letterOf}
 use Rattle.square.specs.Square.{readSquare}
 use Rattle.castle_rights.specs.CastleRights.{lettersOf, lettersText}
@@ -16,7 +17,7 @@ use Rattle.square.specs.Numbers.{allAtMost, among}
 use Rattle.square.proofs.Numbers.{most-head, most-tail}
 use Rattle.board_builder.proofs.Ranges.{InRange, in-range}
 use Rattle.fen_text.specs.Token.{onto, joined, tokens}
-use Rattle.fen_text.specs.Read.{sideOf, rightsOf, enPassantOf, fenOf, assembled, ofTokens, readFen}
+use Rattle.fen_text.specs.Read.{sideOf, rightsOf, enPassantOf, fenOf, sided, assembled, ofTokens, readFen}
 use Rattle.fen_text.specs.Write.{digitText, runText, rowOf, slashText, ranksText, sideLetter, rightsText, enPassantText, tailText, fenText}
 use Rattle.fen_text.specs.Promises.{TextReadsBack}
 use Rattle.fen_text.proofs.Placed.{row-codes, placed-back}
@@ -150,9 +151,9 @@ module _ (b : BoardBuilder) (r : InRange b) where
       (token ep end (free-en-passant (b .«side_to_move») (b .«en_passant») (lt-suc (r .side)) (lt-suc (r .file))) ∙ ap (λ (ts : List (List ℕ)). ep ∷ ts) counts)))
 
   back : readFen (fenText b) ≡ fenOf b
-  unfolding readFen ofTokens assembled
+  unfolding readFen ofTokens assembled sided
   back =
-      ap ofTokens four
+      ap (ofTokens (length (fenText b))) four
       ∙ rw (
         placed-back (b .pieces) (r .long) (r .codes),
         side-back (b .«side_to_move») (lt-suc (r .side)),

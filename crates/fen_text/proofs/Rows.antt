@@ -6,14 +6,14 @@ use Rattle.square.specs.Square.{readSquare}
 use Rattle.square.specs.Piece.{pieceOf, letterOf}
 use Rattle.square.specs.Numbers.{among}
 use Rattle.castle_rights.specs.CastleRights.{lettersOf, lettersText}
-use Rattle.fen_text.specs.Token.{onto, joined, tokens}
+use Rattle.fen_text.specs.Token.{onto, joined, tokens, placeAfter, placeWhere}
 use Rattle.fen_text.specs.Placement.{placeByte, placeAll}
-use Rattle.fen_text.specs.Read.{sideOf, rightsOf, assembled, ofTokens, readFen}
+use Rattle.fen_text.specs.Read.{sideOf, rightsOf, sided, assembled, ofTokens, readFen}
 use Rattle.fen_text.specs.Write.{digitText, runText, slashText, ranksText, rightsText, enPassantText, tailText, fenText}
-use Rattle.fen_text.specs.Rows.{FenRows}
+use Rattle.fen_text.specs.Rows.{FenRows, FaultRows}
 
 pub fen-rows : FenRows
-unfolding ascii readSquare pieceOf letterOf lettersOf lettersText among onto joined tokens placeByte placeAll sideOf rightsOf assembled ofTokens readFen digitText runText slashText ranksText rightsText enPassantText tailText fenText
+unfolding ascii readSquare pieceOf letterOf lettersOf lettersText among onto joined tokens placeAfter placeWhere placeByte placeAll sideOf rightsOf sided assembled ofTokens readFen digitText runText slashText ranksText rightsText enPassantText tailText fenText
 fen-rows = record {
   empty-placement = (refl, refl);
   three-tokens = refl;
@@ -23,4 +23,17 @@ fen-rows = record {
   bad-en-passant = (refl, refl);
   initial-read = refl;
   initial-written = refl;
+}
+
+pub fault-rows : FaultRows
+unfolding ascii pieceOf among onto joined tokens placeAfter placeWhere placeByte placeAll sideOf sided assembled ofTokens readFen
+fault-rows = record {
+  nothing = refl;
+  few-before-placement = refl;
+  first-of-two = refl;
+  second = refl;
+  placement-before-side = refl;
+  empty-side = refl;
+  long-side = refl;
+  other-side = refl;
 }

@@ -12,7 +12,7 @@ use borrow.Author.Tests.{eq-eqb, ne-eqb}
 use lib.ListN.{length, getD, take, drop, drop-of-length-le}
 use lib.Seq.{drop-cons}
 use Rattle.square.specs.declared.Answer.{Answer}
-use Rattle.fen_text.specs.Token.{placeAfter, placeOf, onto, joined, tokens}
+use Rattle.fen_text.specs.Token.{placeAfter, placeWhere, placeOf, onto, joined, tokens}
 use Rattle.fen_text.specs.Read.{sideByte, sideOf, fileRead}
 
 pub side-other : (s : List ℕ) → (length s ≡ 1 → ⊥) → sideOf s ≡ 2
@@ -27,21 +27,29 @@ side-one [] e = absurd (omega arith)
 side-one (b ∷ []) e = refl
 side-one (b ∷ c ∷ s) e = absurd (omega arith)
 
--- the place of a byte, looked for from the front: found, passed over, not there, not yet begun
+-- the place where a test passes, looked for from the front: found, passed over, not there, not yet begun
+module _ (test : ℕ → Bool) (s : List ℕ) where
+  pub where-hit : (i : ℕ) → i < length s → test (getD s i 0) ≡ true → i + placeWhere test (drop i s) ≡ i
+  unfolding placeWhere placeAfter
+  where-hit i h e = simp (drop-cons s i 0 h, e, add-zero)
+
+  pub where-miss : (i : ℕ) → i < length s → test (getD s i 0) ≡ false → i + placeWhere test (drop i s) ≡ i + 1 + placeWhere test (drop (i + 1) s)
+  unfolding placeWhere placeAfter
+  where-miss i h e = simp (add-one, drop-cons s i 0 h, e) (omega arith)
+
+  pub where-end : (i : ℕ) → length s ≤ i → i + placeWhere test (drop i s) ≡ i
+  unfolding placeWhere
+  where-end i h = simp (drop-of-length-le s h, add-zero)
+
+  pub where-start : placeWhere test s ≡ 0 + placeWhere test s
+  where-start = omega arith
+
+-- the same of a byte
 pub place-hit : (b : ℕ) (s : List ℕ) (i : ℕ) → i < length s → getD s i 0 ≡ b → i + placeOf b (drop i s) ≡ i
-unfolding placeOf placeAfter
-place-hit b s i h e = simp (drop-cons s i 0 h, eq-eqb _ _ e, add-zero)
+place-hit b s i h e = where-hit (λ (x : ℕ). eqb x b) s i h (eq-eqb _ _ e)
 
 pub place-miss : (b : ℕ) (s : List ℕ) (i : ℕ) → i < length s → (getD s i 0 ≡ b → ⊥) → i + placeOf b (drop i s) ≡ i + 1 + placeOf b (drop (i + 1) s)
-unfolding placeOf placeAfter
-place-miss b s i h n = simp (add-one, drop-cons s i 0 h, ne-eqb _ _ n) (omega arith)
-
-pub place-end : (b : ℕ) (s : List ℕ) (i : ℕ) → length s ≤ i → i + placeOf b (drop i s) ≡ i
-unfolding placeOf
-place-end b s i h = simp (drop-of-length-le s h, add-zero)
-
-pub place-start : (b : ℕ) (s : List ℕ) → placeOf b s ≡ 0 + placeOf b s
-place-start b s = omega arith
+place-miss b s i h n = where-miss (λ (x : ℕ). eqb x b) s i h (ne-eqb _ _ n)
 
 -- the file of a square that was read, and of none
 pub file-given : (a : Answer) → a .number ≡ 0 → fileRead a ≡ a .value % 8 + 1
@@ -57,7 +65,7 @@ token-step true x k n s ts f h = absurd (omega arith)
 token-step false x k n s ts f h = ap (onto x) (f (omega arith))
 
 pub tokens-last : (s : List ℕ) → length s ≤ placeOf 32 s → tokens s ≡ s ∷ []
-unfolding placeOf tokens onto
+unfolding placeWhere tokens onto
 tokens-last [] h = refl
 tokens-last (x ∷ s) h = token-step (eqb x 32) x (placeOf 32 s) (length s) s (tokens s) (tokens-last s) h
 
@@ -70,6 +78,6 @@ tokens-step true x k s f h = refl
 tokens-step false x k s f h = ap (onto x) (f (omega arith))
 
 pub tokens-next : (s : List ℕ) → placeOf 32 s < length s → tokens s ≡ take (placeOf 32 s) s ∷ tokens (drop (suc (placeOf 32 s)) s)
-unfolding placeOf tokens
+unfolding placeWhere tokens
 tokens-next [] h = absurd (omega arith)
 tokens-next (x ∷ s) h = tokens-step (eqb x 32) x (placeOf 32 s) s (tokens-next s) h

@@ -2,13 +2,16 @@
 -- adds to the file; a piece letter fills a square and moves one file on. Files and ranks step around modulo 8. Any other byte is refused.
 -- Assumes nothing.
 use Prim.Native.Nat.{ℕ, _+_, _-_, _%_}
-use mathlib.Core.Bool.{Bool, true, false, cond}
+use mathlib.Core.Bool.{Bool, true, false, cond, not}
 use mathlib.Core.List.{List, [], _∷_}
 use lib.Dec.{eqb}
 use lib.ListN.{set, replicate}
+use Rattle.square.specs.Ascii.{ascii}
+use Rattle.square.specs.Numbers.{among}
 use Rattle.square.specs.Square.{squareOf, between}
 use Rattle.square.specs.Piece.{pieceOf}
 use Rattle.board_builder.specs.BoardBuilder.{squares}
+use Rattle.fen_text.specs.Token.{placeWhere}
 
 -- the pieces placed so far, the square to fill next, and whether every byte so far was one of a placement
 pub record Placement : Type 0 where
@@ -46,3 +49,16 @@ placeByte p b = cond (eqb b 47) (down p) (cond (between 49 56 b) (skip (b - 48) 
 unfoldable pub placeAll : Placement → List ℕ → Placement
 placeAll p [] = p
 placeAll p (b ∷ bs) = placeAll (placeByte p b) bs
+
+-- ---- order 2: the place of a bad byte
+
+-- the bytes of a placement
+abbrev pub signs : List ℕ
+signs = ascii "/12345678PNBRQKpnbrqk"
+
+abbrev pub isBad : ℕ → Bool
+isBad b = not (among b signs)
+
+-- the place of the first byte that is none of a placement, or the token's length where each is one
+abbrev pub firstBad : List ℕ → ℕ
+firstBad token = placeWhere isBad token

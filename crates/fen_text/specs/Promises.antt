@@ -11,7 +11,7 @@ use Rattle.square.specs.Promises.{ItsText, Invented}
 use Rattle.board_builder.specs.declared.BoardBuilder.{BoardBuilder}
 use Rattle.board_builder.specs.BoardBuilder.{inRange}
 use Rattle.fen_text.specs.declared.Fen.{Fen}
-use Rattle.fen_text.specs.Read.{readFen, fenOf, noFen}
+use Rattle.fen_text.specs.Read.{readFen, fenOf, refusedAt}
 use Rattle.fen_text.specs.Write.{fenText, fenCheck}
 
 -- any writer of records: what it answers to a record and the length of a room, and what it leaves in the room
@@ -76,12 +76,12 @@ TwentyFiveToEightyFive = (b : BoardBuilder) → inRange b ≡ true → (25 ≤ l
 abbrev pub OneKey : Type 0
 OneKey = (a b : BoardBuilder) → inRange a ≡ true → inRange b ≡ true → fenText a ≡ fenText b → a ≡ b
 
--- the reader accepts only records in range, and a refused text is 1 with an all-zero record
+-- the reader accepts only records in range, and a refused text comes with an all-zero record
 abbrev pub ReadsInRange : Type 0
 ReadsInRange = (s : List ℕ) → readFen s .number ≡ 0 → inRange (readFen s .board) ≡ true
 
 abbrev pub RefusedIsZero : Type 0
-RefusedIsZero = (s : List ℕ) → (readFen s .number ≡ 0 → ⊥) → readFen s ≡ noFen
+RefusedIsZero = (s : List ℕ) → (readFen s .number ≡ 0 → ⊥) → readFen s ≡ refusedAt (readFen s .number) (readFen s .offset)
 
 -- the key of a text: the text of the record that it reads to
 abbrev pub keyOf : List ℕ → List ℕ

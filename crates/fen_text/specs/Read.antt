@@ -1,11 +1,13 @@
--- The FEN reader (document 01, "FEN, read and written"): fewer than four tokens are refused, tokens after the fourth are ignored.
+-- The FEN reader (document 01, "FEN, read and written"): fewer than four tokens are refused, tokens after the fourth are ignored. A refusal says which
+-- part is wrong, and where (document 02, order 2): too few tokens, a bad placement byte, a bad side token, tested in that order.
 -- Assumes nothing.
 use Prim.Native.Nat.{ℕ, _+_, _%_}
-use mathlib.Core.Bool.{cond, _&&_, _||_}
+use mathlib.Core.Bool.{cond, _||_}
 use mathlib.Core.List.{List, [], _∷_}
 use lib.Dec.{eqb, ltb}
+use lib.ListN.{length}
 use Rattle.square.specs.declared.Answer.{Answer}
-use Rattle.square.specs.Answer.{invalidFen}
+use Rattle.square.specs.Answer.{tooFewTokens, badPlacement, badSide}
 use Rattle.square.specs.Square.{readSquare}
 use Rattle.square.specs.Numbers.{among}
 use Rattle.castle_rights.specs.CastleRights.{rights}
@@ -13,7 +15,7 @@ use Rattle.board_builder.specs.declared.BoardBuilder.{BoardBuilder}
 use Rattle.board_builder.specs.BoardBuilder.{board, emptyBoard}
 use Rattle.fen_text.specs.declared.Fen.{Fen}
 use Rattle.fen_text.specs.Token.{tokens}
-use Rattle.fen_text.specs.Placement.{Placement, start, placeAll}
+use Rattle.fen_text.specs.Placement.{start, placeAll, firstBad}
 
 -- side is `w`, `W`, `b` or `B`: 0, 0, 1, 1, and 2 for any other byte
 abbrev pub sideByte : ℕ → ℕ
@@ -37,25 +39,33 @@ fileRead a = cond (eqb (a .number) 0) (a .value % 8 + 1) 0
 abbrev pub enPassantOf : List ℕ → ℕ
 enPassantOf t = fileRead (readSquare t)
 
--- a refused text: 1 and an all-zero record
-abbrev pub noFen : Fen
-noFen = record { number = invalidFen; offset = 0; board = emptyBoard }
+-- a refused text: what is wrong, where that is in the text, and an all-zero record
+abbrev pub refusedAt : ℕ → ℕ → Fen
+refusedAt number offset = record { number = number; offset = offset; board = emptyBoard }
 
 -- an accepted text
 abbrev pub fenOf : BoardBuilder → Fen
 fenOf b = record { number = 0; offset = 0; board = b }
 
--- the four tokens: the placement and the side may be refused, the others not
-unfoldable pub assembled : Placement → ℕ → List ℕ → List ℕ → Fen
-assembled p side castling ep =
-    cond (p .good && ltb side 2) (fenOf (board (p .pieces) side (rightsOf 75 81 castling) (rightsOf 107 113 castling) (enPassantOf ep))) noFen
+-- the pieces of a good placement, the side of a token that starts at `at`, and two more tokens, which are not refused
+unfoldable pub sided : ℕ → List ℕ → ℕ → List ℕ → List ℕ → Fen
+sided at pieces side castling ep =
+    cond (ltb side 2) (fenOf (board pieces side (rightsOf 75 81 castling) (rightsOf 107 113 castling) (enPassantOf ep))) (refusedAt badSide at)
 
-unfoldable pub ofTokens : List (List ℕ) → Fen
-ofTokens [] = noFen
-ofTokens (a ∷ []) = noFen
-ofTokens (a ∷ b ∷ []) = noFen
-ofTokens (a ∷ b ∷ c ∷ []) = noFen
-ofTokens (a ∷ b ∷ c ∷ d ∷ ts) = assembled (placeAll start a) (sideOf b) c d
+-- the four tokens; the second starts behind the space that ends the first
+unfoldable pub assembled : List ℕ → List ℕ → List ℕ → List ℕ → Fen
+assembled placement side castling ep =
+    cond (placeAll start placement .good)
+    (sided (length placement + 1) (placeAll start placement .pieces) (sideOf side) castling ep)
+    (refusedAt badPlacement (firstBad placement))
+
+-- the tokens of a text of that length
+unfoldable pub ofTokens : ℕ → List (List ℕ) → Fen
+ofTokens long [] = refusedAt tooFewTokens long
+ofTokens long (a ∷ []) = refusedAt tooFewTokens long
+ofTokens long (a ∷ b ∷ []) = refusedAt tooFewTokens long
+ofTokens long (a ∷ b ∷ c ∷ []) = refusedAt tooFewTokens long
+ofTokens long (a ∷ b ∷ c ∷ d ∷ ts) = assembled a b c d
 
 unfoldable pub readFen : List ℕ → Fen
-readFen s = ofTokens (tokens s)
+readFen s = ofTokens (length s) (tokens s)

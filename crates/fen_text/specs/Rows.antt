@@ -1,10 +1,13 @@
--- The FEN rows of document 01's table, "Positions and texts to try", black's en passant rank, and the initial position of 001's test.
+-- The FEN rows of document 01's table, "Positions and texts to try", with the numbers of document 02, order 2, each of these at its smallest inputs,
+-- black's en passant rank, and the initial position of 001's test.
 -- Assumes nothing.
+use Prim.Native.Nat.{ℕ}
 use Prim.Native.String.{String}
 use mathlib.Core.Path.{_≡_}
+use Rattle.square.specs.Answer.{tooFewTokens, badPlacement, badSide}
 use Rattle.square.specs.Ascii.{ascii}
 use Rattle.board_builder.specs.BoardBuilder.{initialBoard}
-use Rattle.fen_text.specs.Read.{readFen, noFen, fenOf}
+use Rattle.fen_text.specs.Read.{readFen, refusedAt, fenOf}
 use Rattle.fen_text.specs.Write.{fenText}
 use Rattle.fen_text.specs.Promises.{keyOf}
 
@@ -12,15 +15,27 @@ use Rattle.fen_text.specs.Promises.{keyOf}
 abbrev pub Writes : String → String → Type 0
 Writes text key = (readFen (ascii text) .number ≡ 0) × (keyOf (ascii text) ≡ ascii key)
 
-abbrev pub Refused : String → Type 0
-Refused text = readFen (ascii text) ≡ noFen
+-- a text is refused with a number and an offset
+abbrev pub Refused : String → ℕ → ℕ → Type 0
+Refused text number offset = readFen (ascii text) ≡ refusedAt number offset
 
 pub record FenRows : Type 0 where
   pub empty-placement : Writes " w - -" "8/8/8/8/8/8/8/8 w - - 0 1"
-  pub three-tokens : Refused "8/8 w -"
-  pub nine : Refused "8/8/8/8/8/8/8/9 w - -"
+  pub three-tokens : Refused "8/8 w -" tooFewTokens 7
+  pub nine : Refused "8/8/8/8/8/8/8/9 w - -" badPlacement 14
   pub en-passant-rank : Writes "8/8/8/8/8/8/8/8 w - e4" "8/8/8/8/8/8/8/8 w - e6 0 1"
   pub blacks-en-passant-rank : Writes "8/8/8/8/8/8/8/8 b - e6" "8/8/8/8/8/8/8/8 b - e3 0 1"
   pub bad-en-passant : Writes "8/8/8/8/8/8/8/8 b - z9" "8/8/8/8/8/8/8/8 b - - 0 1"
   pub initial-read : readFen (ascii "rnbqkbnr/pppppppp/8/8/8/8/PPPPPPPP/RNBQKBNR w KQkq - 0 1") ≡ fenOf initialBoard
   pub initial-written : fenText initialBoard ≡ ascii "rnbqkbnr/pppppppp/8/8/8/8/PPPPPPPP/RNBQKBNR w KQkq - 0 1"
+
+-- each number before the next, at its smallest, and the first of two bad bytes
+pub record FaultRows : Type 0 where
+  pub nothing : Refused "" tooFewTokens 0
+  pub few-before-placement : Refused "9 x -" tooFewTokens 5
+  pub first-of-two : Refused "9x w - -" badPlacement 0
+  pub second : Refused "1x w - -" badPlacement 1
+  pub placement-before-side : Refused "x x - -" badPlacement 0
+  pub empty-side : Refused "  - -" badSide 1
+  pub long-side : Refused "8 ww - -" badSide 2
+  pub other-side : Refused "K8 x - -" badSide 3

@@ -22,13 +22,17 @@ unfolding joined
 tokens [] = [] ∷ []
 tokens (x ∷ xs) = joined (eqb x 32) x (tokens xs)
 
--- the place of the first b, by whether the first byte is b, and the place in the rest
+-- the place of the first byte that passes a test, by whether this one does, and the place in the rest
 unfoldable pub placeAfter : Bool → ℕ → ℕ
 placeAfter true k = zero
 placeAfter false k = suc k
 
--- the place of the first b, or the list's length where there is none
-unfoldable pub placeOf : ℕ → List ℕ → ℕ
+-- the place of the first byte that passes a test, or the list's length where none does
+unfoldable pub placeWhere : (ℕ → Bool) → List ℕ → ℕ
 unfolding placeAfter
-placeOf b [] = zero
-placeOf b (x ∷ xs) = placeAfter (eqb x b) (placeOf b xs)
+placeWhere test [] = zero
+placeWhere test (x ∷ xs) = placeAfter (test x) (placeWhere test xs)
+
+-- the place of the first b
+abbrev pub placeOf : ℕ → List ℕ → ℕ
+placeOf b s = placeWhere (λ (x : ℕ). eqb x b) s

@@ -2,7 +2,8 @@
 // fen_reader and fen_writer.
 use board_builder::BoardBuilder;
 
-// What reading a FEN text answers: 0 or 1; the offset of the fault, 0 for now; the record, all zeros where the text is refused.
+// What reading a FEN text answers: 0, 18, 19 or 20; the offset in the text of what is wrong, 0 if nothing is; the record, all zeros where the text is
+// refused.
 #[repr(C)]
 pub struct Fen {
     pub number: u64,

@@ -7,7 +7,7 @@ use lib.Dec.{eqb, leb}
 use lib.ListN.{length, drop}
 use Rattle.square.specs.declared.Answer.{Answer}
 
--- 1: `InvalidFen`
+-- 1: `InvalidFen`, given by nothing any more: order 2 put 18, 19 and 20 in its place
 abbrev pub invalidFen : ℕ
 invalidFen = 1
 
@@ -74,6 +74,18 @@ partTooShort = 16
 -- order 1: a roll cut short or too long, with a number not shortest or out of range; bytes that are no actions
 abbrev pub badRoll : ℕ
 badRoll = 17
+
+-- order 2: a FEN text of too few tokens
+abbrev pub tooFewTokens : ℕ
+tooFewTokens = 18
+
+-- order 2: a byte of a FEN text's placement that is none of a placement
+abbrev pub badPlacement : ℕ
+badPlacement = 19
+
+-- order 2: a side token of a FEN text that is none of the four
+abbrev pub badSide : ℕ
+badSide = 20
 
 -- 0 and the answer
 abbrev pub accepted : ℕ → Answer

@@ -18,8 +18,6 @@ pub struct Answer {
 
 pub const ACCEPTED: u64 = 0;
 
-pub const INVALID_FEN: u64 = 1;
-
 pub const INVALID_SQUARE: u64 = 2;
 
 pub const INVALID_UCI_MOVE: u64 = 3;
@@ -51,6 +49,12 @@ pub const NO_CLAIM: u64 = 15;
 pub const PART_TOO_SHORT: u64 = 16;
 
 pub const BAD_ROLL: u64 = 17;
+
+pub const TOO_FEW_TOKENS: u64 = 18;
+
+pub const BAD_PLACEMENT: u64 = 19;
+
+pub const BAD_SIDE: u64 = 20;
 
 pub fn accepted(value: u64) -> Answer
     ensures { λ r. ⌜ r ≡ accepted value ⌝ }
