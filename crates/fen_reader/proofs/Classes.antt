@@ -1,7 +1,7 @@
 -- What a byte's class says: a slash, a digit, a piece's letter, or none of a placement. And the table that the reader fills: it holds each byte's class.
 -- Assumes nothing.
-use mathlib.Core.Path.{_≡_, refl, _∙_}
-use mathlib.Core.Bool.{Bool, true, false}
+use mathlib.Core.Path.{_≡_, refl, sym, _∙_}
+use mathlib.Core.Bool.{Bool, true, false, not, false≢true}
 use Prim.Native.Nat.{ℕ, _+_, _-_, _≤_, _<_}
 use native.Mathlib.Decide.{decLe}
 use native.Mathlib.Omega.{arith}
@@ -10,9 +10,11 @@ use lib.ListN.{length, getD, replicate}
 use borrow.Author.Tests.{eq-eqb, ne-eqb, le-leb, lt-leb}
 use Rattle.square.specs.Ascii.{ascii}
 use Rattle.square.specs.Square.{between}
+use Rattle.square.specs.Numbers.{among}
 use Rattle.square.specs.Piece.{pieceOf}
-use Rattle.square.proofs.Below.{below}
-use Rattle.fen_reader.specs.Class.{refused, classOf, noteAll, signs}
+use Rattle.square.proofs.Below.{below, holds}
+use Rattle.fen_text.specs.Placement.{signs, isBad}
+use Rattle.fen_reader.specs.Class.{refused, classOf, noteAll}
 
 -- what a byte is
 pub data Kind (b : ℕ) : Type 0 where
@@ -75,3 +77,24 @@ class-at b h = eqb→eq (getD (noteAll signs (replicate 256 refused)) b 0) (clas
 pub table-long : length (noteAll signs (replicate 256 refused)) ≡ 256
 unfolding noteAll ascii
 table-long = refl
+
+-- a byte is bad exactly if its class is the refused one
+agrees : Bool → Bool → Bool
+agrees true b = b
+agrees false b = not b
+
+agree : (a b : Bool) → agrees a b ≡ true → a ≡ b
+unfolding agrees
+agree true b e = sym e
+agree false true e = absurd (false≢true e)
+agree false false e = refl
+
+bad-class : (b : ℕ) → b < 256 → isBad b ≡ eqb (classOf b) refused
+unfolding agrees among ascii classOf pieceOf
+bad-class b h = agree _ _ (holds _ (below (λ (x : ℕ). agrees (isBad x) (eqb (classOf x) refused)) 256 tt b h))
+
+pub class-bad : (b c : ℕ) → b < 256 → c ≡ classOf b → c ≡ refused → isBad b ≡ true
+class-bad b c h e r = bad-class b h ∙ eq-eqb _ _ (sym e ∙ r)
+
+pub class-good : (b c : ℕ) → b < 256 → c ≡ classOf b → (c ≡ refused → ⊥) → isBad b ≡ false
+class-good b c h e n = bad-class b h ∙ ne-eqb _ _ (λ r. n (e ∙ r))

@@ -9,20 +9,21 @@ use native.Mathlib.Omega.{arith}
 use lib.Bits.{bitOr, or-lt, or-add-and, and-le-l, and-le-r}
 use lib.Dec.{eqb, ltb, lit<}
 use borrow.Author.Tests.{eq-eqb, ne-eqb, lt-ltb, le-ltb, le-leb, ltb-true, ltb-false}
-use lib.ListN.{length, take, getD, set, replicate}
-use lib.Seq.{set-getD, take-suc}
+use lib.ListN.{length, take, drop, getD, set, replicate}
+use lib.Seq.{set-getD, take-suc, length-take-le}
+use Rattle.square.specs.Answer.{badPlacement, badSide}
 use Rattle.square.specs.Square.{squareOf}
 use Rattle.square.specs.Piece.{pieceOf}
 use Rattle.board_builder.specs.BoardBuilder.{board}
 use Rattle.fen_text.specs.Token.{placeOf}
-use Rattle.fen_text.specs.Placement.{Placement, placement, start, placeByte, placeAll}
-use Rattle.fen_text.specs.Read.{rightsOf, enPassantOf, noFen, fenOf, assembled, ofTokens, readFen}
+use Rattle.fen_text.specs.Placement.{Placement, placement, start, placeByte, placeAll, firstBad}
+use Rattle.fen_text.specs.Read.{sideOf, rightsOf, enPassantOf, refusedAt, fenOf, sided, assembled, readFen}
 use Rattle.fen_text.proofs.Cases.{cond-both}
 use Rattle.fen_text.proofs.Placed.{place-append}
 use Rattle.fen_text.proofs.Keys.{piece-most}
-use Rattle.fen_reader.specs.Class.{refused, classOf, pieceAfter, stepOf, fileAfter, rankAfter, placed}
+use Rattle.fen_reader.specs.Class.{refused, classOf, pieceAfter, stepOf, fileAfter, rankAfter}
 use Rattle.fen_reader.proofs.Classes.{Kind, slash, digit, letter, other, kind, class-slash, class-digit, class-letter, class-other}
-use Rattle.fen_reader.proofs.Reading.{first}
+use Rattle.fen_reader.proofs.Reading.{Cut, four-tokens}
 
 -- the square to fill next stays on the board
 pub file-small : (file c : ℕ) → fileAfter file c < 8
@@ -86,35 +87,38 @@ unfolding placeAll
 turn s i {p} {q} h e f =
     rw (add-one i, take-suc s i 0 h) (place-append start (take i s) (getD s i 0 ∷ []) ∙ rw e f)
 
--- a text whose first token is no placement is no FEN
-bad-first : (a : List ℕ) (ts : List (List ℕ)) → placeAll start a .good ≡ false → ofTokens (a ∷ ts) ≡ noFen
-unfolding ofTokens assembled
-bad-first a [] e = refl
-bad-first a (b ∷ []) e = refl
-bad-first a (b ∷ c ∷ []) e = refl
-bad-first a (b ∷ c ∷ d ∷ ts) e = simp e
-
-pub bad-token : (s : List ℕ) → placeAll start (take (placeOf 32 s) s) .good ≡ false → readFen s ≡ noFen
-unfolding readFen
-bad-token s e = rw (first s .1) (bad-first (take (placeOf 32 s) s) (first s .0) e)
-
-pub same-assembled : (p q : Placement) (side : ℕ) (castling ep : List ℕ) → p .pieces ≡ q .pieces → p .good ≡ q .good → assembled p side castling ep ≡ assembled q side castling ep
-unfolding assembled
-same-assembled p q side castling ep e g = rw (e, g)
-
 pub at-start : placeAll start [] ≡ placement (replicate 64 0) 7 0 true
 unfolding placeAll
 at-start = refl
 
--- the four tokens put together, and no side
-pub made : (pieces : List ℕ) (s w b e : ℕ) (castling ep : List ℕ)
-    → s ≤ 1 → w ≡ rightsOf 75 81 castling → b ≡ rightsOf 107 113 castling → e ≡ enPassantOf ep
-    → fenOf (board pieces s w b e) ≡ assembled (placed pieces) s castling ep
+-- a placement that was walked, and the side's start behind it
+pub bad-placement : (s : List ℕ) (n : ℕ) (b c d : List ℕ) → placeAll start (take n s) .good ≡ false
+    → assembled (take n s) b c d ≡ refusedAt badPlacement (firstBad (take n s))
 unfolding assembled
-made pieces s w b e castling ep h ew eb ee =
+bad-placement s n b c d e = simp e
+
+-- the same of a text of which three tokens were cut off
+pub bad-first : {s : List ℕ} {a : ℕ} {t : List ℕ} {b : ℕ} {u : List ℕ} {c : ℕ}
+    → Cut s a t → Cut t b u → Cut u c (drop (c + 1) u) → placeAll start (take a s) .good ≡ false
+    → readFen s ≡ refusedAt badPlacement (firstBad (take a s))
+bad-first {s} {a} {t} {b} {u} {c} h k l e =
+    four-tokens h k l refl refl refl refl refl ∙ bad-placement s a (take b t) (take c u) (take (placeOf 32 (drop (c + 1) u)) (drop (c + 1) u)) e
+
+pub good-placement : (s : List ℕ) (n : ℕ) (pieces b c d : List ℕ)
+    → n ≤ length s → placeAll start (take n s) .good ≡ true → placeAll start (take n s) .pieces ≡ pieces
+    → assembled (take n s) b c d ≡ sided (n + 1) pieces (sideOf b) c d
+unfolding assembled
+good-placement s n pieces b c d h e f = simp (e, f, length-take-le n s h)
+
+-- the four tokens put together, and no side
+pub made : (at : ℕ) (pieces : List ℕ) (s w b e : ℕ) (castling ep : List ℕ)
+    → s ≤ 1 → w ≡ rightsOf 75 81 castling → b ≡ rightsOf 107 113 castling → e ≡ enPassantOf ep
+    → fenOf (board pieces s w b e) ≡ sided at pieces s castling ep
+unfolding sided
+made at pieces s w b e castling ep h ew eb ee =
     let low : s < 2 = omega arith in
     simp (lt-ltb _ _ low, ew, eb, ee)
 
-pub no-side : (pieces : List ℕ) (s : ℕ) (castling ep : List ℕ) → 1 < s → noFen ≡ assembled (placed pieces) s castling ep
-unfolding assembled
-no-side pieces s castling ep h = simp (le-ltb _ _ h)
+pub no-side : (at : ℕ) (pieces : List ℕ) (s : ℕ) (castling ep : List ℕ) → 1 < s → refusedAt badSide at ≡ sided at pieces s castling ep
+unfolding sided
+no-side at pieces s castling ep h = simp (le-ltb _ _ h)

@@ -9,8 +9,8 @@ use native.Mathlib.Omega.{arith}
 use lib.ListN.{length, take, drop}
 use lib.Seq.{take-all}
 use Rattle.fen_text.specs.Token.{placeOf, tokens}
-use Rattle.fen_text.specs.Placement.{start, placeAll}
-use Rattle.fen_text.specs.Read.{sideOf, noFen, assembled, ofTokens, readFen}
+use Rattle.square.specs.Answer.{tooFewTokens}
+use Rattle.fen_text.specs.Read.{refusedAt, assembled, ofTokens, readFen}
 use Rattle.fen_text.proofs.Tokens.{tokens-last, tokens-next}
 
 -- s has no space, and its end was found
@@ -40,15 +40,15 @@ first-by s (no n) = (tokens (drop (suc (placeOf 32 s)) s), tokens-next s (omega 
 pub first : (s : List ℕ) → (ts : List (List ℕ)) × (tokens s ≡ take (placeOf 32 s) s ∷ ts)
 first s = first-by s (decLe (length s) (placeOf 32 s))
 
-pub one-token : {s : List ℕ} {a : ℕ} → Last s a → readFen s ≡ noFen
+pub one-token : {s : List ℕ} {a : ℕ} → Last s a → readFen s ≡ refusedAt tooFewTokens (length s)
 unfolding readFen ofTokens
 one-token h = rw (last h)
 
-pub two-tokens : {s : List ℕ} {a : ℕ} {t : List ℕ} {b : ℕ} → Cut s a t → Last t b → readFen s ≡ noFen
+pub two-tokens : {s : List ℕ} {a : ℕ} {t : List ℕ} {b : ℕ} → Cut s a t → Last t b → readFen s ≡ refusedAt tooFewTokens (length s)
 unfolding readFen ofTokens
 two-tokens h k = rw (cut h, last k)
 
-pub three-tokens : {s : List ℕ} {a : ℕ} {t : List ℕ} {b : ℕ} {u : List ℕ} {c : ℕ} → Cut s a t → Cut t b u → Last u c → readFen s ≡ noFen
+pub three-tokens : {s : List ℕ} {a : ℕ} {t : List ℕ} {b : ℕ} {u : List ℕ} {c : ℕ} → Cut s a t → Cut t b u → Last u c → readFen s ≡ refusedAt tooFewTokens (length s)
 unfolding readFen ofTokens
 three-tokens h k l = rw (cut h, cut k, last l)
 
@@ -56,6 +56,6 @@ three-tokens h k l = rw (cut h, cut k, last l)
 pub four-tokens : {s : List ℕ} {a : ℕ} {t : List ℕ} {b : ℕ} {u : List ℕ} {c : ℕ} {v : List ℕ} {d : ℕ} {p q x y : List ℕ}
     → Cut s a t → Cut t b u → Cut u c v → d ≡ placeOf 32 v
     → p ≡ take a s → q ≡ take b t → x ≡ take c u → y ≡ take d v
-    → readFen s ≡ assembled (placeAll start p) (sideOf q) x y
+    → readFen s ≡ assembled p q x y
 unfolding readFen ofTokens
 four-tokens {v} h k l e ep eq ex ey = rw (cut h, cut k, cut l, first v .1, ep, eq, ex, ey, e)

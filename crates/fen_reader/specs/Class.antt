@@ -3,15 +3,14 @@
 -- Assumes nothing.
 use Prim.Native.Nat.{ℕ, _+_, _-_, _%_}
 use mathlib.Core.Path.{_≡_}
-use mathlib.Core.Bool.{true, cond}
+use mathlib.Core.Bool.{cond}
 use mathlib.Core.List.{List, [], _∷_}
 use lib.Dec.{eqb, ltb}
 use lib.ListN.{take, set}
-use Rattle.square.specs.Ascii.{ascii}
 use Rattle.square.specs.Square.{between}
 use Rattle.square.specs.Piece.{pieceOf}
 use Rattle.fen_text.specs.Token.{placeOf}
-use Rattle.fen_text.specs.Placement.{Placement, placement, start, placeAll}
+use Rattle.fen_text.specs.Placement.{start, placeAll}
 use Rattle.fen_text.specs.Read.{rightsOf}
 use Rattle.fen_reader.specs.declared.placement.Walked.{Walked}
 use Rattle.fen_reader.specs.declared.token.Sides.{Sides}
@@ -24,10 +23,7 @@ refused = 64
 unfoldable pub classOf : ℕ → ℕ
 classOf b = cond (eqb b 47) 32 (cond (between 49 56 b) (b - 32) (cond (eqb (pieceOf b) 0) refused (pieceOf b)))
 
--- the bytes that have a class, and a table in which the classes of some bytes are noted
-abbrev pub signs : List ℕ
-signs = ascii "/12345678PNBRQKpnbrqk"
-
+-- a table in which the classes of some bytes are noted
 unfoldable pub noteAll : List ℕ → List ℕ → List ℕ
 noteAll [] table = table
 noteAll (b ∷ bs) table = noteAll bs (set table b (classOf b))
@@ -44,10 +40,6 @@ fileAfter file class = cond (eqb class 32) 0 ((file + stepOf class) % 8)
 
 abbrev pub rankAfter : ℕ → ℕ → ℕ
 rankAfter rank class = cond (eqb class 32) ((rank + 7) % 8) rank
-
--- the pieces of a placement that is good; the square to fill next does not count any more
-abbrev pub placed : List ℕ → Placement
-placed pieces = placement pieces 0 0 true
 
 -- the walk over a text: it ends at the first space or with the text, with the pieces of the first token, and tells whether that is a placement
 pub record Walk (s : List ℕ) (r : Walked) : Type 0 where

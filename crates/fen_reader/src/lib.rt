@@ -6,28 +6,29 @@ use board_builder::BoardBuilder;
 use fen_text::Fen;
 use placement::REFUSED;
 use square::ACCEPTED;
-use square::INVALID_FEN;
+use square::BAD_PLACEMENT;
+use square::BAD_SIDE;
+use square::TOO_FEW_TOKENS;
 ghost use mathlib.Core.Path.{_≡_};
-ghost use Rattle.fen_text.specs.Read.{sideOf, noFen, assembled, readFen};
-ghost use Rattle.fen_reader.specs.Class.{placed};
+ghost use Rattle.fen_text.specs.Read.{sideOf, refusedAt, sided, readFen};
 
-fn no_fen() -> Fen
-    ensures { λ r. ⌜ r ≡ noFen ⌝ }
+fn refused_at(number: u64, offset: usize) -> Fen
+    ensures { λ r. ⌜ r ≡ refusedAt number offset ⌝ }
 {
     Fen {
-        number: INVALID_FEN,
-        offset: 0,
+        number,
+        offset: offset as u64,
         board: BoardBuilder::new(),
     }
 }
 
-// The record of a placement that was read and three more tokens.
-fn assemble(pieces: [u8; 64], side: &[u8], castling: &[u8], ep: &[u8]) -> Fen
-    ensures { λ r. ⌜ r ≡ assembled (placed pieces) (sideOf (now (side .entry))) (now (castling .entry)) (now (ep .entry)) ⌝ }
+// The record of a placement that was read and three more tokens, of which the side's starts at `at`.
+fn assemble(at: usize, pieces: [u8; 64], side: &[u8], castling: &[u8], ep: &[u8]) -> Fen
+    ensures { λ r. ⌜ r ≡ sided at pieces (sideOf (now (side .entry))) (now (castling .entry)) (now (ep .entry)) ⌝ }
 {
     let side_to_move = token::side(side);
     if 1 < side_to_move {
-        return no_fen();
+        return refused_at(BAD_SIDE, at);
     }
     let rights = token::rights(castling);
     let en_passant = token::en_passant(ep);
@@ -45,32 +46,34 @@ fn assemble(pieces: [u8; 64], side: &[u8], castling: &[u8], ep: &[u8]) -> Fen
     }
 }
 
-// Each byte of the first token must be one of a placement, and three more tokens must follow; what stands behind them is not looked at.
+// Three tokens must follow the first, each byte of which must be one of a placement; what stands behind them is not looked at. Where a placement is bad
+// is looked for only then.
 pub fn read_fen(text: &[u8]) -> Fen
     ensures { λ r. ⌜ r ≡ readFen (now (text .entry)) ⌝ }
 {
     let walked = placement::place(text);
-    if REFUSED <= walked.seen {
-        return no_fen();
-    }
     let end = walked.end;
     if text.len() <= end {
-        return no_fen();
+        return refused_at(TOO_FEW_TOKENS, text.len());
     }
     let from_side = token::after(text, end);
     let side_end = token::find(from_side, b' ');
     if from_side.len() <= side_end {
-        return no_fen();
+        return refused_at(TOO_FEW_TOKENS, text.len());
     }
     let from_rights = token::after(from_side, side_end);
     let rights_end = token::find(from_rights, b' ');
     if from_rights.len() <= rights_end {
-        return no_fen();
+        return refused_at(TOO_FEW_TOKENS, text.len());
+    }
+    if REFUSED <= walked.seen {
+        return refused_at(BAD_PLACEMENT, placement::first_bad(token::up_to(text, end)));
     }
     let from_ep = token::after(from_rights, rights_end);
     let ep_end = token::find(from_ep, b' ');
     let pieces = walked.pieces;
     assemble(
+        end + 1,
         pieces,
         token::up_to(from_side, side_end),
         token::up_to(from_rights, rights_end),

@@ -2,7 +2,8 @@
 ghost use mathlib.Core.Path.{_≡_};
 ghost use Prim.Native.Nat.{_<_};
 ghost use lib.ListN.{set};
-ghost use Rattle.fen_reader.specs.Class.{classOf, noteAll, signs, pieceAfter, stepOf, fileAfter, rankAfter, Walk};
+ghost use Rattle.fen_text.specs.Placement.{signs, firstBad};
+ghost use Rattle.fen_reader.specs.Class.{classOf, noteAll, pieceAfter, stepOf, fileAfter, rankAfter, Walk};
 
 // A byte's class: a piece's code, DIGIT and how many files it adds, SLASH, or REFUSED, a bit that no other class has and that leaves the board as it is.
 const DIGIT: u8 = 16;
@@ -139,4 +140,18 @@ pub(crate) fn place(text: &[u8]) -> Walked
         end: i,
         seen,
     }
+}
+
+// The place of the first byte that is none of a placement, or the length where there is none.
+pub(crate) fn first_bad(token: &[u8]) -> usize
+    ensures { λ r. ⌜ r ≡ firstBad (now (token .entry)) ⌝ }
+{
+    let mut i: usize = 0;
+    while i < token.len() {
+        if class_of(token[i]) == REFUSED {
+            return i;
+        }
+        i += 1;
+    }
+    i
 }

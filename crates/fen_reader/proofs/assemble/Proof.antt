@@ -1,9 +1,8 @@
 use borrow.Author.Needs.{needs}
 use mathlib.Core.Path.{ap, _∙_}
 use Prim.Native.Nat.{ℕ}
-use Rattle.fen_text.specs.Read.{assembled}
+use Rattle.fen_text.specs.Read.{sided}
 use Rattle.fen_reader.specs.declared.token.Sides.{Sides}
-use Rattle.fen_reader.specs.Class.{placed}
 use Rattle.fen_reader.proofs.Placing.{made, no-side}
 use Rattle.fen_reader.proofs.assemble.Statement.{statement}
 use Rattle.fen_reader.proofs.assemble.Tie as tie
@@ -11,14 +10,15 @@ use Rattle.fen_reader.proofs.assemble.Tie as tie
 side-requires : tie.Need-side-requires
 side-requires c κs = search needs
 
-no-fen-requires : tie.Need-no-fen-requires
-no-fen-requires c κs = search needs
+refused-at-requires : tie.Need-refused-at-requires
+refused-at-requires c κs = search needs
 
 returns : tie.Need-returns
-returns c =
-    c .no-fen .ensures
-    ∙ no-side (c .before .before .before .before .before .before .args .pieces) (c .before .before .side .result) (c .before .before .before .before .before .before .args .castling .now) (c .before .before .before .before .before .before .args .ep .now) (c .before .if1 .taken)
-    ∙ ap (λ (s : ℕ). assembled (placed (c .before .before .before .before .before .before .args .pieces)) s (c .before .before .before .before .before .before .args .castling .now) (c .before .before .before .before .before .before .args .ep .now)) (c .before .before .side .ensures)
+returns c = 
+    let a = c .before .before .before .before .before .before .args in
+    c .refused-at .ensures
+    ∙ no-side (a .at) (a .pieces) (c .before .before .side .result) (a .castling .now) (a .ep .now) (c .before .if1 .taken)
+    ∙ ap (λ (s : ℕ). sided (a .at) (a .pieces) s (a .castling .now) (a .ep .now)) (c .before .before .side .ensures)
 
 rights-requires : tie.Need-rights-requires
 rights-requires c κs = search needs
@@ -27,13 +27,21 @@ en-passant-requires : tie.Need-en-passant-requires
 en-passant-requires c κs = search needs
 
 returns-2 : tie.Need-returns-2
-returns-2 c =
+returns-2 c = 
+    let a = c .before .before .before .before .before .before .before .args in
     let white = ap (λ (r : Sides). r .white) (c .before .rights .ensures) in
     let black = ap (λ (r : Sides). r .black) (c .before .rights .ensures) in
-    made (c .before .before .before .before .before .before .before .args .pieces) (c .before .before .before .side .result) (c .before .rights .result .white) (c .before .rights .result .black) (c .en-passant .result) (c .before .before .before .before .before .before .before .args .castling .now) (c .before .before .before .before .before .before .before .args .ep .now) (c .before .before .if1 .left) white black (c .en-passant .ensures)
-    ∙ ap (λ (s : ℕ). assembled (placed (c .before .before .before .before .before .before .before .args .pieces)) s (c .before .before .before .before .before .before .before .args .castling .now) (c .before .before .before .before .before .before .before .args .ep .now)) (c .before .before .before .side .ensures)
+    made (a .at) (a .pieces) (c .before .before .before .side .result) (c .before .rights .result .white) (c .before .rights .result .black) (c .en-passant .result)
+    (a .castling .now) (a .ep .now) (c .before .before .if1 .left) white black (c .en-passant .ensures)
+    ∙ ap (λ (s : ℕ). sided (a .at) (a .pieces) s (a .castling .now) (a .ep .now)) (c .before .before .before .side .ensures)
 
 pub assemble-spec : {M : Type 1} → statement M
 assemble-spec =
     tie.close
-    (tie.spec side-requires no-fen-requires returns rights-requires en-passant-requires returns-2)
+    (tie.spec
+    side-requires
+    refused-at-requires
+    returns
+    rights-requires
+    en-passant-requires
+    returns-2)

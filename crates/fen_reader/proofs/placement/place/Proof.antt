@@ -7,7 +7,7 @@ use lib.Dec.{ltb, lit<}
 use lib.ListN.{length, take, drop, getD, length-set}
 use Rattle.fen_text.specs.Token.{placeOf}
 use Rattle.fen_text.specs.Placement.{Placement, placement, start, placeAll}
-use Rattle.fen_text.proofs.Tokens.{place-miss, place-start, place-hit, place-end}
+use Rattle.fen_text.proofs.Tokens.{place-miss, where-start, place-hit, where-end}
 use Rattle.fen_reader.specs.Class.{refused, classOf}
 use Rattle.fen_reader.proofs.Classes.{class-at, table-long}
 use Rattle.fen_reader.proofs.Placing.{next, stored, turn, file-small, rank-small, at-start}
@@ -24,7 +24,7 @@ note-all-requires : tie.Need-note-all-requires Inv-loop μ-loop
 note-all-requires c κs = search needs
 
 loop-holds : tie.Need-loop-holds Inv-loop μ-loop
-loop-holds c = (zero-le, lit< tt, lit< tt, refl, at-start, place-start 32 _)
+loop-holds c = (zero-le, lit< tt, lit< tt, refl, at-start, where-start _ _)
 
 shared-slice-read-b : tie.Need-shared-slice-read-b Inv-loop μ-loop
 shared-slice-read-b c = search needs
@@ -98,7 +98,7 @@ loop-again c =
 
 returns-2 : tie.Need-returns-2 Inv-loop μ-loop
 returns-2 c = record {
-  place = sym (c .before .loop .inv .5 ∙ place-end 32 (c .before .before .before .before .before .args .text .now) (c .before .loop .i) (c .loop-test .left));
+  place = sym (c .before .loop .inv .5 ∙ where-end _ (c .before .before .before .before .before .args .text .now) (c .before .loop .i) (c .loop-test .left));
   pieces = ap (λ (p : Placement). p .pieces) (c .before .loop .inv .4);
   good = ap (λ (p : Placement). p .good) (c .before .loop .inv .4);
 }

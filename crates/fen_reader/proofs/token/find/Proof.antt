@@ -3,7 +3,7 @@ use mathlib.Core.Path.{_≡_, sym, _∙_}
 use Prim.Native.Nat.{_+_, _-_, _≤_, zero-le}
 use lib.ListN.{length, drop}
 use Rattle.fen_text.specs.Token.{placeOf}
-use Rattle.fen_text.proofs.Tokens.{place-hit, place-miss, place-end, place-start}
+use Rattle.fen_text.proofs.Tokens.{place-hit, place-miss, where-end, where-start}
 use Rattle.fen_reader.proofs.token.find.Statement.{statement}
 use Rattle.fen_reader.proofs.token.find.Tie as tie
 
@@ -14,7 +14,7 @@ abbrev μ-loop : tie.MeasureT-loop
 μ-loop s b i₀ i = length s - i
 
 loop-holds : tie.Need-loop-holds Inv-loop μ-loop
-loop-holds c = (zero-le, place-start _ _)
+loop-holds c = (zero-le, where-start _ _)
 
 shared-slice-read-if1 : tie.Need-shared-slice-read-if1 Inv-loop μ-loop
 shared-slice-read-if1 c = search needs
@@ -32,7 +32,7 @@ loop-again : tie.Need-loop-again Inv-loop μ-loop
 loop-again c = (search needs, c .before .before .before .loop .inv .1 ∙ place-miss (c .before .before .before .before .args .b) (c .before .before .before .before .args .s .now) (c .before .before .before .loop .i) (c .before .before .loop-test .taken) (c .if1 .left))
 
 returns-2 : tie.Need-returns-2 Inv-loop μ-loop
-returns-2 c = sym (c .before .loop .inv .1 ∙ place-end (c .before .before .args .b) (c .before .before .args .s .now) (c .before .loop .i) (c .loop-test .left))
+returns-2 c = sym (c .before .loop .inv .1 ∙ where-end _ (c .before .before .args .s .now) (c .before .loop .i) (c .loop-test .left))
 
 pub find-spec : {M : Type 1} → statement M
 find-spec =

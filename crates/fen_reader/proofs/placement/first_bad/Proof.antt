@@ -1,0 +1,63 @@
+use borrow.Author.Needs.{needs}
+use mathlib.Core.Path.{_≡_, sym, _∙_}
+use native.Mathlib.Omega.{arith}
+use Prim.Native.Nat.{_+_, _-_, _≤_, _<_, zero-le}
+use lib.ListN.{length, drop, getD}
+use Rattle.fen_text.specs.Placement.{isBad, firstBad}
+use Rattle.fen_text.proofs.Tokens.{where-hit, where-miss, where-end, where-start}
+use Rattle.fen_reader.proofs.Classes.{class-bad, class-good}
+use Rattle.fen_reader.proofs.placement.first_bad.Statement.{statement}
+use Rattle.fen_reader.proofs.placement.first_bad.Tie as tie
+
+abbrev Inv-loop : tie.InvT-loop
+Inv-loop token i₀ i = (i ≤ length token) × (firstBad token ≡ i + firstBad (drop i token))
+
+abbrev μ-loop : tie.MeasureT-loop
+μ-loop token i₀ i = length token - i
+
+loop-holds : tie.Need-loop-holds Inv-loop μ-loop
+loop-holds c = (zero-le, where-start _ _)
+
+shared-slice-read-class-of : tie.Need-shared-slice-read-class-of Inv-loop μ-loop
+shared-slice-read-class-of c = search needs
+
+class-of-requires : tie.Need-class-of-requires Inv-loop μ-loop
+class-of-requires c κs = search needs
+
+returns : tie.Need-returns Inv-loop μ-loop
+returns c = 
+    let s = c .before .before .before .before .before .before .args .token .now in
+    let i = c .before .before .before .before .loop .i in
+    let byte : getD s i 0 < 256 = omega (arith, c .before .before .shared-slice-known2 .given i) in
+    sym (c .before .before .before .before .loop .inv .1 ∙ where-hit isBad s i (c .before .before .before .loop-test .taken) (class-bad (getD s i 0) (c .before .class-of .result) byte (c .before .class-of .ensures) (c .if1 .taken)))
+
+add-i : tie.Need-add-i Inv-loop μ-loop
+add-i c = search needs
+
+loop-less : tie.Need-loop-less Inv-loop μ-loop
+loop-less c = search needs
+
+loop-again : tie.Need-loop-again Inv-loop μ-loop
+loop-again c = 
+    let s = c .before .before .before .before .before .before .args .token .now in
+    let i = c .before .before .before .before .loop .i in
+    let byte : getD s i 0 < 256 = omega (arith, c .before .before .shared-slice-known2 .given i) in
+    (search needs, c .before .before .before .before .loop .inv .1 ∙ where-miss isBad s i (c .before .before .before .loop-test .taken) (class-good (getD s i 0) (c .before .class-of .result) byte (c .before .class-of .ensures) (c .if1 .left)))
+
+returns-2 : tie.Need-returns-2 Inv-loop μ-loop
+returns-2 c = sym (c .before .loop .inv .1 ∙ where-end _ (c .before .before .before .args .token .now) (c .before .loop .i) (c .loop-test .left))
+
+pub first-bad-spec : {M : Type 1} → statement M
+first-bad-spec =
+    tie.close
+    (tie.spec
+    Inv-loop
+    μ-loop
+    loop-holds
+    shared-slice-read-class-of
+    class-of-requires
+    returns
+    add-i
+    loop-less
+    loop-again
+    returns-2)
