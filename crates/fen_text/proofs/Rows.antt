@@ -10,7 +10,7 @@ use Rattle.fen_text.specs.Token.{onto, joined, tokens, placeAfter, place
 use Rattle.fen_text.specs.Placement.{placeByte, placeAll}
 use Rattle.fen_text.specs.Read.{sideOf, rightsOf, sided, assembled, ofTokens, readFen}
 use Rattle.fen_text.specs.Write.{digitText, runText, slashText, ranksText, rightsText, enPassantText, tailText, fenText}
-use Rattle.fen_text.specs.Rows.{FenRows, FaultRows}
+use Rattle.fen_text.specs.Rows.{FenRows}
 
 pub fen-rows : FenRows
 unfolding ascii readSquare pieceOf letterOf lettersOf lettersText among onto joined tokens placeAfter placeWhere placeByte placeAll sideOf rightsOf sided assembled ofTokens readFen digitText runText slashText ranksText rightsText enPassantText tailText fenText
@@ -23,17 +23,4 @@ fen-rows = record {
   bad-en-passant = (refl, refl);
   initial-read = refl;
   initial-written = refl;
-}
-
-pub fault-rows : FaultRows
-unfolding ascii pieceOf among onto joined tokens placeAfter placeWhere placeByte placeAll sideOf sided assembled ofTokens readFen
-fault-rows = record {
-  nothing = refl;
-  few-before-placement = refl;
-  first-of-two = refl;
-  second = refl;
-  placement-before-side = refl;
-  empty-side = refl;
-  long-side = refl;
-  other-side = refl;
 }

@@ -6,3 +6,4 @@ pub mod Write
 pub mod Promises
 pub mod Faults
 pub mod Rows
+pub mod AtSmallest

@@ -1,5 +1,5 @@
--- The FEN rows of document 01's table, "Positions and texts to try", with the numbers of document 02, order 2, each of these at its smallest inputs,
--- black's en passant rank, and the initial position of 001's test.
+-- The FEN rows of document 01's table, "Positions and texts to try", with the numbers of document 02, order 2, black's en passant rank,
+-- and the initial position of 001's test.
 -- Assumes nothing.
 use Prim.Native.Nat.{ℕ}
 use Prim.Native.String.{String}
@@ -28,14 +28,3 @@ pub record FenRows : Type 0 where
   pub bad-en-passant : Writes "8/8/8/8/8/8/8/8 b - z9" "8/8/8/8/8/8/8/8 b - - 0 1"
   pub initial-read : readFen (ascii "rnbqkbnr/pppppppp/8/8/8/8/PPPPPPPP/RNBQKBNR w KQkq - 0 1") ≡ fenOf initialBoard
   pub initial-written : fenText initialBoard ≡ ascii "rnbqkbnr/pppppppp/8/8/8/8/PPPPPPPP/RNBQKBNR w KQkq - 0 1"
-
--- each number before the next, at its smallest, and the first of two bad bytes
-pub record FaultRows : Type 0 where
-  pub nothing : Refused "" tooFewTokens 0
-  pub few-before-placement : Refused "9 x -" tooFewTokens 5
-  pub first-of-two : Refused "9x w - -" badPlacement 0
-  pub second : Refused "1x w - -" badPlacement 1
-  pub placement-before-side : Refused "x x - -" badPlacement 0
-  pub empty-side : Refused "  - -" badSide 1
-  pub long-side : Refused "8 ww - -" badSide 2
-  pub other-side : Refused "K8 x - -" badSide 3

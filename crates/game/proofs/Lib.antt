@@ -1,4 +1,3 @@
 pub mod Answers
-pub mod Puts
 pub mod Ways
 pub mod Determined

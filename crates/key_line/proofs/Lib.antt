@@ -1,2 +1,3 @@
 pub mod Lines
+pub mod Refusals
 pub mod Determined

@@ -19,7 +19,7 @@ use Rattle.fen_text.specs.declared.Fen.{Fen}
 use Rattle.fen_text.specs.Read.{readFen}
 use Rattle.fen_text.specs.Write.{fenText, fenCheck}
 use Rattle.fen_text.specs.Promises.{keyOf}
-use Rattle.fen_text.proofs.Keys.{reads-in-range, refused-is-zero}
+use Rattle.fen_text.proofs.Keys.{reads-in-range}
 use Rattle.fen_text.proofs.Hollow.{fen-reads-back}
 use Rattle.key_line.specs.KeyLine.{newline, refusalLine, keyLine}
 
@@ -65,14 +65,8 @@ line-accepted s f e z =
     let number : readFen s .number ≡ 0 = ap (λ (g : Fen). g .number) (sym e) ∙ z in
     simp (eq-eqb _ _ number)
 
-pub line-refused : (s : List ℕ) (f : Fen) → f ≡ readFen s → (f .number ≡ 0 → ⊥) → keyLine s ≡ refusalLine (f .number)
+pub line-refused : (s : List ℕ) (f : Fen) → f ≡ readFen s → (f .number ≡ 0 → ⊥) → keyLine s ≡ refusalLine (f .number) (f .offset)
 unfolding keyLine
 line-refused s f e n =
     let other : readFen s .number ≡ 0 → ⊥ = λ z. n (ap (λ (g : Fen). g .number) e ∙ z) in
     simp (ne-eqb _ _ other, e)
-
-pub number-small : (s : List ℕ) (f : Fen) → f ≡ readFen s → (f .number ≡ 0 → ⊥) → f .number < 100
-number-small s f e n =
-    let other : readFen s .number ≡ 0 → ⊥ = λ z. n (ap (λ (g : Fen). g .number) e ∙ z) in
-    let one : f .number ≡ 1 = ap (λ (g : Fen). g .number) (e ∙ refused-is-zero s other) in
-    omega arith

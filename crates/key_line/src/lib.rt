@@ -1,23 +1,39 @@
-// One line of the program keys: a FEN text's key and a newline, or `! N` and a newline with the number of the refusal.
+// One line of the program keys: a FEN text's key and a newline, or `! N OFFSET` and a newline with the number of the refusal and where the text is wrong.
 use square::Answer;
 ghost use mathlib.Core.Path.{_≡_};
-ghost use Prim.Native.Nat.{_<_};
+ghost use Prim.Native.Nat.{_≤_};
 ghost use lib.ListN.{length};
 ghost use Rattle.square.specs.Answer.{writeAnswer, writeBytes};
+ghost use Rattle.square.specs.Pushed.{Put};
+ghost use Rattle.decimal.specs.Decimal.{decimal};
 ghost use Rattle.key_line.specs.KeyLine.{refusalLine, keyLine};
 
-// Writes `! N` and a newline.
-fn write_refusal(number: u64, out: &mut [u8]) -> Answer
-    requires { ⌜ number < 100 ⌝ }
-    ensures answer { λ r. ⌜ r ≡ writeAnswer 0 (refusalLine number) (length (now (out .entry))) ⌝ }
-    ensures bytes { λ r. ⌜ now (out .exit) ≡ writeBytes 0 (refusalLine number) (now (out .entry)) ⌝ }
+// The longest refusal: two numbers of up to 20 digits, `!`, two spaces and a newline.
+const LONGEST_REFUSAL: usize = 44;
+
+// Puts a number behind the first `n` bytes.
+fn push_number(bytes: &mut [u8], n: usize, number: u64) -> usize
+    requires { ⌜ length (now bytes) ≡ 44 ⌝ }
+    requires { ⌜ n ≤ 24 ⌝ }
+    ensures { λ r. ⌜ Put 44 (now (bytes .entry)) n (decimal number) (now (bytes .exit)) r ⌝ }
 {
-    let low = b'0' + (number % 10) as u8;
-    if number < 10 {
-        return square::write_text(&[b'!', b' ', low, b'\n'], out);
-    }
-    let high = b'0' + (number / 10 % 10) as u8;
-    square::write_text(&[b'!', b' ', high, low, b'\n'], out)
+    let written = decimal::to_string(number, &mut bytes[n..]);
+    n + written.value as usize
+}
+
+// Writes `! N OFFSET` and a newline.
+fn write_refusal(number: u64, offset: u64, out: &mut [u8]) -> Answer
+    ensures answer { λ r. ⌜ r ≡ writeAnswer 0 (refusalLine number offset) (length (now (out .entry))) ⌝ }
+    ensures bytes { λ r. ⌜ now (out .exit) ≡ writeBytes 0 (refusalLine number offset) (now (out .entry)) ⌝ }
+{
+    let mut bytes = [0u8; LONGEST_REFUSAL];
+    bytes[0] = b'!';
+    bytes[1] = b' ';
+    let a = push_number(&mut bytes, 2, number);
+    bytes[a] = b' ';
+    let b = push_number(&mut bytes, a + 1, offset);
+    bytes[b] = b'\n';
+    square::write_text(&bytes[..b + 1], out)
 }
 
 // Writes the line of a text to the front of `out`, or answers 7 with its length.
@@ -27,7 +43,7 @@ pub fn key_line(line: &[u8], out: &mut [u8]) -> Answer
 {
     let fen = fen_reader::read_fen(line);
     if fen.number != square::ACCEPTED {
-        return write_refusal(fen.number, out);
+        return write_refusal(fen.number, fen.offset, out);
     }
     let board = fen.board;
     let mut text = [0u8; 86];

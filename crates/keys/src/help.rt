@@ -17,8 +17,11 @@ pub(crate) fn tell() {
     put(b"Reads FEN texts, one a line, from the files named, or from standard input if none is\n");
     put(b"or where a file is named -, and writes one line for each, in order: its key, which is\n");
     put(b"the one FEN of its position, or\n");
-    put(b"  ! 1       the text is no FEN\n");
-    put(b"  ! long    the line has more than 131071 bytes\n");
+    put(b"  ! 18 OFFSET    the text has fewer than four tokens; the offset is its length\n");
+    put(b"  ! 19 OFFSET    the byte there is the first that is none of a placement\n");
+    put(b"  ! 20 OFFSET    the token that starts there is no side: not w, W, b or B\n");
+    put(b"  ! long         the line has more than 131071 bytes\n");
+    put(b"Offsets count the bytes of the line from 0.\n");
     put(b"An empty line is a text like any other, and a carriage return is part of its line.\n");
     put(b"A last line without a newline counts if it has a byte; one that a failed read cut does\n");
     put(b"not, and is dropped.\n");

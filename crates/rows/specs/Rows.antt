@@ -1,10 +1,11 @@
--- Document 01, "Positions and texts to try": the sixteen rows, in its order, over the definitions that the public contracts cite.
+-- Document 01, "Positions and texts to try": the sixteen rows, in its order, over the definitions that the public contracts cite. Where it has 1, order 2
+-- of document 02 says which part is wrong, and where.
 -- Assumes nothing.
 use Prim.Native.Nat.{ℕ}
 use Prim.Native.String.{String}
 use mathlib.Core.Path.{_≡_}
 use mathlib.Core.List.{[], _∷_}
-use Rattle.square.specs.Answer.{accepted, refused, invalidSquare, invalidUciMove}
+use Rattle.square.specs.Answer.{accepted, refused, invalidSquare, invalidUciMove, tooFewTokens, badPlacement}
 use Rattle.square.specs.Ascii.{ascii}
 use Rattle.chess_move.specs.Coordinate.{readMove}
 use Rattle.fen_text.specs.Rows.{Writes, Refused}
@@ -19,8 +20,8 @@ NoMove text number = readMove (ascii text) ≡ refused number
 
 pub record SixteenRows : Type 0 where
   pub row1 : Writes " w - -" "8/8/8/8/8/8/8/8 w - - 0 1"
-  pub row2 : Refused "8/8 w -"
-  pub row3 : Refused "8/8/8/8/8/8/8/9 w - -"
+  pub row2 : Refused "8/8 w -" tooFewTokens 7
+  pub row3 : Refused "8/8/8/8/8/8/8/9 w - -" badPlacement 14
   pub row4 : Writes "8/8/8/8/8/8/8/8 w - e4" "8/8/8/8/8/8/8/8 w - e6 0 1"
   pub row5 : Writes "8/8/8/8/8/8/8/8 b - z9" "8/8/8/8/8/8/8/8 b - - 0 1"
   pub row6 : (Moves "e2e4q" 22284) × (Moves "e2e4qx" 1804)

@@ -10,4 +10,5 @@ pub mod Squares
 pub mod Writes
 pub mod ItsText
 pub mod Written
+pub mod Puts
 pub mod Determined

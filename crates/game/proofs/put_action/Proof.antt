@@ -3,11 +3,8 @@ use native.Mathlib.Omega.{arith}
 use Prim.Native.Nat.{_*_}
 use Rattle.action.specs.Layout.{actionSize, actionBytes, actionCheck}
 use Rattle.action.proofs.ReadBack.{length-bytes}
-use Rattle.game.proofs.Puts.{put-written}
+use Rattle.square.proofs.Puts.{put-written}
 use Rattle.game.proofs.Ways as ways
-use Rattle.game.proofs.Puts.{put-written}
-use Rattle.game.proofs.Ways as ways
-use Rattle.game.proofs.Puts.{put-written}
 use Rattle.game.proofs.put_action.Statement.{statement}
 use Rattle.game.proofs.put_action.Tie as tie
 

@@ -4,12 +4,8 @@ use Prim.Native.Nat.{_*_}
 use Rattle.position.specs.Layout.{Position, positionSize}
 use Rattle.stored_position.specs.Bytes.{positionBytes, positionCheck, positionGiven}
 use Rattle.stored_position.proofs.ReadBack.{one-size}
-use Rattle.position.specs.Layout.{Position, positionSize}
-use Rattle.game.proofs.Puts.{put-written}
+use Rattle.square.proofs.Puts.{put-written}
 use Rattle.game.proofs.Ways as ways
-use Rattle.game.proofs.Puts.{put-written}
-use Rattle.game.proofs.Ways as ways
-use Rattle.game.proofs.Puts.{put-written}
 use Rattle.game.proofs.put_position.Statement.{statement}
 use Rattle.game.proofs.put_position.Tie as tie
 

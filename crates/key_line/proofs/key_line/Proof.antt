@@ -7,7 +7,7 @@ use lib.ListN.{take, set, length-set}
 use lib.Seq.{length-take-le}
 use Rattle.fen_text.specs.Promises.{keyOf}
 use Rattle.key_line.specs.KeyLine.{newline}
-use Rattle.key_line.proofs.Lines.{kept, ended, line-accepted, line-refused, number-small}
+use Rattle.key_line.proofs.Lines.{kept, ended, line-accepted, line-refused}
 use Rattle.key_line.proofs.key_line.Statement.{statement}
 use Rattle.key_line.proofs.key_line.Tie as tie
 
@@ -15,7 +15,7 @@ read-fen-requires : tie.Need-read-fen-requires
 read-fen-requires c κs = search needs
 
 write-refusal-requires : tie.Need-write-refusal-requires
-write-refusal-requires c κs = number-small (c .before .before .before .before .before .before .args .line .now) (c .before .before .before .read-fen .result) (c .before .before .before .read-fen .ensures) (c .before .if1 .taken)
+write-refusal-requires c κs = search needs
 
 same-length : tie.Need-same-length
 same-length c = search needs
