@@ -27,13 +27,16 @@ en-passant-requires : tie.Need-en-passant-requires
 en-passant-requires c κs = search needs
 
 returns-2 : tie.Need-returns-2
-returns-2 c = 
-    let a = c .before .before .before .before .before .before .before .args in
-    let white = ap (λ (r : Sides). r .white) (c .before .rights .ensures) in
-    let black = ap (λ (r : Sides). r .black) (c .before .rights .ensures) in
-    made (a .at) (a .pieces) (c .before .before .before .side .result) (c .before .rights .result .white) (c .before .rights .result .black) (c .en-passant .result)
-    (a .castling .now) (a .ep .now) (c .before .before .if1 .left) white black (c .en-passant .ensures)
-    ∙ ap (λ (s : ℕ). sided (a .at) (a .pieces) s (a .castling .now) (a .ep .now)) (c .before .before .before .side .ensures)
+returns-2 c =
+    let at-args = c .before .before .before .before .before .before .before .args in
+    let at-side = c .before .before .before .side in
+    let at-if1 = c .before .before .if1 in
+    let at-rights = c .before .rights in
+    let white = ap (λ (r : Sides). r .white) (at-rights .ensures) in
+    let black = ap (λ (r : Sides). r .black) (at-rights .ensures) in
+    made (at-args .at) (at-args .pieces) (at-side .result) (at-rights .result .white) (at-rights .result .black) (c .en-passant .result)
+    (at-args .castling .now) (at-args .ep .now) (at-if1 .left) white black (c .en-passant .ensures)
+    ∙ ap (λ (s : ℕ). sided (at-args .at) (at-args .pieces) s (at-args .castling .now) (at-args .ep .now)) (at-side .ensures)
 
 pub assemble-spec : {M : Type 1} → statement M
 assemble-spec =

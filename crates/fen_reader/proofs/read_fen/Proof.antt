@@ -33,11 +33,16 @@ refused-at-requires-2 : tie.Need-refused-at-requires-2
 refused-at-requires-2 c κs = search needs
 
 returns-2 : tie.Need-returns-2
-returns-2 c = 
+returns-2 c =
+    let at-place = c .before .before .before .before .before .place in
+    let at-if1 = c .before .before .before .before .if1 in
+    let at-after = c .before .before .before .after in
+    let at-find = c .before .before .find in
+    let at-if2 = c .before .if2 in
     c .refused-at2 .ensures
     ∙ sym (two-tokens
-    (record { place = c .before .before .before .before .before .place .ensures .place; within = c .before .before .before .before .if1 .left; rest = c .before .before .before .after .ensures })
-    (record { place = c .before .before .find .ensures; none = c .before .if2 .taken }))
+    (record { place = at-place .ensures .place; within = at-if1 .left; rest = at-after .ensures })
+    (record { place = at-find .ensures; none = at-if2 .taken }))
 
 after-requires-2 : tie.Need-after-requires-2
 after-requires-2 c κs = search needs
@@ -49,12 +54,20 @@ refused-at-requires-3 : tie.Need-refused-at-requires-3
 refused-at-requires-3 c κs = search needs
 
 returns-3 : tie.Need-returns-3
-returns-3 c = 
+returns-3 c =
+    let at-place = c .before .before .before .before .before .before .before .before .place in
+    let at-if1 = c .before .before .before .before .before .before .before .if1 in
+    let at-after = c .before .before .before .before .before .before .after in
+    let at-find = c .before .before .before .before .before .find in
+    let at-if2 = c .before .before .before .before .if2 in
+    let at-after2 = c .before .before .before .after2 in
+    let at-find2 = c .before .before .find2 in
+    let at-if3 = c .before .if3 in
     c .refused-at3 .ensures
     ∙ sym (three-tokens
-    (record { place = c .before .before .before .before .before .before .before .before .place .ensures .place; within = c .before .before .before .before .before .before .before .if1 .left; rest = c .before .before .before .before .before .before .after .ensures })
-    (record { place = c .before .before .before .before .before .find .ensures; within = c .before .before .before .before .if2 .left; rest = c .before .before .before .after2 .ensures })
-    (record { place = c .before .before .find2 .ensures; none = c .before .if3 .taken }))
+    (record { place = at-place .ensures .place; within = at-if1 .left; rest = at-after .ensures })
+    (record { place = at-find .ensures; within = at-if2 .left; rest = at-after2 .ensures })
+    (record { place = at-find2 .ensures; none = at-if3 .taken }))
 
 up-to-requires : tie.Need-up-to-requires
 up-to-requires c κs = search needs
@@ -66,15 +79,26 @@ refused-at-requires-4 : tie.Need-refused-at-requires-4
 refused-at-requires-4 c κs = search needs
 
 returns-4 : tie.Need-returns-4
-returns-4 c = 
-    let at = c .before .first-bad .ensures ∙ ap firstBad (c .before .before .up-to .ensures) in
+returns-4 c =
+    let at-place = c .before .before .before .before .before .before .before .before .before .before .before .before .place in
+    let at-if1 = c .before .before .before .before .before .before .before .before .before .before .before .if1 in
+    let at-after = c .before .before .before .before .before .before .before .before .before .before .after in
+    let at-find = c .before .before .before .before .before .before .before .before .before .find in
+    let at-if2 = c .before .before .before .before .before .before .before .before .if2 in
+    let at-after2 = c .before .before .before .before .before .before .before .after2 in
+    let at-find2 = c .before .before .before .before .before .before .find2 in
+    let at-if3 = c .before .before .before .before .before .if3 in
+    let at-if4 = c .before .before .before .if4 in
+    let at-up-to = c .before .before .up-to in
+    let at-first-bad = c .before .first-bad in
+    let at = at-first-bad .ensures ∙ ap firstBad (at-up-to .ensures) in
     c .refused-at4 .ensures
     ∙ ap (refusedAt badPlacement) at
     ∙ sym (bad-first
-    (record { place = c .before .before .before .before .before .before .before .before .before .before .before .before .place .ensures .place; within = c .before .before .before .before .before .before .before .before .before .before .before .if1 .left; rest = c .before .before .before .before .before .before .before .before .before .before .after .ensures })
-    (record { place = c .before .before .before .before .before .before .before .before .before .find .ensures; within = c .before .before .before .before .before .before .before .before .if2 .left; rest = c .before .before .before .before .before .before .before .after2 .ensures })
-    (record { place = c .before .before .before .before .before .before .find2 .ensures; within = c .before .before .before .before .before .if3 .left; rest = refl })
-    (c .before .before .before .before .before .before .before .before .before .before .before .before .place .ensures .good ∙ le-ltb (c .before .before .before .before .before .before .before .before .before .before .before .before .place .result .seen) refused (c .before .before .before .if4 .taken)))
+    (record { place = at-place .ensures .place; within = at-if1 .left; rest = at-after .ensures })
+    (record { place = at-find .ensures; within = at-if2 .left; rest = at-after2 .ensures })
+    (record { place = at-find2 .ensures; within = at-if3 .left; rest = refl })
+    (at-place .ensures .good ∙ le-ltb (at-place .result .seen) refused (at-if4 .taken)))
 
 after-requires-3 : tie.Need-after-requires-3
 after-requires-3 c κs = search needs
@@ -98,23 +122,39 @@ assemble-requires : tie.Need-assemble-requires
 assemble-requires c κs = search needs
 
 returns-5 : tie.Need-returns-5
-returns-5 c = 
-    let s = c .before .before .before .before .before .before .before .before .before .before .before .before .before .before .before .before .before .before .args .text .now in
-    let w = c .before .before .before .before .before .before .before .before .before .before .before .before .before .before .before .before .place .result in
-    let inside : w .end ≤ length s = omega (arith, c .before .before .before .before .before .before .before .before .before .before .before .before .before .before .before .if1 .left) in
-    let good : placeAll start (take (w .end) s) .good ≡ true = c .before .before .before .before .before .before .before .before .before .before .before .before .before .before .before .before .place .ensures .good ∙ lt-ltb (w .seen) refused (c .before .before .before .before .before .before .before .if4 .left) in
+returns-5 c =
+    let early = c .before .before .before .before .before .before .before .before .before .before .before .before in
+    let a = early .before .before .before .before .before .before .args in
+    let at-place = early .before .before .before .before .place in
+    let at-if1 = early .before .before .before .if1 in
+    let at-after = early .before .before .after in
+    let at-find = early .before .find in
+    let at-if2 = early .if2 in
+    let at-after2 = c .before .before .before .before .before .before .before .before .before .before .before .after2 in
+    let at-find2 = c .before .before .before .before .before .before .before .before .before .before .find2 in
+    let at-if3 = c .before .before .before .before .before .before .before .before .before .if3 in
+    let at-if4 = c .before .before .before .before .before .before .before .if4 in
+    let at-after3 = c .before .before .before .before .before .before .after3 in
+    let at-find3 = c .before .before .before .before .before .find3 in
+    let at-up-to2 = c .before .before .before .up-to2 in
+    let at-up-to3 = c .before .before .up-to3 in
+    let at-up-to4 = c .before .up-to4 in
+    let s = a .text .now in
+    let w = at-place .result in
+    let inside : w .end ≤ length s = omega (arith, at-if1 .left) in
+    let good : placeAll start (take (w .end) s) .good ≡ true = at-place .ensures .good ∙ lt-ltb (w .seen) refused (at-if4 .left) in
     c .assemble .ensures
-    ∙ sym (good-placement s (w .end) (w .pieces) _ _ _ inside good (c .before .before .before .before .before .before .before .before .before .before .before .before .before .before .before .before .place .ensures .pieces))
+    ∙ sym (good-placement s (w .end) (w .pieces) _ _ _ inside good (at-place .ensures .pieces))
     ∙ sym
     (four-tokens
-    (record { place = c .before .before .before .before .before .before .before .before .before .before .before .before .before .before .before .before .place .ensures .place; within = c .before .before .before .before .before .before .before .before .before .before .before .before .before .before .before .if1 .left; rest = c .before .before .before .before .before .before .before .before .before .before .before .before .before .before .after .ensures })
-    (record { place = c .before .before .before .before .before .before .before .before .before .before .before .before .before .find .ensures; within = c .before .before .before .before .before .before .before .before .before .before .before .before .if2 .left; rest = c .before .before .before .before .before .before .before .before .before .before .before .after2 .ensures })
-    (record { place = c .before .before .before .before .before .before .before .before .before .before .find2 .ensures; within = c .before .before .before .before .before .before .before .before .before .if3 .left; rest = c .before .before .before .before .before .before .after3 .ensures })
-    (c .before .before .before .before .before .find3 .ensures)
+    (record { place = at-place .ensures .place; within = at-if1 .left; rest = at-after .ensures })
+    (record { place = at-find .ensures; within = at-if2 .left; rest = at-after2 .ensures })
+    (record { place = at-find2 .ensures; within = at-if3 .left; rest = at-after3 .ensures })
+    (at-find3 .ensures)
     refl
-    (c .before .before .before .up-to2 .ensures)
-    (c .before .before .up-to3 .ensures)
-    (c .before .up-to4 .ensures))
+    (at-up-to2 .ensures)
+    (at-up-to3 .ensures)
+    (at-up-to4 .ensures))
 
 pub read-fen-spec : {M : Type 1} → statement M
 read-fen-spec =

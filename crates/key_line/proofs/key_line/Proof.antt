@@ -21,7 +21,12 @@ same-length : tie.Need-same-length
 same-length c = search needs
 
 returns : tie.Need-returns
-returns c = rw (line-refused (c .before .before .before .before .before .before .before .before .before .args .line .now) (c .before .before .before .before .before .before .read-fen .result) (c .before .before .before .before .before .before .read-fen .ensures) (c .before .before .before .before .if1 .taken)) (c .before .before .write-refusal .ensures .0, c .before .before .write-refusal .ensures .1)
+returns c =
+    let a = c .before .before .before .before .before .before .before .before .before .args in
+    let at-read-fen = c .before .before .before .before .before .before .read-fen in
+    let at-if1 = c .before .before .before .before .if1 in
+    let at-write-refusal = c .before .before .write-refusal in
+    rw (line-refused (a .line .now) (at-read-fen .result) (at-read-fen .ensures) (at-if1 .taken)) (at-write-refusal .ensures .0, at-write-refusal .ensures .1)
 
 slice-aggregate-write-fen : tie.Need-slice-aggregate-write-fen
 slice-aggregate-write-fen c = search needs
@@ -31,22 +36,42 @@ write-fen-requires c κs = search needs
 
 array-write-text : tie.Need-array-write-text
 array-write-text c =
-    let k = kept (c .before .before .before .before .before .before .before .before .before .args .line .now) (c .before .before .before .before .before .before .read-fen .result) (c .before .write-fen .result) (c .before .write-fen .last .1 .0) (c .before .before .before .before .before .before .read-fen .ensures) (c .before .before .before .before .if1 .left) (c .before .write-fen .ensures .0) (c .before .write-fen .ensures .1) in
+    let a = c .before .before .before .before .before .before .before .before .before .args in
+    let at-read-fen = c .before .before .before .before .before .before .read-fen in
+    let at-if1 = c .before .before .before .before .if1 in
+    let at-write-fen = c .before .write-fen in
+    let k = kept (a .line .now) (at-read-fen .result) (at-write-fen .result) (at-write-fen .last .1 .0) (at-read-fen .ensures) (at-if1 .left)
+    (at-write-fen .ensures .0) (at-write-fen .ensures .1) in
     omega (arith, k .small)
 
 add-all : tie.Need-add-all
 add-all c =
-    let k = kept (c .before .before .before .before .before .before .before .before .before .args .line .now) (c .before .before .before .before .before .before .read-fen .result) (c .before .write-fen .result) (c .before .write-fen .last .1 .0) (c .before .before .before .before .before .before .read-fen .ensures) (c .before .before .before .before .if1 .left) (c .before .write-fen .ensures .0) (c .before .write-fen .ensures .1) in
+    let a = c .before .before .before .before .before .before .before .before .before .args in
+    let at-read-fen = c .before .before .before .before .before .before .read-fen in
+    let at-if1 = c .before .before .before .before .if1 in
+    let at-write-fen = c .before .write-fen in
+    let k = kept (a .line .now) (at-read-fen .result) (at-write-fen .result) (at-write-fen .last .1 .0) (at-read-fen .ensures) (at-if1 .left)
+    (at-write-fen .ensures .0) (at-write-fen .ensures .1) in
     omega (arith, k .small)
 
 array-share-prefix-text : tie.Need-array-share-prefix-text
 array-share-prefix-text c =
-    let k = kept (c .before .before .before .before .before .before .before .before .before .args .line .now) (c .before .before .before .before .before .before .read-fen .result) (c .before .write-fen .result) (c .before .write-fen .last .1 .0) (c .before .before .before .before .before .before .read-fen .ensures) (c .before .before .before .before .if1 .left) (c .before .write-fen .ensures .0) (c .before .write-fen .ensures .1) in
+    let a = c .before .before .before .before .before .before .before .before .before .args in
+    let at-read-fen = c .before .before .before .before .before .before .read-fen in
+    let at-if1 = c .before .before .before .before .if1 in
+    let at-write-fen = c .before .write-fen in
+    let k = kept (a .line .now) (at-read-fen .result) (at-write-fen .result) (at-write-fen .last .1 .0) (at-read-fen .ensures) (at-if1 .left)
+    (at-write-fen .ensures .0) (at-write-fen .ensures .1) in
     simp length-set (omega (arith, k .small, k .long))
 
 slice-aggregate-write-text : tie.Need-slice-aggregate-write-text
 slice-aggregate-write-text c =
-    let k = kept (c .before .before .before .before .before .before .before .before .before .before .args .line .now) (c .before .before .before .before .before .before .before .read-fen .result) (c .before .before .write-fen .result) (c .before .before .write-fen .last .1 .0) (c .before .before .before .before .before .before .before .read-fen .ensures) (c .before .before .before .before .before .if1 .left) (c .before .before .write-fen .ensures .0) (c .before .before .write-fen .ensures .1) in
+    let a = c .before .before .before .before .before .before .before .before .before .before .args in
+    let at-read-fen = c .before .before .before .before .before .before .before .read-fen in
+    let at-if1 = c .before .before .before .before .before .if1 in
+    let at-write-fen = c .before .before .write-fen in
+    let k = kept (a .line .now) (at-read-fen .result) (at-write-fen .result) (at-write-fen .last .1 .0) (at-read-fen .ensures) (at-if1 .left)
+    (at-write-fen .ensures .0) (at-write-fen .ensures .1) in
     sym (length-take-le _ _ (simp length-set (omega (arith, k .small, k .long))))
 
 write-text-requires : tie.Need-write-text-requires
@@ -57,9 +82,16 @@ same-length-2 c = search needs
 
 returns-2 : tie.Need-returns-2
 returns-2 c =
-    let k = kept (c .before .before .before .before .before .before .before .before .before .before .before .before .before .before .args .line .now) (c .before .before .before .before .before .before .before .before .before .before .before .read-fen .result) (c .before .before .before .before .before .before .write-fen .result) (c .before .before .before .before .before .before .write-fen .last .1 .0) (c .before .before .before .before .before .before .before .before .before .before .before .read-fen .ensures) (c .before .before .before .before .before .before .before .before .before .if1 .left) (c .before .before .before .before .before .before .write-fen .ensures .0) (c .before .before .before .before .before .before .write-fen .ensures .1) in
-    let text : keyOf (c .before .before .before .before .before .before .before .before .before .before .before .before .before .before .args .line .now) ++ newline ≡ take (c .before .before .before .before .before .before .write-fen .result .value + 1) (set (c .before .before .before .before .before .before .write-fen .last .1 .0) (c .before .before .before .before .before .before .write-fen .result .value) 10) = sym (ended _ _ _ k) in
-    rw (line-accepted (c .before .before .before .before .before .before .before .before .before .before .before .before .before .before .args .line .now) (c .before .before .before .before .before .before .before .before .before .before .before .read-fen .result) (c .before .before .before .before .before .before .before .before .before .before .before .read-fen .ensures) (c .before .before .before .before .before .before .before .before .before .if1 .left), text) (c .before .before .write-text .ensures .0, c .before .before .write-text .ensures .1)
+    let a = c .before .before .before .before .before .before .before .before .before .before .before .before .before .before .args in
+    let at-read-fen = c .before .before .before .before .before .before .before .before .before .before .before .read-fen in
+    let at-if1 = c .before .before .before .before .before .before .before .before .before .if1 in
+    let at-write-fen = c .before .before .before .before .before .before .write-fen in
+    let at-write-text = c .before .before .write-text in
+    let k = kept (a .line .now) (at-read-fen .result) (at-write-fen .result) (at-write-fen .last .1 .0) (at-read-fen .ensures) (at-if1 .left)
+    (at-write-fen .ensures .0) (at-write-fen .ensures .1) in
+    let text : keyOf (a .line .now) ++ newline ≡ take (at-write-fen .result .value + 1) (set (at-write-fen .last .1 .0) (at-write-fen .result .value) 10) =
+    sym (ended _ _ _ k) in
+    rw (line-accepted (a .line .now) (at-read-fen .result) (at-read-fen .ensures) (at-if1 .left), text) (at-write-text .ensures .0, at-write-text .ensures .1)
 
 pub key-line-spec : {M : Type 1} → statement M
 key-line-spec =

@@ -20,21 +20,29 @@ to-string-requires : tie.Need-to-string-requires
 to-string-requires c κs = search needs
 
 add-result : tie.Need-add-result
-add-result c = 
-    let small : c .before .before .before .before .before .args .number < 18446744073709551616 = search needs in
-    let few = few-digits (c .before .before .before .before .before .args .number) small in
+add-result c =
+    let a = c .before .before .before .before .before .args in
+    let at-pre = c .before .before .before .before .before .pre in
+    let at-to-string = c .before .before .to-string in
+    let small : a .number < 18446744073709551616 = search needs in
+    let few = few-digits (a .number) small in
     let put =
-    put-text (c .before .before .before .before .before .args .bytes .now) (decimal (c .before .before .before .before .before .args .number)) _ (c .before .before .before .before .before .args .n) _ (c .before .before .to-string .result) (c .before .before .before .before .before .pre .0) (omega (arith, c .before .before .before .before .before .pre .1)) (c .before .before .to-string .ensures .0) (c .before .before .to-string .ensures .1) in
-    omega (arith, put .pushed .count, c .before .before .before .before .before .pre .1)
+    put-text (a .bytes .now) (decimal (a .number)) _ (a .n) _ (at-to-string .result) (at-pre .0) (omega (arith, at-pre .1)) (at-to-string .ensures .0)
+    (at-to-string .ensures .1) in
+    omega (arith, put .pushed .count, at-pre .1)
 
 same-length : tie.Need-same-length
 same-length c = search needs
 
 returns : tie.Need-returns
-returns c = 
-    let small : c .before .before .before .before .before .args .number < 18446744073709551616 = search needs in
-    let few = few-digits (c .before .before .before .before .before .args .number) small in
-    put-text (c .before .before .before .before .before .args .bytes .now) (decimal (c .before .before .before .before .before .args .number)) _ (c .before .before .before .before .before .args .n) _ (c .before .before .to-string .result) (c .before .before .before .before .before .pre .0) (omega (arith, c .before .before .before .before .before .pre .1)) (c .before .before .to-string .ensures .0) (c .before .before .to-string .ensures .1)
+returns c =
+    let a = c .before .before .before .before .before .args in
+    let at-pre = c .before .before .before .before .before .pre in
+    let at-to-string = c .before .before .to-string in
+    let small : a .number < 18446744073709551616 = search needs in
+    let few = few-digits (a .number) small in
+    put-text (a .bytes .now) (decimal (a .number)) _ (a .n) _ (at-to-string .result) (at-pre .0) (omega (arith, at-pre .1)) (at-to-string .ensures .0)
+    (at-to-string .ensures .1)
 
 pub push-number-spec : {M : Type 1} → statement M
 push-number-spec =

@@ -53,53 +53,65 @@ push-number-requires-2 c κs =
     (search needs, omega arith)
 
 array-write-bytes-4 : tie.Need-array-write-bytes-4
-array-write-bytes-4 c = 
-    let n = c .before .before .before .before .before .before .before .args .number in
-    let o = c .before .before .before .before .before .before .before .args .offset in
+array-write-bytes-4 c =
+    let at-args = c .before .before .before .before .before .before .before .args in
+    let at-push-number = c .before .before .before .before .push-number in
+    let at-push-number2 = c .before .push-number2 in
+    let n = at-args .number in
+    let o = at-args .offset in
     let small : n < 18446744073709551616 = search needs in
     let near : o < 18446744073709551616 = search needs in
-    let first = c .before .before .before .before .push-number .ensures in
-    let a = space-within n o (c .before .before .before .before .push-number .result) 0 (c .before .before .before .before .push-number .last .0) [] small first in
-    let second = c .before .push-number2 .ensures in
-    let b = newline-within n o (c .before .before .before .before .push-number .result) (c .before .push-number2 .result) (c .before .before .before .before .push-number .last .0) (c .before .push-number2 .last .0) near a second in
+    let first = at-push-number .ensures in
+    let a = space-within n o (at-push-number .result) 0 (at-push-number .last .0) [] small first in
+    let second = at-push-number2 .ensures in
+    let b = newline-within n o (at-push-number .result) (at-push-number2 .result) (at-push-number .last .0) (at-push-number2 .last .0) near a second in
     omega arith
 
 add-bytes : tie.Need-add-bytes
-add-bytes c = 
-    let n = c .before .before .before .before .before .before .before .args .number in
-    let o = c .before .before .before .before .before .before .before .args .offset in
+add-bytes c =
+    let at-args = c .before .before .before .before .before .before .before .args in
+    let at-push-number = c .before .before .before .before .push-number in
+    let at-push-number2 = c .before .push-number2 in
+    let n = at-args .number in
+    let o = at-args .offset in
     let small : n < 18446744073709551616 = search needs in
     let near : o < 18446744073709551616 = search needs in
-    let first = c .before .before .before .before .push-number .ensures in
-    let a = space-within n o (c .before .before .before .before .push-number .result) 0 (c .before .before .before .before .push-number .last .0) [] small first in
-    let second = c .before .push-number2 .ensures in
-    let b = newline-within n o (c .before .before .before .before .push-number .result) (c .before .push-number2 .result) (c .before .before .before .before .push-number .last .0) (c .before .push-number2 .last .0) near a second in
+    let first = at-push-number .ensures in
+    let a = space-within n o (at-push-number .result) 0 (at-push-number .last .0) [] small first in
+    let second = at-push-number2 .ensures in
+    let b = newline-within n o (at-push-number .result) (at-push-number2 .result) (at-push-number .last .0) (at-push-number2 .last .0) near a second in
     omega arith
 
 array-share-prefix-bytes : tie.Need-array-share-prefix-bytes
-array-share-prefix-bytes c = 
-    let n = c .before .before .before .before .before .before .before .args .number in
-    let o = c .before .before .before .before .before .before .before .args .offset in
+array-share-prefix-bytes c =
+    let at-args = c .before .before .before .before .before .before .before .args in
+    let at-push-number = c .before .before .before .before .push-number in
+    let at-push-number2 = c .before .push-number2 in
+    let n = at-args .number in
+    let o = at-args .offset in
     let small : n < 18446744073709551616 = search needs in
     let near : o < 18446744073709551616 = search needs in
-    let first = c .before .before .before .before .push-number .ensures in
-    let a = space-within n o (c .before .before .before .before .push-number .result) 0 (c .before .before .before .before .push-number .last .0) [] small first in
-    let second = c .before .push-number2 .ensures in
-    let b = newline-within n o (c .before .before .before .before .push-number .result) (c .before .push-number2 .result) (c .before .before .before .before .push-number .last .0) (c .before .push-number2 .last .0) near a second in
-    let all = whole-line n o (c .before .before .before .before .push-number .result) (c .before .push-number2 .result) (c .before .before .before .before .push-number .last .0) (c .before .push-number2 .last .0) a b first second in
+    let first = at-push-number .ensures in
+    let a = space-within n o (at-push-number .result) 0 (at-push-number .last .0) [] small first in
+    let second = at-push-number2 .ensures in
+    let b = newline-within n o (at-push-number .result) (at-push-number2 .result) (at-push-number .last .0) (at-push-number2 .last .0) near a second in
+    let all = whole-line n o (at-push-number .result) (at-push-number2 .result) (at-push-number .last .0) (at-push-number2 .last .0) a b first second in
     whole-within all
 
 slice-aggregate-write-text : tie.Need-slice-aggregate-write-text
-slice-aggregate-write-text c = 
-    let n = c .before .before .before .before .before .before .before .before .args .number in
-    let o = c .before .before .before .before .before .before .before .before .args .offset in
+slice-aggregate-write-text c =
+    let at-args = c .before .before .before .before .before .before .before .before .args in
+    let at-push-number = c .before .before .before .before .before .push-number in
+    let at-push-number2 = c .before .before .push-number2 in
+    let n = at-args .number in
+    let o = at-args .offset in
     let small : n < 18446744073709551616 = search needs in
     let near : o < 18446744073709551616 = search needs in
-    let first = c .before .before .before .before .before .push-number .ensures in
-    let a = space-within n o (c .before .before .before .before .before .push-number .result) 0 (c .before .before .before .before .before .push-number .last .0) [] small first in
-    let second = c .before .before .push-number2 .ensures in
-    let b = newline-within n o (c .before .before .before .before .before .push-number .result) (c .before .before .push-number2 .result) (c .before .before .before .before .before .push-number .last .0) (c .before .before .push-number2 .last .0) near a second in
-    let all = whole-line n o (c .before .before .before .before .before .push-number .result) (c .before .before .push-number2 .result) (c .before .before .before .before .before .push-number .last .0) (c .before .before .push-number2 .last .0) a b first second in
+    let first = at-push-number .ensures in
+    let a = space-within n o (at-push-number .result) 0 (at-push-number .last .0) [] small first in
+    let second = at-push-number2 .ensures in
+    let b = newline-within n o (at-push-number .result) (at-push-number2 .result) (at-push-number .last .0) (at-push-number2 .last .0) near a second in
+    let all = whole-line n o (at-push-number .result) (at-push-number2 .result) (at-push-number .last .0) (at-push-number2 .last .0) a b first second in
     whole-count all
 
 write-text-requires : tie.Need-write-text-requires
@@ -109,17 +121,21 @@ same-length : tie.Need-same-length
 same-length c = search needs
 
 returns : tie.Need-returns
-returns c = 
-    let n = c .before .before .before .before .before .before .before .before .before .before .before .before .args .number in
-    let o = c .before .before .before .before .before .before .before .before .before .before .before .before .args .offset in
+returns c =
+    let at-args = c .before .before .before .before .before .before .before .before .before .before .before .before .args in
+    let at-push-number = c .before .before .before .before .before .before .before .before .before .push-number in
+    let at-push-number2 = c .before .before .before .before .before .before .push-number2 in
+    let at-write-text = c .before .before .write-text in
+    let n = at-args .number in
+    let o = at-args .offset in
     let small : n < 18446744073709551616 = search needs in
     let near : o < 18446744073709551616 = search needs in
-    let first = c .before .before .before .before .before .before .before .before .before .push-number .ensures in
-    let a = space-within n o (c .before .before .before .before .before .before .before .before .before .push-number .result) 0 (c .before .before .before .before .before .before .before .before .before .push-number .last .0) [] small first in
-    let second = c .before .before .before .before .before .before .push-number2 .ensures in
-    let b = newline-within n o (c .before .before .before .before .before .before .before .before .before .push-number .result) (c .before .before .before .before .before .before .push-number2 .result) (c .before .before .before .before .before .before .before .before .before .push-number .last .0) (c .before .before .before .before .before .before .push-number2 .last .0) near a second in
-    let all = whole-line n o (c .before .before .before .before .before .before .before .before .before .push-number .result) (c .before .before .before .before .before .before .push-number2 .result) (c .before .before .before .before .before .before .before .before .before .push-number .last .0) (c .before .before .before .before .before .before .push-number2 .last .0) a b first second in
-    rw (← push-whole (all .pushed) .1) (c .before .before .write-text .ensures .0, c .before .before .write-text .ensures .1)
+    let first = at-push-number .ensures in
+    let a = space-within n o (at-push-number .result) 0 (at-push-number .last .0) [] small first in
+    let second = at-push-number2 .ensures in
+    let b = newline-within n o (at-push-number .result) (at-push-number2 .result) (at-push-number .last .0) (at-push-number2 .last .0) near a second in
+    let all = whole-line n o (at-push-number .result) (at-push-number2 .result) (at-push-number .last .0) (at-push-number2 .last .0) a b first second in
+    rw (← push-whole (all .pushed) .1) (at-write-text .ensures .0, at-write-text .ensures .1)
 
 pub write-refusal-spec : {M : Type 1} → statement M
 write-refusal-spec =

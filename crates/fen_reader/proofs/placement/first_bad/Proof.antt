@@ -25,11 +25,16 @@ class-of-requires : tie.Need-class-of-requires Inv-loop μ-loop
 class-of-requires c κs = search needs
 
 returns : tie.Need-returns Inv-loop μ-loop
-returns c = 
-    let s = c .before .before .before .before .before .before .args .token .now in
-    let i = c .before .before .before .before .loop .i in
-    let byte : getD s i 0 < 256 = omega (arith, c .before .before .shared-slice-known2 .given i) in
-    sym (c .before .before .before .before .loop .inv .1 ∙ where-hit isBad s i (c .before .before .before .loop-test .taken) (class-bad (getD s i 0) (c .before .class-of .result) byte (c .before .class-of .ensures) (c .if1 .taken)))
+returns c =
+    let a = c .before .before .before .before .before .before .args in
+    let at-loop = c .before .before .before .before .loop in
+    let at-loop-test = c .before .before .before .loop-test in
+    let at-shared-slice-known2 = c .before .before .shared-slice-known2 in
+    let at-class-of = c .before .class-of in
+    let s = a .token .now in
+    let i = at-loop .i in
+    let byte : getD s i 0 < 256 = omega (arith, at-shared-slice-known2 .given i) in
+    sym (at-loop .inv .1 ∙ where-hit isBad s i (at-loop-test .taken) (class-bad (getD s i 0) (at-class-of .result) byte (at-class-of .ensures) (c .if1 .taken)))
 
 add-i : tie.Need-add-i Inv-loop μ-loop
 add-i c = search needs
@@ -38,11 +43,17 @@ loop-less : tie.Need-loop-less Inv-loop μ-loop
 loop-less c = search needs
 
 loop-again : tie.Need-loop-again Inv-loop μ-loop
-loop-again c = 
-    let s = c .before .before .before .before .before .before .args .token .now in
-    let i = c .before .before .before .before .loop .i in
-    let byte : getD s i 0 < 256 = omega (arith, c .before .before .shared-slice-known2 .given i) in
-    (search needs, c .before .before .before .before .loop .inv .1 ∙ where-miss isBad s i (c .before .before .before .loop-test .taken) (class-good (getD s i 0) (c .before .class-of .result) byte (c .before .class-of .ensures) (c .if1 .left)))
+loop-again c =
+    let a = c .before .before .before .before .before .before .args in
+    let at-loop = c .before .before .before .before .loop in
+    let at-loop-test = c .before .before .before .loop-test in
+    let at-shared-slice-known2 = c .before .before .shared-slice-known2 in
+    let at-class-of = c .before .class-of in
+    let s = a .token .now in
+    let i = at-loop .i in
+    let byte : getD s i 0 < 256 = omega (arith, at-shared-slice-known2 .given i) in
+    (search needs, at-loop .inv .1 ∙ where-miss isBad s i (at-loop-test .taken)
+    (class-good (getD s i 0) (at-class-of .result) byte (at-class-of .ensures) (c .if1 .left)))
 
 returns-2 : tie.Need-returns-2 Inv-loop μ-loop
 returns-2 c = sym (c .before .loop .inv .1 ∙ where-end _ (c .before .before .before .args .token .now) (c .before .loop .i) (c .loop-test .left))
