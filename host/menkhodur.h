@@ -1,7 +1,7 @@
 /* The host's side of target/staticlib/libmenkhodur.a, for C (from C99) and C++ (from C++11).
  *
- * Numbers, records, moves, logs and texts are those of docs/papers/01-scope.md ("document 01"), rolls those of
- * docs/papers/02-change-requests.md ("document 02"); the names and the order of the parameters are those of docs/papers/HOST-ABI.md.
+ * Numbers, records, moves, logs and texts are those of docs/papers/01-scope.md ("document 01"), rolls and the refusals of FEN texts those
+ * of docs/papers/02-change-requests.md ("document 02"); the names and the order of the parameters are those of docs/papers/HOST-ABI.md.
  * tools/abi compares them, and the constants below, with the crates.
  *
  * What every function does: it answers for every value of its numbers, it ends, it keeps nothing between calls and allocates
@@ -30,16 +30,15 @@
 
 /* Rises by one with each landing that adds or changes a function. CHANGELOG.md tells what a host must change, and a struct that has
  * changed says beside it since which version it is so. */
-#define MENKHODUR_VERSION 2
+#define MENKHODUR_VERSION 3
 
 #ifdef __cplusplus
 extern "C" {
 #endif
 
-/* Answer numbers: document 01's table, and from 17 on document 02's. */
+/* Answer numbers: document 01's table, and from 17 on document 02's. Since version 3 none is 1: 18, 19 and 20 stand in its place. */
 enum {
     MENKHODUR_ACCEPTED = 0,
-    MENKHODUR_INVALID_FEN = 1,
     MENKHODUR_INVALID_SQUARE = 2,   /* in a coordinate text */
     MENKHODUR_INVALID_UCI_MOVE = 3,
     MENKHODUR_INVALID_SAN_MOVE = 4,
@@ -55,7 +54,10 @@ enum {
     MENKHODUR_NO_OFFER = 14,
     MENKHODUR_NO_CLAIM = 15,
     MENKHODUR_PART_TOO_SHORT = 16,
-    MENKHODUR_BAD_ROLL = 17         /* no roll, or bytes for one that are no action */
+    MENKHODUR_BAD_ROLL = 17,        /* no roll, or bytes for one that are no action */
+    MENKHODUR_TOO_FEW_TOKENS = 18,  /* in a FEN text: fewer than four */
+    MENKHODUR_BAD_PLACEMENT = 19,   /* in a FEN text: a byte of the first token that is none of a placement */
+    MENKHODUR_BAD_SIDE = 20         /* in a FEN text: a second token that is no side to move */
 };
 
 /* Results of a game: the order of `GameResult`, 0 for none. */
@@ -189,6 +191,7 @@ typedef struct {
 /* `value` is the answer of number 0, the length needed of number 7, and 0 of every other number. */
 typedef struct { uint64_t number; uint64_t value; } menkhodur_answer;
 typedef struct { uint64_t number; menkhodur_board board; } menkhodur_stepped;
+/* Since version 3 `offset` is the place in the text of what is wrong with it, and 0 of number 0; until then it was 0 in every answer. */
 typedef struct { uint64_t number; uint64_t offset; menkhodur_board board; } menkhodur_fen;
 typedef struct { uint64_t number; uint64_t actions; uint64_t moves; } menkhodur_counts;
 typedef struct { uint64_t number; uint64_t actions; menkhodur_board board; } menkhodur_roll;
@@ -250,8 +253,11 @@ menkhodur_stepped menkhodur_en_passant(menkhodur_board b, uint8_t file);
 
 /* ---- FEN ---------------------------------------------------------------------------------------------------------------------- */
 
-/* 0: the board is what the text says. 1: the text is refused, and the board is 68 zeros. The offset is 0 in every answer for now.
- * The text is left alone. */
+/* Reads a FEN text, which is split at each single space, so that empty tokens count. 0: the board is what the text says, and the offset
+ * is 0. Refused, in this order, with a board of 68 zeros: 18: there are fewer than four tokens; the offset is the text's length. 19: a
+ * byte of the first token, the placement, is none of `/12345678PNBRQKpnbrqk`; the offset is the place of the first such byte. 20: the
+ * second token, the side to move, is not `w`, `W`, `b` or `B`; the offset is the place where it starts, one past the first space. The
+ * text is left alone. */
 menkhodur_fen menkhodur_fen_read(const uint8_t *text, size_t length);
 
 /* 0: the record's one FEN, 25 to 85 bytes, is at the front of `out`, and the value is its length; the bytes of `out` behind it are

@@ -2,7 +2,7 @@
 #ifndef CHECK_H
 #define CHECK_H
 
-#include "../menkhodur.h"
+#include "record.h"
 
 #include <stdbool.h>
 
@@ -47,8 +47,6 @@ void expect_written(const char *what, struct part *p, size_t at, const void *byt
 /* Boards. */
 extern const menkhodur_board no_board, initial;
 menkhodur_board board_with(uint8_t side, unsigned men, const uint8_t *squares, const uint8_t *codes);
-uint8_t *number_of(menkhodur_board *b, unsigned which);
-uint8_t limit_of(unsigned which);
 
 /* Numbers of more than 16 bits, some with the highest bit; and such numbers whose low 16 bits are `low`, which a narrower type would
  * leave. */

@@ -7,12 +7,28 @@
 static const char fen_read[] = "menkhodur_fen_read";
 static const char fen_write[] = "menkhodur_fen_write";
 
-static menkhodur_fen read_text(const char *text)
+/* What is wrong with a text, and where; two zeros if nothing is. */
+struct fault {
+    uint64_t number, offset;
+};
+
+static const struct fault none = { MENKHODUR_ACCEPTED, 0 };
+
+static menkhodur_fen read_bytes(const void *text, size_t length)
 {
-    struct part lent = lend_text(text);
+    struct part lent = lend_bytes(text, length);
     menkhodur_fen got = menkhodur_fen_read(lent.bytes, lent.length);
     expect_unchanged("text", &lent);
     give_back(&lent);
+    return got;
+}
+
+static menkhodur_fen check_fault(const void *text, size_t length, struct fault want)
+{
+    menkhodur_fen got = read_bytes(text, length);
+    expect("number", want.number, got.number);
+    expect("offset", want.offset, got.offset);
+    if (want.number) expect_board(&no_board, &got.board);
     return got;
 }
 
@@ -20,10 +36,8 @@ static void check_reads(const char *text, const menkhodur_board *board)
 {
     menkhodur_fen got;
     about(fen_read, "text `%s`", text);
-    got = read_text(text);
-    expect("number", board ? MENKHODUR_ACCEPTED : MENKHODUR_INVALID_FEN, got.number);
-    expect("offset", 0, got.offset);
-    expect_board(board ? board : &no_board, &got.board);
+    got = check_fault(text, strlen(text), none);
+    expect_board(board, &got.board);
 }
 
 static void check_room(menkhodur_board b, const char *text, size_t room)
@@ -108,13 +122,75 @@ static void check_accepted(void)
                &initial);
 }
 
+/* ---- Refused texts: document 02, order 2 ---- */
+
+/* Document 01's rows and others, with the numbers and offsets counted by hand. */
 static void check_refused(void)
 {
-    static const char *const texts[] = {
-        "", " ", "  ", "w", "8/8 w -", "8/8/8/8/8/8/8/9 w - -", "8/8/8/8/8/8/8/0 w - -", "x w - -", "\t w - -", "8/8/8/8/8/8/8/8  w - -",
-        "8/8/8/8/8/8/8/8 ww - -", "8/8/8/8/8/8/8/8 x - -", "8/8/8/8/8/8/8/8 w\r - -", "\xff", "\xff w - -", "e3 w - -", "- w - -",
+    static const struct { const char *text; struct fault want; } rows[] = {
+        { "", { 18, 0 } }, { " ", { 18, 1 } }, { "  ", { 18, 2 } }, { "w", { 18, 1 } }, { "8/8 w -", { 18, 7 } }, { "\xff", { 18, 1 } },
+        { "9 x y", { 18, 5 } }, { "8\tw\t-\t-", { 18, 7 } }, { "8/8/8/8/8/8/8/9 w - -", { 19, 14 } },
+        { "8/8/8/8/8/8/8/0 w - -", { 19, 14 } }, { "x w - -", { 19, 0 } }, { "\t w - -", { 19, 0 } }, { "\xff w - -", { 19, 0 } },
+        { "e3 w - -", { 19, 0 } }, { "- w - -", { 19, 0 } }, { "9x w - -", { 19, 0 } }, { "K9x w - -", { 19, 1 } },
+        { "x x - -", { 19, 0 } }, { "/x  ", { 18, 4 } }, { "/x   ", { 19, 1 } }, { "   ", { 20, 1 } }, { "  w - -", { 20, 1 } },
+        { "8/8/8/8/8/8/8/8  w - -", { 20, 16 } }, { "8/8/8/8/8/8/8/8 ww - -", { 20, 16 } }, { "8/8/8/8/8/8/8/8 x - -", { 20, 16 } },
+        { "8/8/8/8/8/8/8/8 w\r - -", { 20, 16 } }, { "8 - w -", { 20, 2 } }, { "K8 \xff - -", { 20, 3 } },
     };
-    for (size_t i = 0; i < sizeof texts / sizeof *texts; i++) check_reads(texts[i], NULL);
+    for (size_t i = 0; i < sizeof rows / sizeof *rows; i++) {
+        about(fen_read, "text `%s`", rows[i].text);
+        check_fault(rows[i].text, strlen(rows[i].text), rows[i].want);
+    }
+}
+
+static bool is_in(const char *bytes, uint8_t byte)
+{
+    return byte && strchr(bytes, byte);
+}
+
+/* "too few tokens (the text's length), a bad placement byte (its place), a bad side token (its start)", "tested in that order". */
+static struct fault fault_of(const uint8_t *text, size_t length)
+{
+    size_t starts[4] = { 0 }, tokens = 1;
+    for (size_t i = 0; i < length && tokens < 4; i++)
+        if (text[i] == ' ') starts[tokens++] = i + 1;
+    if (tokens < 4) return (struct fault){ MENKHODUR_TOO_FEW_TOKENS, length };
+    for (size_t i = 0; i < starts[1] - 1; i++)
+        if (!is_in("/12345678PNBRQKpnbrqk", text[i])) return (struct fault){ MENKHODUR_BAD_PLACEMENT, i };
+    if (starts[2] != starts[1] + 2 || !is_in("wWbB", text[starts[1]])) return (struct fault){ MENKHODUR_BAD_SIDE, starts[1] };
+    return none;
+}
+
+/* All texts of up to 7 bytes over a space, a byte good in both tokens, one in each of them, and one in neither. */
+static void check_short_texts(void)
+{
+    static const char bytes[] = " bw8x";
+    for (unsigned length = 0, count = 1; length <= 7; length++, count *= 5)
+        for (unsigned n = 0; n < count; n++) {
+            uint8_t text[7];
+            for (unsigned i = 0, left = n; i < length; i++, left /= 5) text[i] = (uint8_t)bytes[left % 5];
+            about(fen_read, "text `%.*s`", (int)length, (const char *)text);
+            check_fault(text, length, fault_of(text, length));
+        }
+}
+
+/* Placements of up to 300 bytes: a bad byte at each place, another at the end and a bad side behind; the bad side alone; three tokens. */
+static void check_places(void)
+{
+    uint8_t text[306];
+    for (size_t n = 0; n < 300; n++) {
+        memset(text, 'p', 300);
+        text[n] = 'x';
+        text[299] = 0xFF;
+        memcpy(text + 300, " x - -", 6);
+        about(fen_read, "first bad byte at %zu of 300", n);
+        check_fault(text, 306, (struct fault){ MENKHODUR_BAD_PLACEMENT, n });
+        memset(text, 'p', n);
+        memcpy(text + n, " x - -", 6);
+        about(fen_read, "bad side behind %zu bytes", n);
+        check_fault(text, n + 6, (struct fault){ MENKHODUR_BAD_SIDE, n + 1 });
+        about(fen_read, "three tokens, the first of %zu bytes", n);
+        check_fault(text, n + 4, (struct fault){ MENKHODUR_TOO_FEW_TOKENS, n + 4 });
+    }
 }
 
 /* Every byte as the whole placement. A space there leaves the placement empty, and the side token too. */
@@ -124,30 +200,28 @@ static void check_placement_byte(unsigned byte)
     uint8_t text[] = { (uint8_t)byte, ' ', 'w', ' ', '-', ' ', '-' };
     const char *letter = byte ? strchr(pieces, (int)byte) : NULL;
     bool places = letter || byte == '/' || (byte >= '1' && byte <= '8');
-    struct part lent = lend_bytes(text, sizeof text);
+    struct fault bad = { byte == ' ' ? MENKHODUR_BAD_SIDE : MENKHODUR_BAD_PLACEMENT, byte == ' ' };
     menkhodur_board want = no_board;
-    menkhodur_fen got = menkhodur_fen_read(lent.bytes, lent.length);
+    menkhodur_fen got;
     if (letter) want.pieces[56] = (uint8_t)(1 + letter - pieces);
     about(fen_read, "placement byte %u", byte);
-    expect("number", places ? MENKHODUR_ACCEPTED : MENKHODUR_INVALID_FEN, got.number);
+    got = check_fault(text, sizeof text, places ? none : bad);
     expect_board(&want, &got.board);
-    expect_unchanged("text", &lent);
-    give_back(&lent);
 }
 
 static void check_side_byte(unsigned byte)
 {
     uint8_t text[] = { ' ', (uint8_t)byte, ' ', '-', ' ', '-' };
-    struct part lent = lend_bytes(text, sizeof text);
-    menkhodur_fen got = menkhodur_fen_read(lent.bytes, lent.length);
+    struct fault bad = { MENKHODUR_BAD_SIDE, 1 };
     menkhodur_board want = no_board;
+    menkhodur_fen got;
     want.side_to_move = byte == 'b' || byte == 'B';
     about(fen_read, "side byte %u", byte);
-    expect("number", byte && strchr("wWbB", (int)byte) ? MENKHODUR_ACCEPTED : MENKHODUR_INVALID_FEN, got.number);
+    got = check_fault(text, sizeof text, byte && strchr("wWbB", (int)byte) ? none : bad);
     expect_board(&want, &got.board);
-    expect_unchanged("text", &lent);
-    give_back(&lent);
 }
+
+/* ---- Lengths, and records that are refused ---- */
 
 static menkhodur_board full_board(void)
 {
@@ -196,8 +270,7 @@ static void check_file(const char *positions)
         menkhodur_fen got;
         line[strcspn(line, "\n")] = 0;
         about(fen_read, "text `%s`", line);
-        got = read_text(line);
-        expect("number", MENKHODUR_ACCEPTED, got.number);
+        got = check_fault(line, strlen(line), none);
         to_key(line);
         check_writes(got.board, line);
     }
@@ -208,6 +281,8 @@ void check_fen(const char *positions)
 {
     check_accepted();
     check_refused();
+    check_short_texts();
+    check_places();
     for (unsigned byte = 0; byte < 256; byte++) check_placement_byte(byte), check_side_byte(byte);
     check_tails();
     check_lengths();

@@ -30,7 +30,7 @@ static bool report_all(void)
         { "menkhodur_side_to_move", range },
         { "menkhodur_castle_rights", range },
         { "menkhodur_en_passant", range },
-        { "menkhodur_fen_read", N(0) | N(1) },
+        { "menkhodur_fen_read", N(0) | N(18) | N(19) | N(20) },
         { "menkhodur_fen_write", N(0) | N(5) | N(7) },
         { "menkhodur_move_read", N(0) | N(2) | N(3) },
         { "menkhodur_move_write", N(0) | N(6) | N(7) },

@@ -13,7 +13,7 @@ static void check_texts(void)
     menkhodur_fen fen;
     about("menkhodur_fen_read", "NULL text");
     fen = menkhodur_fen_read(NULL, 0);
-    expect("number", MENKHODUR_INVALID_FEN, fen.number);
+    expect("number", MENKHODUR_TOO_FEW_TOKENS, fen.number);
     expect("offset", 0, fen.offset);
     expect_board(&no_board, &fen.board);
     about("menkhodur_move_read", "NULL text");

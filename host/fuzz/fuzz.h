@@ -2,7 +2,7 @@
 #ifndef FUZZ_H
 #define FUZZ_H
 
-#include "../menkhodur.h"
+#include "../c/record.h"
 
 #include <stdbool.h>
 
@@ -103,8 +103,6 @@ uint64_t take_wide(struct input *in);
 /* What document 01 calls in range. */
 bool board_good(const menkhodur_board *b);
 bool list_good(const uint16_t *list, size_t entries);
-uint8_t *number_of(menkhodur_board *b, unsigned which);
-uint8_t limit_of(unsigned which);
 
 /* The list register as a lent part, between the same guards in both turns. */
 const uint16_t *lend_list(struct input *in, unsigned turn);

@@ -1,4 +1,4 @@
-/* Squares, rights, board steps and texts: what document 01 says of their answers and of the bytes lent. */
+/* Squares, rights, board steps and texts: what document 01 says of their answers and of the bytes lent, and document 02 of refused FENs. */
 #include "fuzz.h"
 
 #include <string.h>
@@ -131,8 +131,9 @@ static int code_of(uint8_t byte)
     return (int)(at - letters) + (byte & 0x20 ? 6 : 0);
 }
 
-/* Document 01's placement: files and ranks step around, and a later man stands over an earlier one. */
-static bool place(const uint8_t *text, size_t length, menkhodur_board *b)
+/* Document 01's placement: files and ranks step around, and a later man stands over an earlier one. How many bytes stand before the first
+ * that is none of a placement: all, if each is one. */
+static size_t place(const uint8_t *text, size_t length, menkhodur_board *b)
 {
     unsigned rank = 7, file = 0;
     for (size_t i = 0; i < length; i++) {
@@ -141,9 +142,9 @@ static bool place(const uint8_t *text, size_t length, menkhodur_board *b)
         if (byte == '/') rank += 7, file = 0;
         else if (byte >= '1' && byte <= '8') file += byte - '0';
         else if (man) b->pieces[rank % 8 * 8 + file % 8] = (uint8_t)code_of(byte), file++;
-        else return false;
+        else return i;
     }
-    return true;
+    return length;
 }
 
 struct tokens {
@@ -168,19 +169,31 @@ static bool has(const struct tokens *t, char letter)
     return t->length[2] && memchr(t->at[2], letter, t->length[2]);
 }
 
-static bool model_read(const uint8_t *text, size_t length, menkhodur_board *b)
+static menkhodur_fen refused_fen(uint64_t number, size_t offset)
+{
+    menkhodur_fen fen = { 0 };
+    fen.number = number;
+    fen.offset = offset;
+    return fen;
+}
+
+/* Document 02, order 2: too few tokens with the text's length, a bad placement byte with its place, a bad side token with its start. */
+static menkhodur_fen model_read(const uint8_t *text, size_t length)
 {
     struct tokens t = split(text, length);
     const uint8_t *square = t.at[3];
-    memset(b, 0, sizeof *b);
-    if (t.count < 4 || !place(t.at[0], t.length[0], b)) return false;
-    if (t.length[1] != 1 || !memchr("wWbB", t.at[1][0], 4)) return false;
+    menkhodur_fen fen = { 0 };
+    menkhodur_board *b = &fen.board;
+    size_t placed = place(t.at[0], t.length[0], b);
+    if (t.count < 4) return refused_fen(18, length);
+    if (placed < t.length[0]) return refused_fen(19, placed);
+    if (t.length[1] != 1 || !memchr("wWbB", t.at[1][0], 4)) return refused_fen(20, (size_t)(t.at[1] - text));
     b->side_to_move = (t.at[1][0] | 0x20) == 'b';
     b->white_castle_rights = (uint8_t)(has(&t, 'K') + 2 * has(&t, 'Q'));
     b->black_castle_rights = (uint8_t)(has(&t, 'k') + 2 * has(&t, 'q'));
     if (t.length[3] >= 2 && square[0] >= 'a' && square[0] <= 'h' && square[1] >= '1' && square[1] <= '8')
         b->en_passant = (uint8_t)(square[0] - 'a' + 1);
-    return true;
+    return fen;
 }
 
 /* ---- FEN, written ---- */
@@ -248,6 +261,7 @@ static void expect_round_trip(const menkhodur_board *b)
     expect("number", 0, length.number);
     again = menkhodur_fen_read(room_part.bytes, length.value);
     expect("number", 0, again.number);
+    expect("offset", 0, again.offset);
     expect_bytes("board", b, &again.board, sizeof again.board);
 }
 
@@ -271,22 +285,20 @@ void text_of_board(struct input *in)
 
 void call_fen_read(struct input *in)
 {
-    menkhodur_board want;
-    bool accepted = model_read(in->text, in->length, &want);
-    if (!accepted) memset(&want, 0, sizeof want);
+    menkhodur_fen want = model_read(in->text, in->length);
     for (unsigned turn = 0; turn < 2; turn++) {
         menkhodur_fen got;
         lend_text(in, turn);
         about("fen_read");
         got = CALL(turn, menkhodur_fen_read, in->length ? text_part.bytes : NULL, in->length);
-        expect("number", accepted ? 0 : 1, got.number);
-        expect("offset", 0, got.offset);
-        expect_bytes("board", &want, &got.board, sizeof want);
+        expect("number", want.number, got.number);
+        expect("offset", want.offset, got.offset);
+        expect_bytes("board", &want.board, &got.board, sizeof want.board);
         lent_same("text", &text_part);
     }
-    if (!accepted) return;
-    in->board = want;
-    expect_round_trip(&want);
+    if (want.number) return;
+    in->board = want.board;
+    expect_round_trip(&want.board);
 }
 
 /* ---- Coordinate texts ---- */

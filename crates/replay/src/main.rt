@@ -1,7 +1,7 @@
 // Plays a script of calls and prints what the calls answer. A line is a letter and its words, or a heading:
 //   # TEXT                  printed as it is
 // Texts:
-//   F TEXT                  reads a FEN: its number, and the key of the board that was read
+//   F TEXT                  reads a FEN: its number, and the key of the board that was read or the place of what is wrong
 //   C TEXT                  reads a move in coordinates: number and value, and the move written again
 //   p CHECK LIST FEN        the position that S and N are asked of; LIST is moves joined by `,`, or `-` for none
 //   S TEXT                  reads a move in SAN: number and value
@@ -213,6 +213,8 @@ fn put_fen(line: &[u8], run: Run) -> Run {
     let fen = fen_reader::read_fen(text::rest(line, 1));
     put_number(fen.number);
     if fen.number != square::ACCEPTED {
+        put(b" ");
+        put_number(fen.offset);
         put(b"\n");
         return run;
     }

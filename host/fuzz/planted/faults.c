@@ -44,7 +44,7 @@ menkhodur_fen real_fen_read(const uint8_t *text, size_t length);
 menkhodur_fen menkhodur_fen_read(const uint8_t *text, size_t length)
 {
     menkhodur_fen f = real_fen_read(text, length);
-    f.offset = length > 60 && ((const volatile uint8_t *)text)[length] == 0xFF && f.number == 99;
+    f.offset += length > 60 && ((const volatile uint8_t *)text)[length] == 0xFF && f.number == 99;
     return f;
 }
 #elif FAULT == 6 /* WRAPS game_resign: black's resignation changes a byte of the positions */
@@ -168,5 +168,30 @@ menkhodur_counts menkhodur_game_make_move(uint8_t *a, size_t al, uint8_t *p, siz
     menkhodur_counts c = real_game_make_move(a, al, p, pl, ac, mc, move, next, in_check, list, entries);
     if (c.number == 0 && entries == 128) p[MENKHODUR_POSITION_SIZE * (mc + 1) + 70 + 2 * 127] ^= 1;
     return c;
+}
+#elif FAULT == 21 /* WRAPS fen_read: of two bad placement bytes the second is told */
+menkhodur_fen real_fen_read(const uint8_t *text, size_t length);
+menkhodur_fen menkhodur_fen_read(const uint8_t *text, size_t length)
+{
+    menkhodur_fen f = real_fen_read(text, length);
+    if (f.number == 19 && text[f.offset + 1] != ' ' && !strchr("/12345678PNBRQKpnbrqk", text[f.offset + 1])) f.offset++;
+    return f;
+}
+#elif FAULT == 22 /* WRAPS fen_read: an empty side is told before a bad placement byte */
+menkhodur_fen real_fen_read(const uint8_t *text, size_t length);
+menkhodur_fen menkhodur_fen_read(const uint8_t *text, size_t length)
+{
+    menkhodur_fen f = real_fen_read(text, length);
+    const uint8_t *space = f.number == 19 ? memchr(text, ' ', length) : NULL;
+    if (space && space[1] == ' ') f.number = 20, f.offset = (uint64_t)(space - text) + 1;
+    return f;
+}
+#elif FAULT == 23 /* WRAPS fen_read: a text of too few tokens that ends in a space is told at that space */
+menkhodur_fen real_fen_read(const uint8_t *text, size_t length);
+menkhodur_fen menkhodur_fen_read(const uint8_t *text, size_t length)
+{
+    menkhodur_fen f = real_fen_read(text, length);
+    if (f.number == 18 && length && text[length - 1] == ' ') f.offset--;
+    return f;
 }
 #endif

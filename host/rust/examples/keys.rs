@@ -1,4 +1,4 @@
-//! Writes for each FEN text on standard input, one a line, its key or `! N` with the answer number.
+//! Writes for each FEN text on standard input, one a line, its key, or `! N OFFSET` with the answer number and the place in the text.
 
 use menkhodur::Board;
 use std::io::{self, BufRead, BufReader, BufWriter, ErrorKind, Read, Write};
@@ -30,7 +30,7 @@ pub fn answer(input: impl Read, output: impl Write) -> Result<(), Failure> {
         let text = line.strip_suffix(b"\n").unwrap_or(&line);
         match Board::from_fen(text) {
             Ok(board) => writeln!(output, "{board}"),
-            Err(refused) => writeln!(output, "! {}", refused.number()),
+            Err(refused) => writeln!(output, "! {} {}", refused.number(), refused.offset().unwrap_or_default()),
         }
         .map_err(Failure::Write)?;
         // Whoever waits for an answer before the next line must get it: the next read may take long. After the last line there is none.

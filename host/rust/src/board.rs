@@ -41,13 +41,14 @@ impl Board {
         Board([0; 68])
     }
 
-    /// The board that a FEN text says, the text being any bytes. Refused: [`Error::InvalidFen`].
+    /// The board that a FEN text says, the text being any bytes. Refused: [`Error::TooFewTokens`], [`Error::BadPlacement`],
+    /// [`Error::BadSide`], in this order and each with the place in the text.
     ///
     /// ```
     /// use menkhodur::{Board, Error};
     ///
     /// assert_eq!(Board::from_fen(" w - -"), Ok(Board::new()));
-    /// assert_eq!(Board::from_fen(b"\xff w - -"), Err(Error::InvalidFen));
+    /// assert_eq!(Board::from_fen(b"K\xff w - -"), Err(Error::BadPlacement { offset: 1 }));
     /// ```
     pub fn from_fen(text: impl AsRef<[u8]>) -> Result<Board, Error> {
         lent::fen_read(text.as_ref()).map(Board)

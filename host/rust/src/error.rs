@@ -2,23 +2,22 @@
 
 use std::fmt;
 
-/// Why a call was refused: one variant for each answer number of document 01, and of the orders of document 02 that have landed.
+/// Why a call was refused: one variant for each answer number of document 01, and of the orders of document 02 that have landed. The number
+/// 1 has none: order 2 has put 18, 19 and 20 in its place.
 ///
 /// A refused call has changed nothing: neither the bytes that were lent to it nor the log it was asked of.
 ///
 /// ```
 /// use menkhodur::{Board, Error};
 ///
-/// let refused = Board::from_fen("8/8 w -").unwrap_err();
-/// assert_eq!(refused, Error::InvalidFen);
-/// assert_eq!(refused.number(), 1);
-/// assert_eq!(refused.to_string(), "the text is not a FEN (answer 1)");
+/// let refused = Board::from_fen("8/8 x - -").unwrap_err();
+/// assert_eq!(refused, Error::BadSide { offset: 4 });
+/// assert_eq!(refused.number(), 20);
+/// assert_eq!(refused.to_string(), "the side to move of the FEN text is not w, W, b or B, at byte 4 (answer 20)");
 /// ```
 #[derive(Clone, Copy, Debug, PartialEq, Eq, Hash)]
 #[non_exhaustive]
 pub enum Error {
-    /// 1: the text is not a FEN.
-    InvalidFen,
     /// 2: a pair of bytes in a coordinate text, or a text that should be a square, is not one.
     InvalidSquare,
     /// 3: the text is not a move in coordinates: a pair is missing, or a fifth and last byte is not q, r, n or b.
@@ -56,7 +55,22 @@ pub enum Error {
     /// 17: a roll ends too early or goes on behind its last action, or a number in it is not in the fewest groups, has more than five or is
     /// out of range; or bytes to write one from are no action.
     BadRoll,
-    /// Any other number: the archive is a later one than this package knows.
+    /// 18: the FEN text has fewer than four tokens, empty ones counted.
+    TooFewTokens {
+        /// The text's length.
+        offset: usize,
+    },
+    /// 19: a byte of the FEN text's first token, the placement, is none of `/12345678PNBRQKpnbrqk`.
+    BadPlacement {
+        /// The place of the first such byte in the text.
+        offset: usize,
+    },
+    /// 20: the FEN text's second token, the side to move, is not `w`, `W`, `b` or `B`.
+    BadSide {
+        /// The place in the text where that token starts.
+        offset: usize,
+    },
+    /// Any other number: the archive is of a version that this package does not know.
     Unknown(u64),
 }
 
@@ -72,7 +86,6 @@ impl Error {
     #[must_use]
     pub fn number(&self) -> u64 {
         match *self {
-            Error::InvalidFen => 1,
             Error::InvalidSquare => 2,
             Error::InvalidUciMove => 3,
             Error::InvalidSanMove => 4,
@@ -89,21 +102,42 @@ impl Error {
             Error::NoClaim => 15,
             Error::PartTooShort => 16,
             Error::BadRoll => 17,
+            Error::TooFewTokens { .. } => 18,
+            Error::BadPlacement { .. } => 19,
+            Error::BadSide { .. } => 20,
             Error::Unknown(number) => number,
         }
     }
 
-    pub(crate) fn judge(number: u64, value: u64) -> Result<(), Error> {
+    /// The place in the text of what is wrong with it, for the numbers that come with one: 18, 19 and 20.
+    ///
+    /// ```
+    /// use menkhodur::{Board, Error};
+    ///
+    /// assert_eq!(Board::from_fen("8/8/8/8/8/8/8/9 w - -").unwrap_err().offset(), Some(14));
+    /// assert_eq!(Error::GameOver.offset(), None);
+    /// ```
+    #[must_use]
+    pub fn offset(&self) -> Option<usize> {
+        match *self {
+            Error::TooFewTokens { offset } | Error::BadPlacement { offset } | Error::BadSide { offset } => Some(offset),
+            _ => None,
+        }
+    }
+
+    /// `detail` is what an answer tells of a refusal besides its number: the length needed, or the place in the text.
+    pub(crate) fn judge(number: u64, detail: u64) -> Result<(), Error> {
+        // No text that is written has more than 85 bytes and no roll more than 5,190, and a place is at most the length of a text that was
+        // lent, so nothing is cut here on any target.
+        let detail = detail as usize;
         Err(match number {
             0 => return Ok(()),
-            1 => Error::InvalidFen,
             2 => Error::InvalidSquare,
             3 => Error::InvalidUciMove,
             4 => Error::InvalidSanMove,
             5 => Error::OutOfRange,
             6 => Error::ListOutOfRange,
-            // No text has more than 85 bytes and no roll more than 5,190, so nothing is cut here on any target.
-            7 => Error::OutputTooShort { needed: value as usize },
+            7 => Error::OutputTooShort { needed: detail },
             8 => Error::NoName,
             9 => Error::LogNotGood,
             10 => Error::GameOver,
@@ -114,6 +148,9 @@ impl Error {
             15 => Error::NoClaim,
             16 => Error::PartTooShort,
             17 => Error::BadRoll,
+            18 => Error::TooFewTokens { offset: detail },
+            19 => Error::BadPlacement { offset: detail },
+            20 => Error::BadSide { offset: detail },
             other => Error::Unknown(other),
         })
     }
@@ -129,7 +166,6 @@ impl Error {
     #[must_use]
     pub fn meaning(&self) -> &'static str {
         match *self {
-            Error::InvalidFen => "the text is not a FEN",
             Error::InvalidSquare => "the text has something else where a square such as e4 should be",
             Error::InvalidUciMove => "the text is not a move such as e2e4 or e7e8q",
             Error::InvalidSanMove => "the text is no SAN text, fits no listed move or more than one, or is wrong about a capture",
@@ -146,6 +182,9 @@ impl Error {
             Error::NoClaim => "no draw can be claimed",
             Error::PartTooShort => "the part of the actions or that of the positions is too short",
             Error::BadRoll => "the bytes are not a roll, or not the actions of one",
+            Error::TooFewTokens { .. } => "the FEN text ends before its fourth token",
+            Error::BadPlacement { .. } => "the placement of the FEN text has something other than pieces, digits from 1 to 8 and slashes",
+            Error::BadSide { .. } => "the side to move of the FEN text is not w, W, b or B",
             Error::Unknown(_) => "the archive refused for a reason that this package does not know",
         }
     }
@@ -156,6 +195,9 @@ impl fmt::Display for Error {
         f.write_str(self.meaning())?;
         if let Error::OutputTooShort { needed } = self {
             write!(f, ", {needed} bytes are needed")?;
+        }
+        if let Some(offset) = self.offset() {
+            write!(f, ", at byte {offset}")?;
         }
         write!(f, " (answer {})", self.number())
     }
@@ -180,7 +222,7 @@ mod tests {
     #[test]
     fn every_number_has_its_own_variant_and_text() {
         let mut texts = HashSet::new();
-        for number in 1..=17 {
+        for number in 2..=20 {
             let error = Error::judge(number, 85).unwrap_err();
             assert_eq!(error.number(), number);
             assert!(!matches!(error, Error::Unknown(_)));
@@ -191,11 +233,13 @@ mod tests {
     }
 
     #[test]
-    fn accepted_is_no_error_and_a_later_number_is_kept() {
+    fn accepted_is_no_error_and_an_unknown_number_is_kept() {
         assert_eq!(Error::judge(0, 7), Ok(()));
-        assert_eq!(Error::judge(24, 0), Err(Error::Unknown(24)));
-        assert_eq!(Error::Unknown(24).number(), 24);
-        assert_eq!(Error::judge(u64::MAX, 0), Err(Error::Unknown(u64::MAX)));
+        // 1 was that of every refused FEN before version 3.
+        for number in [1, 21, 24, u64::MAX] {
+            assert_eq!(Error::judge(number, 7), Err(Error::Unknown(number)));
+            assert_eq!((Error::Unknown(number).number(), Error::Unknown(number).offset()), (number, None));
+        }
     }
 
     #[test]
@@ -203,6 +247,20 @@ mod tests {
         let error = Error::judge(7, 85).unwrap_err();
         assert_eq!(error, Error::OutputTooShort { needed: 85 });
         assert_eq!(error.to_string(), "the room for the text or the roll is too short, 85 bytes are needed (answer 7)");
+        assert_eq!(error.offset(), None);
+    }
+
+    #[test]
+    fn the_place_in_the_text_is_kept_and_told() {
+        for number in 2..=20 {
+            let error = Error::judge(number, 85).unwrap_err();
+            assert_eq!(error.offset(), (number >= 18).then_some(85));
+            assert_eq!(error.to_string().contains(", at byte 85 (answer "), number >= 18, "{error}");
+        }
+        let words = |number: u64, offset: u64| Error::judge(number, offset).unwrap_err().to_string();
+        assert_eq!(words(18, 7), "the FEN text ends before its fourth token, at byte 7 (answer 18)");
+        assert!(words(19, 0).ends_with("has something other than pieces, digits from 1 to 8 and slashes, at byte 0 (answer 19)"));
+        assert_eq!(words(20, 16), "the side to move of the FEN text is not w, W, b or B, at byte 16 (answer 20)");
     }
 
     #[test]

@@ -31,8 +31,6 @@ pub(crate) struct Stepped {
 #[derive(Clone, Copy)]
 pub(crate) struct Fen {
     pub(crate) number: u64,
-    // Nothing fills it yet; without it the board would not be where the archive puts it.
-    #[allow(dead_code)]
     pub(crate) offset: u64,
     pub(crate) board: Board,
 }
@@ -81,7 +79,7 @@ impl Stepped {
 
 impl Fen {
     pub(crate) fn judged(self) -> Result<lent::Record, Error> {
-        Error::judge(self.number, 0).map(|()| self.board.record())
+        Error::judge(self.number, self.offset).map(|()| self.board.record())
     }
 }
 

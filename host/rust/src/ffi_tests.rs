@@ -84,11 +84,12 @@ fn a_refused_step_hands_its_record_back() {
 }
 
 #[test]
-fn a_refused_fen_is_all_zeros_and_the_offset_is_unused() {
-    for (text, number) in [(&b"8/8 w -"[..], 1), (b"rnbq x - -", 1), (b"", 1), (b" w - -", 0)] {
+fn a_refused_fen_is_all_zeros_and_an_accepted_one_has_no_offset() {
+    let texts = [(&b"8/8 w -"[..], 18, 7), (b"", 18, 0), (b"rn9q x - -", 19, 2), (b"rnbq x - -", 20, 5), (b" w - -", 0, 0)];
+    for (text, number, offset) in texts {
         // SAFETY: pointer and length are those of one slice, and the function only reads.
         let fen = unsafe { menkhodur_fen_read(text.as_ptr(), text.len()) };
-        assert_eq!((fen.number, fen.offset, fen.board.record()), (number, 0, [0; 68]));
+        assert_eq!((fen.number, fen.offset, fen.board.record()), (number, offset, [0; 68]));
     }
 }
 

@@ -170,13 +170,13 @@ pub fn en_passant(record: &Record, file: u8) -> Result<Record, Error> {
     ffi::menkhodur_en_passant(ffi::Board::of(record), file).judged()
 }
 
-/// The record that a FEN text says. Refused: 1.
+/// The record that a FEN text says. Refused: 18, 19, 20, with the place in the text.
 ///
 /// ```
 /// use menkhodur::{Error, lent};
 ///
 /// assert_eq!(lent::fen_read(b" w - -"), Ok([0; 68]));
-/// assert_eq!(lent::fen_read(&[255]), Err(Error::InvalidFen));
+/// assert_eq!(lent::fen_read(&[255]), Err(Error::TooFewTokens { offset: 1 }));
 /// ```
 pub fn fen_read(text: &[u8]) -> Result<Record, Error> {
     // SAFETY: pointer and length are those of one slice, borrowed for the call, and the function only reads.

@@ -14,11 +14,27 @@ fn planted(name: &str) -> bool {
     NAME.get_or_init(|| std::env::var("PLANTED").unwrap_or_default()) == name
 }
 
-/// The fourth token's rank 8 is taken for none.
+/// The fourth token's rank 8 is taken for none. Of refused texts: the last bad byte of a placement is told, from 40 bytes on;
+/// an empty side is told before a bad placement; the length of three tokens is counted in characters; the side starts one
+/// byte later behind a placement that ends in a slash.
 pub fn fen_read(text: &[u8]) -> Fen {
     let mut fen = real::fen_read(text);
     if planted("fen-read") && text.ends_with(b"h8") {
         fen.board.0[67] = 0;
+    }
+    let first = text.split(|byte| *byte == b' ').next().unwrap_or_default();
+    if planted("fen-read-first") && fen.number == 19 && first.len() >= 40 {
+        let bad = |byte: &u8| !b"/12345678PNBRQKpnbrqk".contains(byte);
+        fen.offset = first.iter().rposition(bad).map_or(0, |at| at as u64);
+    }
+    if planted("fen-read-order") && fen.number == 19 && text[first.len()..].starts_with(b"  ") {
+        (fen.number, fen.offset) = (20, first.len() as u64 + 1);
+    }
+    if planted("fen-read-length") && fen.number == 18 && text.iter().filter(|byte| **byte == b' ').count() == 2 {
+        fen.offset = String::from_utf8_lossy(text).chars().count() as u64;
+    }
+    if planted("fen-read-side") && fen.number == 20 && first.ends_with(b"/") {
+        fen.offset += 1;
     }
     fen
 }

@@ -22,11 +22,16 @@ const PAPER: [&str; 5] =
 #[derive(Default)]
 pub struct FenRead(Positions);
 
-/// What is owed for a text: the crate's record, or a refusal with 68 zeros. The offset is 0 until refusals have one.
-pub fn owed_read(text: &str) -> Result<Fen, String> {
+/// What is owed for a text: the crate's record and offset 0, or its refusal with 68 zeros. The crate has one refusal where
+/// document 02 has three: a rule, which is told too, puts number and offset in its place.
+pub fn owed_read(text: &str) -> Result<(Fen, Option<usize>), String> {
     match BoardBuilder::from_str(text) {
-        Ok(builder) => Ok(Fen { number: 0, offset: 0, board: record_of(&builder) }),
-        Err(Error::InvalidFen { fen }) if fen == text => Ok(Fen { number: 1, offset: 0, board: records::EMPTY }),
+        Ok(builder) => Ok((Fen { number: 0, offset: 0, board: record_of(&builder) }, None)),
+        Err(Error::InvalidFen { fen }) if fen == text => {
+            let fault = rules::fault_of_fen(text);
+            let (number, offset) = fault.map_or((1, 0), |fault| (fault.number, fault.offset as u64));
+            Ok((Fen { number, offset, board: records::EMPTY }, fault.map(|fault| fault.rule)))
+        }
         Err(error) => Err(format!("the crate gives {:?}", error)),
     }
 }
@@ -88,12 +93,15 @@ impl Part for FenRead {
     }
 
     fn compare(&self, text: &String, tally: &mut Tally) -> Result<(), String> {
-        let owed = owed_read(text)?;
+        let (owed, rule) = owed_read(text)?;
         let lent = text.clone();
         let ours = abi::fen_read(lent.as_bytes());
         if ours != owed || lent != *text {
-            return Err(format!("crate {} {}, ours {} {} {}", owed.number, records::show(&owed.board),
-                ours.number, ours.offset, records::show(&ours.board)));
+            let show = |fen: &Fen| format!("{} {} {}", fen.number, fen.offset, records::show(&fen.board));
+            return Err(format!("owed {}, ours {}", show(&owed), show(&ours)));
+        }
+        if let Some(rule) = rule {
+            tally.fired[rule] += 1;
         }
         tally.count("fen-read", owed.number == 0);
         Ok(())

@@ -9,12 +9,58 @@ pub struct Rule {
 }
 
 pub const EN_PASSANT_RANK: usize = 0;
+pub const TOO_FEW_TOKENS: usize = 1;
+pub const BAD_PLACEMENT: usize = 2;
+pub const BAD_SIDE: usize = 3;
 
-pub const RULES: [Rule; 1] = [Rule {
-    name: "en-passant-rank",
-    part: "fen-write",
-    why: "the crate writes the rank of the pawn that moved (5 or 4), the PGN standard the one behind it (6 or 3)",
-}];
+pub const RULES: [Rule; 4] = [
+    Rule {
+        name: "en-passant-rank",
+        part: "fen-write",
+        why: "the crate writes the rank of the pawn that moved (5 or 4), the PGN standard the one behind it (6 or 3)",
+    },
+    Rule {
+        name: "too-few-tokens",
+        part: "fen-read",
+        why: "the crate's InvalidFen is 18 with the text's length (document 02, order 2)",
+    },
+    Rule {
+        name: "bad-placement",
+        part: "fen-read",
+        why: "the crate's InvalidFen is 19 with the place of the first bad byte (document 02, order 2)",
+    },
+    Rule {
+        name: "bad-side",
+        part: "fen-read",
+        why: "the crate's InvalidFen is 20 with the place where the side token starts (document 02, order 2)",
+    },
+];
+
+/// What document 02, order 2, gives in place of the crate's one refusal of a FEN.
+#[derive(Clone, Copy, PartialEq, Eq, Debug)]
+pub struct Fault {
+    pub rule: usize,
+    pub number: u64,
+    pub offset: usize,
+}
+
+/// Which part of a refused text is wrong: too few tokens (the text's length), a bad placement byte (its place), a bad side
+/// token (its start), in this order. None if none of them is; should the crate refuse such a text, its own number stays and
+/// is then seen as a difference.
+pub fn fault_of_fen(text: &str) -> Option<Fault> {
+    let tokens: Vec<&str> = text.split(' ').collect();
+    let [placement, side, _, _, ..] = tokens[..] else {
+        return Some(Fault { rule: TOO_FEW_TOKENS, number: 18, offset: text.len() });
+    };
+    // A character that is none of a placement begins with a byte that is none: each of those is a character of its own.
+    if let Some(offset) = placement.find(|sign| !"/12345678PNBRQKpnbrqk".contains(sign)) {
+        return Some(Fault { rule: BAD_PLACEMENT, number: 19, offset });
+    }
+    match side {
+        "w" | "W" | "b" | "B" => None,
+        _ => Some(Fault { rule: BAD_SIDE, number: 20, offset: placement.len() + 1 }),
+    }
+}
 
 /// The crate's FEN with the standard's en passant rank, and whether that changed it. Only the rank that the crate is known
 /// to write is replaced; any other stays and is then seen as a difference.
@@ -29,6 +75,22 @@ pub fn en_passant_rank(text: &str) -> (String, bool) {
         }
         _ => (text.to_string(), false),
     }
+}
+
+#[test]
+fn tells_the_first_fault_and_its_place() {
+    let tells = |text: &str, rule: usize, number: u64, offset: usize| {
+        assert_eq!(fault_of_fen(text), Some(Fault { rule, number, offset }), "{:?}", text);
+    };
+    tells("", TOO_FEW_TOKENS, 18, 0);
+    tells("8/8 w -", TOO_FEW_TOKENS, 18, 7);
+    tells("\u{e9} x ", TOO_FEW_TOKENS, 18, 5);
+    tells("8/8/8/8/8/8/8/9 w - -", BAD_PLACEMENT, 19, 14);
+    tells("k9\u{e9} x - -", BAD_PLACEMENT, 19, 1);
+    tells("k\u{e9} w - -", BAD_PLACEMENT, 19, 1);
+    tells("8/8/8/8/8/8/8/8  w - -", BAD_SIDE, 20, 16);
+    tells("   ", BAD_SIDE, 20, 1);
+    assert_eq!(fault_of_fen(" w  "), None);
 }
 
 #[test]

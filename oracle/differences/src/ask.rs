@@ -54,14 +54,14 @@ fn text_of_ours(record: Record) -> String {
 fn fen_of_ours(text: &[u8]) -> String {
     match abi::fen_read(text) {
         Fen { number: 0, board, .. } => text_of_ours(board),
-        Fen { number, .. } => number.to_string(),
+        Fen { number, offset, .. } => format!("{} {}", number, offset),
     }
 }
 
 fn fen(text: &str) -> Told {
     let of_crate = match BoardBuilder::from_str(text) {
         Ok(builder) => builder.to_string(),
-        Err(Error::InvalidFen { .. }) => "1".to_string(),
+        Err(Error::InvalidFen { .. }) => "InvalidFen".to_string(),
         Err(error) => return Err(format!("the crate gives {:?}", error)),
     };
     Ok((of_crate, fen_of_ours(text.as_bytes())))

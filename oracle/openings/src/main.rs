@@ -29,7 +29,7 @@ impl Player {
         FenWrite::default().compare(&(record, 0), &mut self.tally)?;
         let (key, _) = en_passant_rank(&board.to_string());
         FenRead::default().compare(&key, &mut self.tally)?;
-        match fen::owed_read(&key)?.board == record {
+        match fen::owed_read(&key)?.0.board == record {
             true => Ok(()),
             false => Err(format!("{:?} is not read back", key)),
         }

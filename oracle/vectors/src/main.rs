@@ -66,9 +66,9 @@ fn different(count: usize, mut next: impl FnMut() -> Option<String>) -> Vec<Stri
 }
 
 /// The smallest inputs of docs/DIFFERENCES.md that a text can show. Those of the log are among the games that are told.
-const FENS: [&str; 16] = [
+const FENS: [&str; 18] = [
     " w - e4", " b - e4", " w - -", " w - - 7 9", "PPPPPPPPN w - -", "P w - -", " W - -", " w kxK -",
-    "8/8/8/8/8/8/8/8 b - z9", " w - a1xx", "8/8/8/8/8/8/8/8  w - -",
+    "8/8/8/8/8/8/8/8 b - z9", " w - a1xx", "8/8/8/8/8/8/8/8  w - -", "8/8 w -", "8/8/8/8/8/8/8/9 w - -",
     "rnbqkbnr/ppp1ppp1/7p/3pP3/8/8/PPPP1PPP/RNBQKBNR w KQkq d6 0 3",
     "rnbqkbnr/pppp1ppp/8/4p3/4P3/5N2/PPPP1PPP/RNBQKB1R b KQkq - 1 2",
     "rnbqkbnr/pppp1ppp/8/4p3/4P3/5N2/PPPP1PPP/RNBQKB1R b KQkq e3 0 2",
@@ -93,14 +93,14 @@ fn key_of(record: &both::abi::Record) -> String {
 }
 
 fn fen_text(out: &mut Vectors, text: &str) -> Result<(), String> {
-    let owed = fen::owed_read(text)?;
-    let key = if owed.number == 0 { format!(" {}", key_of(&owed.board)) } else { String::new() };
-    out.told(&format!("F {}", text), &format!("{}{}", owed.number, key));
+    let (owed, _) = fen::owed_read(text)?;
+    let told = if owed.number == 0 { key_of(&owed.board) } else { owed.offset.to_string() };
+    out.told(&format!("F {}", text), &format!("{} {}", owed.number, told));
     Ok(())
 }
 
 fn fen_texts(out: &mut Vectors) -> Result<(), String> {
-    out.heading(&format!("{} FEN texts: the number, and the key of the board", TEXTS));
+    out.heading(&format!("{} FEN texts: the number, and the key of the board or the place of what is wrong", TEXTS));
     let (mut part, mut random) = (fen::FenRead::default(), Random::new(1, "vectors: FEN"));
     let texts = different(TEXTS, || part.random(&mut random));
     texts.iter().try_for_each(|text| fen_text(out, text))

@@ -50,9 +50,9 @@ fn start(input: impl Into<Stdio>, output: impl Into<Stdio>) -> Child {
 #[test]
 fn each_line_is_answered_in_order() {
     let mut answers = Vec::new();
-    let lines = format!("{EMPTY}\n8/8 w -\n w - e4\r\nx");
+    let lines = format!("{EMPTY}\n8/8 w -\n w - e4\r\n8x w - -\n8 x - -\nx");
     assert!(answer(lines.as_bytes(), &mut answers).is_ok());
-    let want = format!("{KEY}! 1\n! 1\n8/8/8/8/8/8/8/8 w - e6 0 1\n! 1\n");
+    let want = format!("{KEY}! 18 0\n! 18 7\n8/8/8/8/8/8/8/8 w - e6 0 1\n! 19 1\n! 20 2\n! 18 1\n");
     assert_eq!(String::from_utf8(answers).unwrap(), want);
     assert!(answer(&b""[..], &mut Gone).is_ok());
 }
@@ -110,7 +110,7 @@ fn an_answer_does_not_wait_for_the_next_line() {
     // The third has the beginning of a line behind it, which must not hold its answer back either.
     for text in [EMPTY, "x\n", "x\n8/8/8/8/8/8/8/8 ", "w - -\n"] {
         input.write_all(text.as_bytes()).unwrap();
-        let want = if text.starts_with('x') { "! 1" } else { KEY.trim_end() };
+        let want = if text.starts_with('x') { "! 18 1" } else { KEY.trim_end() };
         assert_eq!(answers.recv_timeout(Duration::from_secs(20)).as_deref(), Ok(want));
     }
     drop(input);

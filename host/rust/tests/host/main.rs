@@ -1,4 +1,4 @@
-//! The package against document 01, through its public items alone.
+//! The package against documents 01 and 02, through its public items alone.
 
 mod accepted;
 mod common;

@@ -42,6 +42,8 @@ fn answers() -> Result<(), Error> {
     log.to_roll();
     #[expect(unused_must_use)]
     Error::GameOver.meaning();
+    #[expect(unused_must_use)]
+    Error::GameOver.offset();
 
     // The counts are the new log: the question mark must not be the end of them.
     let mut parts = Parts::of(&log);

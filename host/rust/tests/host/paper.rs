@@ -1,4 +1,4 @@
-//! The sixteen rows of document 01's table.
+//! The sixteen rows of document 01's table, the FEN texts refused as document 02 has it (order 2).
 
 use crate::common::moves;
 use menkhodur::{Board, Error, Move};
@@ -24,8 +24,8 @@ fn name(fen: &str, list: &[u64], number: u64) -> Result<String, Error> {
 #[test]
 fn fen_rows() {
     assert_eq!(key(" w - -").unwrap(), "8/8/8/8/8/8/8/8 w - - 0 1");
-    assert_eq!(key("8/8 w -"), Err(Error::InvalidFen));
-    assert_eq!(key("8/8/8/8/8/8/8/9 w - -"), Err(Error::InvalidFen));
+    assert_eq!(key("8/8 w -"), Err(Error::TooFewTokens { offset: 7 }));
+    assert_eq!(key("8/8/8/8/8/8/8/9 w - -"), Err(Error::BadPlacement { offset: 14 }));
     assert_eq!(key("8/8/8/8/8/8/8/8 w - e4").unwrap(), "8/8/8/8/8/8/8/8 w - e6 0 1");
     assert_eq!(key("8/8/8/8/8/8/8/8 b - z9").unwrap(), "8/8/8/8/8/8/8/8 b - - 0 1");
 }

@@ -28,14 +28,46 @@ fn refuses_room(want: Error, length: usize, call: impl FnOnce(&mut [u8]) -> Resu
     assert!(room.iter().all(|&byte| byte == 0xA5), "{want}: a refused call has written");
 }
 
-#[test]
-fn number_1_fen() {
-    let texts: [&[u8]; 8] = [b"", b"8/8 w -", b"8/8/8/8/8/8/8/9 w - -", b"8 x - -", b"8  w - -", b"\xff w - -", b"8 w\r - -", b"0 w - -"];
-    for text in texts {
-        assert_eq!(lent::fen_read(text), Err(Error::InvalidFen));
-        assert_eq!(Board::from_fen(text), Err(Error::InvalidFen));
+/// Asks for a refusal of each text, with the offset beside it.
+fn refuses_fens(want: impl Fn(usize) -> Error, texts: &[(&[u8], usize)]) {
+    for &(text, offset) in texts {
+        assert_eq!(lent::fen_read(text), Err(want(offset)));
+        assert_eq!(Board::from_fen(text), Err(want(offset)));
+        assert_eq!(want(offset).offset(), Some(offset));
     }
-    assert_eq!("8/8 w -".parse::<Board>().unwrap_err().number(), 1);
+}
+
+#[test]
+fn number_18_fen_tokens() {
+    let texts: [(&[u8], usize); 8] =
+        [(b"", 0), (b" ", 1), (b"  ", 2), (b"8/8 w -", 7), (b"x", 1), (b"9 x y", 5), (b"\xff\xff  ", 4), (b"8\tw\t-\t-", 7)];
+    refuses_fens(|offset| Error::TooFewTokens { offset }, &texts);
+    assert_eq!("8/8 w -".parse::<Board>().unwrap_err().number(), 18);
+}
+
+#[test]
+fn number_19_fen_placement() {
+    let texts: [(&[u8], usize); 8] = [
+        (b"8/8/8/8/8/8/8/9 w - -", 14),
+        (b"0 w - -", 0),
+        (b"9x w - -", 0),
+        (b"8x9 w - -", 1),
+        (b"x x - -", 0),
+        (b"kK\xff  - -", 2),
+        (b"rnbqkbnr/pppppppp/8/8/8/8/PPPPPPPP/RNBQKBN\0 w KQkq - 0 1", 42),
+        (b"8/8/8/8/8/8/8/8\t w - -", 15),
+    ];
+    refuses_fens(|offset| Error::BadPlacement { offset }, &texts);
+    assert_eq!("9 w - -".parse::<Board>().unwrap_err().number(), 19);
+}
+
+#[test]
+fn number_20_fen_side() {
+    let texts: [(&[u8], usize); 7] =
+        [(b"8 x - -", 2), (b"8  w - -", 2), (b" - w -", 1), (b"   w", 1), (b"8 w\r - -", 2), (b"K8/8 ww 9 9", 5), (b"8 \xff - -", 2)];
+    refuses_fens(|offset| Error::BadSide { offset }, &texts);
+    assert_eq!("8/8/8/8/8/8/8/8  w - -".parse::<Board>().unwrap_err(), Error::BadSide { offset: 16 });
+    assert_eq!("8 x - -".parse::<Board>().unwrap_err().number(), 20);
 }
 
 #[test]

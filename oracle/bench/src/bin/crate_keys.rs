@@ -1,4 +1,5 @@
-//! `keys` over the crate chess 3.2.0: for each FEN text of a file, one a line, the crate's own text of it, or `! 1`.
+//! `keys` over the crate chess 3.2.0: for each FEN text of a file, one a line, the crate's own text of it, or `!` alone: what is wrong with a
+//! text and where, the crate does not say.
 
 use chess::BoardBuilder;
 use std::fs::File;
@@ -13,7 +14,7 @@ fn main() -> io::Result<()> {
     while input.read_line(&mut line)? > 0 {
         match BoardBuilder::from_str(line.trim_end_matches('\n')) {
             Ok(builder) => writeln!(out, "{}", builder)?,
-            Err(_) => writeln!(out, "! 1")?,
+            Err(_) => writeln!(out, "!")?,
         }
         line.clear();
     }
