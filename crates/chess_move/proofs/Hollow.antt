@@ -6,12 +6,13 @@ use Prim.Native.Nat.{ℕ}
 use native.Mathlib.Omega.{arith}
 use lib.Dec.{leb, lit≤}
 use lib.ListN.{replicate}
-use Rattle.square.specs.declared.Answer.{Answer}
-use Rattle.square.specs.Answer.{accepted, badList}
+use Rattle.square.specs.declared.Placed.{Placed}
+use Rattle.square.specs.Answer.{readAs, badList}
 use Rattle.square.specs.Ascii.{ascii}
+use Rattle.square.specs.Square.{readSquare}
 use Rattle.square.proofs.ItsText.{writers-keep-its-text, passed-or}
 use Rattle.chess_move.specs.Number.{lastMove}
-use Rattle.chess_move.specs.Coordinate.{readMove, moveText, moveCheck}
+use Rattle.chess_move.specs.Coordinate.{withDest, withSource, readMove, moveText, moveCheck}
 use Rattle.chess_move.specs.Promises.{RefusingReaderFails, MoveTellsItsLength}
 
 -- e2 to e4, without promotion, and a room for any move
@@ -21,12 +22,12 @@ move = 1804
 abbrev room : List ℕ
 room = replicate 5 0
 
-reads : readMove (ascii "e2e4") ≡ accepted move
-unfolding ascii readMove
+reads : readMove (ascii "e2e4") ≡ readAs move
+unfolding ascii readSquare withDest withSource readMove
 reads = refl
 
-number : (a : Answer) (n : ℕ) → a ≡ accepted n → a .number ≡ 0
-number a n e = ap (λ (r : Answer). r .number) e
+number : (a : Placed) (n : ℕ) → a ≡ readAs n → a .number ≡ 0
+number a n e = ap (λ (r : Placed). r .number) e
 
 pub refusing-reader-fails : RefusingReaderFails
 refusing-reader-fails read refuses =

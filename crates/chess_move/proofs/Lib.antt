@@ -1,3 +1,5 @@
+pub mod AtSmallest
+pub mod Faults
 pub mod Numbers
 pub mod Ranges
 pub mod Ways

@@ -10,7 +10,8 @@ use lib.ListN.{length, drop}
 use lib.Seq.{take-at}
 use borrow.Author.Tests.{le-leb, eq-eqb, eqb-true, eqb-false}
 use Rattle.square.specs.declared.Answer.{Answer}
-use Rattle.square.specs.Answer.{accepted, refused, invalidUciMove, overwrite, writeAnswer, writeBytes}
+use Rattle.square.specs.declared.Pair.the-variants.{Square}
+use Rattle.square.specs.Answer.{accepted, readAs, faultAt, invalidUciMove, overwrite, writeAnswer, writeBytes}
 use Rattle.square.specs.Square.{squareNamed, readSquare}
 use Rattle.square.specs.Piece.{letterOf}
 use Rattle.square.proofs.Below.{below}
@@ -23,7 +24,7 @@ use Rattle.chess_move.proofs.Numbers.{source-most, dest-most, promotion
 use Rattle.chess_move.proofs.Ways.{fourBytes, read-squares, ended-squares, ended-letter, promoted-none, promoted-some, text-four, text-five}
 
 -- a square's two bytes name it
-pub pair-back : (square : ℕ) → square ≤ 63 → squareNamed (97 + square % 8) (49 + square / 8) ≡ accepted square
+pub pair-back : (square : ℕ) → square ≤ 63 → squareNamed (97 + square % 8) (49 + square / 8) ≡ Square square
 unfolding readSquare
 pair-back square h = square-reads-back square (omega arith)
 
@@ -37,25 +38,25 @@ letter-back p h = eqb→eq _ _ (below letter-test 7 tt p (omega arith))
 
 -- the two squares that a text's first four bytes name
 squares-back : (s d : ℕ) (t : List ℕ) → s ≤ 63 → d ≤ 63 → readMove (fourBytes s d t) ≡ ended (fourBytes s d t) s d
-squares-back s d t hs hd =
-    read-squares (fourBytes s d t) (accepted s) (omega arith) (sym (pair-back s hs)) refl (accepted d) (omega arith) (sym (pair-back d hd)) refl
+unfolding readSquare
+squares-back s d t hs hd = read-squares (fourBytes s d t) s d (pair-back s hs) (pair-back d hd)
 
 -- a promotion that is there
-promoted-back : (s d p : ℕ) → (p ≡ 0 → ⊥) → promoted s d (cond (readable p) p 0) ≡ cond (readable p) (accepted (numberOf s d p)) (refused invalidUciMove)
+promoted-back : (s d p : ℕ) → (p ≡ 0 → ⊥) → promoted s d (cond (readable p) p 0) ≡ cond (readable p) (readAs (numberOf s d p)) (faultAt invalidUciMove 4)
 promoted-back s d p n = go (readable p)
   where
-    go : (b : Bool) → promoted s d (cond b p 0) ≡ cond b (accepted (numberOf s d p)) (refused invalidUciMove)
+    go : (b : Bool) → promoted s d (cond b p 0) ≡ cond b (readAs (numberOf s d p)) (faultAt invalidUciMove 4)
     go true = promoted-some s d p n
     go false = promoted-none s d 0 refl
 
-without : (n : ℕ) → promotionOf n ≡ 0 → readMove (moveText n) ≡ cond (readable (promotionOf n)) (accepted n) (refused invalidUciMove)
+without : (n : ℕ) → promotionOf n ≡ 0 → readMove (moveText n) ≡ cond (readable (promotionOf n)) (readAs n) (faultAt invalidUciMove 4)
 without n e =
     let text = fourBytes (sourceOf n) (destOf n) [] in
     let z : sourceOf n + 64 * destOf n ≡ n = omega arith in
     rw (text-four n e)
     (squares-back (sourceOf n) (destOf n) [] (source-most n) (dest-most n) ∙ ended-squares text (sourceOf n) (destOf n) (λ f. omega arith) ∙ simp (eq-eqb _ _ e, z))
 
-with-one : (n : ℕ) → n ≤ lastMove → (promotionOf n ≡ 0 → ⊥) → readMove (moveText n) ≡ cond (readable (promotionOf n)) (accepted n) (refused invalidUciMove)
+with-one : (n : ℕ) → n ≤ lastMove → (promotionOf n ≡ 0 → ⊥) → readMove (moveText n) ≡ cond (readable (promotionOf n)) (readAs n) (faultAt invalidUciMove 4)
 with-one n h e =
     let p = promotionOf n in
     let letter = letterOf (p + 6) ∷ [] in
@@ -66,10 +67,10 @@ with-one n h e =
     ∙ promoted-back (sourceOf n) (destOf n) p e
     ∙ rw (number-of-its-parts n))
 
-pub text-back : (n : ℕ) → n ≤ lastMove → readMove (moveText n) ≡ cond (readable (promotionOf n)) (accepted n) (refused invalidUciMove)
+pub text-back : (n : ℕ) → n ≤ lastMove → readMove (moveText n) ≡ cond (readable (promotionOf n)) (readAs n) (faultAt invalidUciMove 4)
 text-back n h = go (eqb (promotionOf n) 0) refl
   where
-    go : (b : Bool) → eqb (promotionOf n) 0 ≡ b → readMove (moveText n) ≡ cond (readable (promotionOf n)) (accepted n) (refused invalidUciMove)
+    go : (b : Bool) → eqb (promotionOf n) 0 ≡ b → readMove (moveText n) ≡ cond (readable (promotionOf n)) (readAs n) (faultAt invalidUciMove 4)
     go true e = without n (eqb-true _ _ e)
     go false e = with-one n h (eqb-false _ _ e)
 

@@ -1,14 +1,17 @@
 -- Coordinate texts (document 01, "Move texts"): bytes 0 and 1 are a square, then 2 and 3. A pair that is not there is 3, a bad pair is 2, first pair
--- first. Exactly five bytes must end in q, r, n or b, else 3. Longer text drops its tail.
+-- first. Exactly five bytes must end in q, r, n or b, else 3. Longer text drops its tail. A refusal has an offset (document 02, order 3): the faulty
+-- byte's, or the text's length where a pair is not there.
 -- Assumes nothing.
 use Prim.Native.Nat.{ℕ, _+_}
-use mathlib.Core.Bool.{Bool, cond, not}
+use mathlib.Core.Bool.{cond}
 use mathlib.Core.List.{List, [], _∷_, _++_}
-use lib.Dec.{eqb, leb, ltb}
-use lib.ListN.{length, getD}
-use Rattle.square.specs.declared.Answer.{Answer}
-use Rattle.square.specs.Answer.{accepted, refused, invalidSquare, invalidUciMove, badList}
-use Rattle.square.specs.Square.{squareNamed, squareText}
+use lib.Dec.{eqb, leb}
+use lib.ListN.{length, getD, drop}
+use Rattle.square.specs.declared.Placed.{Placed}
+use Rattle.square.specs.declared.Pair.{Pair}
+use Rattle.square.specs.declared.Pair.the-variants.{Square, BadFile, BadRank, Missing}
+use Rattle.square.specs.Answer.{readAs, faultAt, invalidUciMove, badList}
+use Rattle.square.specs.Square.{readSquare, told, squareText}
 use Rattle.square.specs.Piece.{letterOf}
 use Rattle.chess_move.specs.Number.{lastMove, sourceOf, destOf, promotionOf, numberOf}
 
@@ -16,26 +19,29 @@ use Rattle.chess_move.specs.Number.{lastMove, sourceOf, destOf, promotio
 unfoldable pub promotionNamed : ℕ → ℕ
 promotionNamed b = cond (eqb b 113) 5 (cond (eqb b 114) 4 (cond (eqb b 110) 2 (cond (eqb b 98) 3 0)))
 
--- the bytes i and j of a text as a square
-abbrev pub pairAt : List ℕ → ℕ → ℕ → Answer
-pairAt s i j = squareNamed (getD s i 0) (getD s j 0)
-
-abbrev pub isBad : Answer → Bool
-isBad a = not (eqb (a .number) 0)
-
 -- a fifth byte, which must be a promotion's
-abbrev pub promoted : ℕ → ℕ → ℕ → Answer
-promoted source dest promotion = cond (eqb promotion 0) (refused invalidUciMove) (accepted (numberOf source dest promotion))
+abbrev pub promoted : ℕ → ℕ → ℕ → Placed
+promoted source dest promotion = cond (eqb promotion 0) (faultAt invalidUciMove 4) (readAs (numberOf source dest promotion))
 
-abbrev pub ended : List ℕ → ℕ → ℕ → Answer
-ended s source dest = cond (eqb (length s) 5) (promoted source dest (promotionNamed (getD s 4 0))) (accepted (numberOf source dest 0))
+abbrev pub ended : List ℕ → ℕ → ℕ → Placed
+ended s source dest = cond (eqb (length s) 5) (promoted source dest (promotionNamed (getD s 4 0))) (readAs (numberOf source dest 0))
 
-unfoldable pub readMove : List ℕ → Answer
-readMove s =
-    cond (ltb (length s) 2) (refused invalidUciMove)
-    (cond (isBad (pairAt s 0 1)) (refused invalidSquare)
-    (cond (ltb (length s) 4) (refused invalidUciMove)
-    (cond (isBad (pairAt s 2 3)) (refused invalidSquare) (ended s (pairAt s 0 1 .value) (pairAt s 2 3 .value)))))
+-- the second pair, bytes 2 and 3
+unfoldable pub withDest : List ℕ → ℕ → Pair → Placed
+withDest s source (Square dest) = ended s source dest
+withDest s source BadFile = told 2 (length s) BadFile
+withDest s source BadRank = told 2 (length s) BadRank
+withDest s source Missing = told 2 (length s) Missing
+
+-- the first pair, bytes 0 and 1
+unfoldable pub withSource : List ℕ → Pair → Placed
+withSource s (Square source) = withDest s source (readSquare (drop 2 s))
+withSource s BadFile = told 0 (length s) BadFile
+withSource s BadRank = told 0 (length s) BadRank
+withSource s Missing = told 0 (length s) Missing
+
+unfoldable pub readMove : List ℕ → Placed
+readMove s = withSource s (readSquare s)
 
 -- written: the two squares and a lower-case piece letter if there is a promotion; the lower-case letters are black's
 abbrev pub promotionText : ℕ → List ℕ

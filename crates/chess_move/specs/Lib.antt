@@ -1,3 +1,6 @@
 pub mod Number
 pub mod Coordinate
+pub mod Base
 pub mod Promises
+pub mod Faults
+pub mod AtSmallest

@@ -6,9 +6,9 @@ use mathlib.Core.Bool.{Bool, cond, _||_}
 use mathlib.Core.List.{List}
 use lib.Dec.{eqb}
 use lib.ListN.{length, take}
-use Rattle.square.specs.declared.Answer.{Answer}
+use Rattle.square.specs.declared.Placed.{Placed}
 use Rattle.square.specs.Promises.{ItsText}
-use Rattle.square.specs.Answer.{accepted, refused, invalidUciMove, writeAnswer, writeBytes}
+use Rattle.square.specs.Answer.{accepted, readAs, faultAt, invalidUciMove, writeAnswer, writeBytes}
 use Rattle.square.specs.Square.{between}
 use Rattle.chess_move.specs.declared.ChessMove.{ChessMove}
 use Rattle.chess_move.specs.Number.{lastMove, promotionOf, moveOf, numberAnswer}
@@ -27,18 +27,18 @@ readable promotion = eqb promotion 0 || between 2 5 promotion
 
 -- any reader of coordinate texts
 abbrev pub Reader : Type 0
-Reader = List ℕ → Answer
+Reader = List ℕ → Placed
 
 -- demand 2 of such a reader: it answers as the definition does
 abbrev pub ReadsMoves : Reader → Type 0
 ReadsMoves read = (text : List ℕ) → read text ≡ readMove text
 
 -- and the read-back: a written move with promotion none, knight, bishop, rook or queen reads back to itself, and every other promotion is refused
--- with 3, over the answers and the room of the writer's call
+-- with 3 at its letter, over the answers and the room of the writer's call
 pub record MoveBackAgain (read : Reader) (n : ℕ) (out : List ℕ) : Type 0 where
   pub accepts : writeAnswer (moveCheck n) (moveText n) (length out) .number ≡ 0
   pub back : read (take (writeAnswer (moveCheck n) (moveText n) (length out) .value) (writeBytes (moveCheck n) (moveText n) out))
-      ≡ cond (readable (promotionOf n)) (accepted n) (refused invalidUciMove)
+      ≡ cond (readable (promotionOf n)) (readAs n) (faultAt invalidUciMove 4)
 
 abbrev pub ReadsMovesBack : Reader → Type 0
 ReadsMovesBack read = (n : ℕ) (out : List ℕ) → n ≤ lastMove → 5 ≤ length out → MoveBackAgain read n out

@@ -1,14 +1,15 @@
 // The move and its coordinate text, after chess_move.rs: source, destination and promotion, as one number, as e2e4 or e7e8q.
-use square::ACCEPTED;
 use square::Answer;
 use square::BAD_LIST;
 use square::INVALID_UCI_MOVE;
 use square::OUT_OF_RANGE;
+use square::Pair;
+use square::Placed;
 ghost use mathlib.Core.Path.{_≡_};
 ghost use lib.ListN.{length};
 ghost use Rattle.square.specs.Answer.{writeAnswer, writeBytes};
 ghost use Rattle.chess_move.specs.Number.{moveOf, numberAnswer};
-ghost use Rattle.chess_move.specs.Coordinate.{promotionNamed, readMove, moveText, moveCheck};
+ghost use Rattle.chess_move.specs.Coordinate.{promotionNamed, ended, withDest, readMove, moveText, moveCheck};
 
 // The largest number of a move: h8 to h8 with promotion 6.
 pub const LAST_MOVE: u64 = 28_671;
@@ -61,32 +62,42 @@ fn promotion_named(b: u8) -> u64
     }
 }
 
-// Reads a coordinate text.
-pub fn from_str(text: &[u8]) -> Answer
-    ensures { λ r. ⌜ r ≡ readMove (now (text .entry)) ⌝ }
+// The move of two squares, and of a fifth byte if it is the last.
+fn ended(text: &[u8], source: u8, dest: u8) -> Placed
+    ensures { λ r. ⌜ r ≡ ended (now (text .entry)) source dest ⌝ }
 {
-    if text.len() < 2 {
-        return square::refused(INVALID_UCI_MOVE);
-    }
-    let source = square::from_bytes(text[0], text[1]);
-    if source.number != ACCEPTED {
-        return square::refused(square::INVALID_SQUARE);
-    }
-    if text.len() < 4 {
-        return square::refused(INVALID_UCI_MOVE);
-    }
-    let dest = square::from_bytes(text[2], text[3]);
-    if dest.number != ACCEPTED {
-        return square::refused(square::INVALID_SQUARE);
-    }
     if text.len() != 5 {
-        return square::accepted(source.value + 64 * dest.value);
+        return square::read_as(source as u64 + 64 * dest as u64);
     }
     let promotion = promotion_named(text[4]);
     if promotion == 0 {
-        return square::refused(INVALID_UCI_MOVE);
+        return square::fault_at(INVALID_UCI_MOVE, 4);
     }
-    square::accepted(source.value + 64 * dest.value + 4096 * promotion)
+    square::read_as(source as u64 + 64 * dest as u64 + 4096 * promotion)
+}
+
+fn with_dest(text: &[u8], source: u8, dest: Pair) -> Placed
+    ensures { λ r. ⌜ r ≡ withDest (now (text .entry)) source dest ⌝ }
+{
+    match dest {
+        Pair::Square(s) => ended(text, source, s),
+        Pair::BadFile => square::told(2, text.len(), Pair::BadFile),
+        Pair::BadRank => square::told(2, text.len(), Pair::BadRank),
+        Pair::Missing => square::told(2, text.len(), Pair::Missing),
+    }
+}
+
+// Reads a coordinate text.
+pub fn from_str(text: &[u8]) -> Placed
+    ensures { λ r. ⌜ r ≡ readMove (now (text .entry)) ⌝ }
+{
+    let source = square::from_str(text);
+    match source {
+        Pair::Square(s) => with_dest(text, s, square::from_str(square::rest(text, 2))),
+        Pair::BadFile => square::told(0, text.len(), Pair::BadFile),
+        Pair::BadRank => square::told(0, text.len(), Pair::BadRank),
+        Pair::Missing => square::told(0, text.len(), Pair::Missing),
+    }
 }
 
 // Writes a move's coordinate text to the front of `out`. Checks 6, then 7.

@@ -1,7 +1,7 @@
 -- What a byte's class says: a slash, a digit, a piece's letter, or none of a placement. And the table that the reader fills: it holds each byte's class.
 -- Assumes nothing.
 use mathlib.Core.Path.{_≡_, refl, sym, _∙_}
-use mathlib.Core.Bool.{Bool, true, false, not, false≢true}
+use mathlib.Core.Bool.{Bool, true, false}
 use Prim.Native.Nat.{ℕ, _+_, _-_, _≤_, _<_}
 use native.Mathlib.Decide.{decLe}
 use native.Mathlib.Omega.{arith}
@@ -12,7 +12,7 @@ use Rattle.square.specs.Ascii.{ascii}
 use Rattle.square.specs.Square.{between}
 use Rattle.square.specs.Numbers.{among}
 use Rattle.square.specs.Piece.{pieceOf}
-use Rattle.square.proofs.Below.{below, holds}
+use Rattle.square.proofs.Below.{below, agree}
 use Rattle.fen_text.specs.Placement.{signs, isBad}
 use Rattle.fen_reader.specs.Class.{refused, classOf, noteAll}
 
@@ -79,19 +79,9 @@ unfolding noteAll ascii
 table-long = refl
 
 -- a byte is bad exactly if its class is the refused one
-agrees : Bool → Bool → Bool
-agrees true b = b
-agrees false b = not b
-
-agree : (a b : Bool) → agrees a b ≡ true → a ≡ b
-unfolding agrees
-agree true b e = sym e
-agree false true e = absurd (false≢true e)
-agree false false e = refl
-
 bad-class : (b : ℕ) → b < 256 → isBad b ≡ eqb (classOf b) refused
-unfolding agrees among ascii classOf pieceOf
-bad-class b h = agree _ _ (holds _ (below (λ (x : ℕ). agrees (isBad x) (eqb (classOf x) refused)) 256 tt b h))
+unfolding among ascii classOf pieceOf
+bad-class b h = agree isBad (λ (x : ℕ). eqb (classOf x) refused) 256 tt b h
 
 pub class-bad : (b c : ℕ) → b < 256 → c ≡ classOf b → c ≡ refused → isBad b ≡ true
 class-bad b c h e r = bad-class b h ∙ eq-eqb _ _ (sym e ∙ r)

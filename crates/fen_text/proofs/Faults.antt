@@ -15,7 +15,7 @@ use Rattle.square.specs.Ascii.{ascii}
 use Rattle.square.specs.Numbers.{allAtMost, among}
 use Rattle.square.specs.Square.{between}
 use Rattle.square.specs.Piece.{pieceOf}
-use Rattle.square.proofs.Below.{below, holds}
+use Rattle.square.proofs.Below.{agree}
 use Rattle.square.proofs.Numbers.{most-head, most-tail}
 use Rattle.fen_text.specs.declared.Fen.{Fen}
 use Rattle.fen_text.specs.Token.{tokens, placeAfter, placeWhere, placeOf}
@@ -30,16 +30,6 @@ use Rattle.fen_text.proofs.Tokens.{tokens-last, tokens-next}
 -- a byte as `placeByte` tells it apart
 isSign : ℕ → Bool
 isSign b = eqb b 47 || (between 49 56 b || not (eqb (pieceOf b) 0))
-
-same : Bool → Bool → Bool
-same true b = b
-same false b = not b
-
-same-eq : (a b : Bool) → same a b ≡ true → a ≡ b
-unfolding same
-same-eq true b e = sym e
-same-eq false true e = absurd (false≢true e)
-same-eq false false e = refl
 
 far-among : (b : ℕ) (l : List ℕ) → allAtMost 122 l ≡ true → 122 < b → among b l ≡ false
 unfolding among
@@ -84,8 +74,8 @@ unfolding ascii allAtMost
 signs-low = refl
 
 sign-by : (b : ℕ) → Dec (b ≤ 122) → among b signs ≡ isSign b
-unfolding among ascii isSign same pieceOf
-sign-by b (yes h) = same-eq _ _ (holds _ (below (λ (x : ℕ). same (among x signs) (isSign x)) 123 tt b (omega arith)))
+unfolding among ascii isSign pieceOf
+sign-by b (yes h) = agree (λ (x : ℕ). among x signs) isSign 123 tt b (omega arith)
 sign-by b (no n) = far-among b signs signs-low (omega arith) ∙ sym (far-sign b (omega arith))
 
 sign : (b : ℕ) → among b signs ≡ isSign b

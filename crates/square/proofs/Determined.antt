@@ -9,6 +9,10 @@ use Rattle.square.proofs.accepted_byte.Reads as accepted-byte
 use Rattle.square.proofs.accepted_byte.Kinds as accepted-byte·k
 use Rattle.square.proofs.refused.Reads as refused
 use Rattle.square.proofs.refused.Kinds as refused·k
+use Rattle.square.proofs.read_as.Reads as read-as
+use Rattle.square.proofs.read_as.Kinds as read-as·k
+use Rattle.square.proofs.fault_at.Reads as fault-at
+use Rattle.square.proofs.fault_at.Kinds as fault-at·k
 use Rattle.square.proofs.write_text.Reads as write-text
 use Rattle.square.proofs.write_text.Kinds as write-text·k
 use Rattle.square.proofs.front.Reads as front
@@ -29,6 +33,8 @@ use Rattle.square.proofs.from_bytes.Reads as from-bytes
 use Rattle.square.proofs.from_bytes.Kinds as from-bytes·k
 use Rattle.square.proofs.from_str.Reads as from-str
 use Rattle.square.proofs.from_str.Kinds as from-str·k
+use Rattle.square.proofs.told.Reads as told
+use Rattle.square.proofs.told.Kinds as told·k
 use Rattle.square.proofs.to_string.Reads as to-string
 use Rattle.square.proofs.to_string.Kinds as to-string·k
 use Rattle.square.proofs.piece_of_letter.Reads as piece-of-letter
@@ -54,6 +60,12 @@ accepted-byte-answer κs a x y e f p q = p ∙ sym q
 
 pub refused-answer : OneAnswer refused·k.ps refused·k.r refused.Learnt
 refused-answer κs a x y e f p q = p ∙ sym q
+
+pub read-as-answer : OneAnswer read-as·k.ps read-as·k.r read-as.Learnt
+read-as-answer κs a x y e f p q = p ∙ sym q
+
+pub fault-at-answer : OneAnswer fault-at·k.ps fault-at·k.r fault-at.Learnt
+fault-at-answer κs a x y e f p q = p ∙ sym q
 
 pub write-text-answer : OneAnswer write-text·k.ps write-text·k.r write-text.Learnt
 write-text-answer κs a x y e f p q = p .0 ∙ sym (q .0)
@@ -87,6 +99,9 @@ from-bytes-answer κs a x y e f p q = p ∙ sym q
 
 pub from-str-answer : OneAnswer from-str·k.ps from-str·k.r from-str.Learnt
 from-str-answer κs a x y e f p q = p ∙ sym q
+
+pub told-answer : OneAnswer told·k.ps told·k.r told.Learnt
+told-answer κs a x y e f p q = p ∙ sym q
 
 pub to-string-answer : OneAnswer to-string·k.ps to-string·k.r to-string.Learnt
 to-string-answer κs a x y e f p q = p .0 ∙ sym (q .0)

@@ -6,6 +6,7 @@ use mathlib.Core.List.{List, _++_}
 use lib.Dec.{eqb, leb}
 use lib.ListN.{length, drop}
 use Rattle.square.specs.declared.Answer.{Answer}
+use Rattle.square.specs.declared.Placed.{Placed}
 
 -- 1: `InvalidFen`, given by nothing any more: order 2 put 18, 19 and 20 in its place
 abbrev pub invalidFen : ℕ
@@ -94,6 +95,13 @@ accepted v = record { number = 0; value = v }
 -- a number other than 0 and 7, with the value 0
 abbrev pub refused : ℕ → Answer
 refused n = record { number = n; value = 0 }
+
+-- order 3: an accepted text, and one that is refused at an offset
+abbrev pub readAs : ℕ → Placed
+readAs v = record { number = 0; value = v; offset = 0 }
+
+abbrev pub faultAt : ℕ → ℕ → Placed
+faultAt n offset = record { number = n; value = 0; offset = offset }
 
 -- 7 and the length needed
 abbrev pub tooShort : ℕ → Answer

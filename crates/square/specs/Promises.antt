@@ -6,7 +6,9 @@ use mathlib.Core.List.{List}
 use lib.ListN.{length, take, drop}
 use Rattle.square.specs.declared.Answer.{Answer}
 use Rattle.square.specs.Answer.{outputTooShort, accepted, overwrite, writeAnswer, writeBytes}
-use Rattle.square.specs.Square.{readSquare, squareText}
+use Rattle.square.specs.declared.Pair.{Pair}
+use Rattle.square.specs.declared.Pair.the-variants.{Square}
+use Rattle.square.specs.Square.{readSquare, squareText, told}
 
 -- a refused call changes no byte
 abbrev pub RefusedWritesNothing : Type 0
@@ -61,4 +63,8 @@ InventedLengthFails =
 
 -- a square's text reads back to it
 abbrev pub SquareReadsBack : Type 0
-SquareReadsBack = (square : ℕ) → square < 64 → readSquare (squareText square) ≡ accepted square
+SquareReadsBack = (square : ℕ) → square < 64 → readSquare (squareText square) ≡ Square square
+
+-- order 3: number, value and offset tell the four cases apart, wherever the pair stands
+abbrev pub ToldApart : Type 0
+ToldApart = (start long : ℕ) (p q : Pair) → told start long p ≡ told start long q → p ≡ q

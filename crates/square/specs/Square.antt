@@ -5,7 +5,10 @@ use mathlib.Core.Bool.{Bool, cond, _&&_}
 use mathlib.Core.List.{List, [], _∷_}
 use lib.Dec.{leb, ltb}
 use Rattle.square.specs.declared.Answer.{Answer}
-use Rattle.square.specs.Answer.{accepted, refused, inRangeOr5, outOfRange, invalidSquare}
+use Rattle.square.specs.declared.Placed.{Placed}
+use Rattle.square.specs.declared.Pair.{Pair}
+use Rattle.square.specs.declared.Pair.the-variants.{Square, BadFile, BadRank, Missing}
+use Rattle.square.specs.Answer.{readAs, faultAt, inRangeOr5, outOfRange, invalidSquare, invalidUciMove}
 
 abbrev pub squareOf : ℕ → ℕ → ℕ
 squareOf rank file = rank * 8 + file
@@ -27,15 +30,23 @@ backRank colour = inRangeOr5 (ltb colour 2) (colour * 7)
 abbrev pub between : ℕ → ℕ → ℕ → Bool
 between low high b = leb low b && leb b high
 
--- the square that a letter a to h and a digit 1 to 8 name, else 2
-abbrev pub squareNamed : ℕ → ℕ → Answer
-squareNamed a b = cond (between 97 104 a && between 49 56 b) (accepted (squareOf (b - 49) (a - 97))) (refused invalidSquare)
+-- the square that a letter a to h and a digit 1 to 8 name; else the file is wrong, or the rank alone
+abbrev pub squareNamed : ℕ → ℕ → Pair
+squareNamed a b = cond (between 97 104 a) (cond (between 49 56 b) (Square (squareOf (b - 49) (a - 97))) BadRank) BadFile
 
--- the square that the first two bytes of a text name; a pair that is not there, or a bad pair, is 2 (`Square::from_str`)
-unfoldable pub readSquare : List ℕ → Answer
-readSquare [] = refused invalidSquare
-readSquare (a ∷ []) = refused invalidSquare
+-- the square that the first two bytes of a text name (`Square::from_str`)
+unfoldable pub readSquare : List ℕ → Pair
+readSquare [] = Missing
+readSquare (a ∷ []) = Missing
 readSquare (a ∷ b ∷ rest) = squareNamed a b
+
+-- order 3: what is said of a pair that starts at a place in a text of a length: the faulty byte's place with 2, the text's length with 3 where the pair
+-- is not there
+unfoldable pub told : ℕ → ℕ → Pair → Placed
+told start long (Square s) = readAs s
+told start long BadFile = faultAt invalidSquare start
+told start long BadRank = faultAt invalidSquare (start + 1)
+told start long Missing = faultAt invalidUciMove long
 
 -- a square's text: its file's letter, its rank's digit
 abbrev pub squareText : ℕ → List ℕ

@@ -3,9 +3,9 @@
 ghost use mathlib.Core.Path.{_≡_};
 ghost use Prim.Native.Nat.{_-_};
 ghost use lib.ListN.{length};
-ghost use Rattle.square.specs.Answer.{accepted, refused, writeAnswer, writeBytes};
+ghost use Rattle.square.specs.Answer.{accepted, refused, readAs, faultAt, writeAnswer, writeBytes};
 ghost use Rattle.square.specs.Numbers.{allAtMost, numberAt, same, either, both};
-ghost use Rattle.square.specs.Square.{makeSquare, rankOf, fileOf, backRank, squareNamed, readSquare, squareText, squareCheck};
+ghost use Rattle.square.specs.Square.{makeSquare, rankOf, fileOf, backRank, squareNamed, readSquare, told, squareText, squareCheck};
 ghost use Rattle.square.specs.Parts.{frontOf, restOf};
 ghost use Rattle.square.specs.Piece.{pieceOf, letterOf, kindOf};
 
@@ -14,6 +14,22 @@ ghost use Rattle.square.specs.Piece.{pieceOf, letterOf, kindOf};
 pub struct Answer {
     pub number: u64,
     pub value: u64,
+}
+
+// The same of a text, with the offset of what is wrong in it, 0 if nothing is.
+#[repr(C)]
+pub struct Placed {
+    pub number: u64,
+    pub value: u64,
+    pub offset: u64,
+}
+
+// A pair of bytes read as a square: the square, or what is wrong with it.
+pub enum Pair {
+    Square(u8),
+    BadFile,
+    BadRank,
+    Missing,
 }
 
 pub const ACCEPTED: u64 = 0;
@@ -75,6 +91,26 @@ pub fn refused(number: u64) -> Answer
     ensures { λ r. ⌜ r ≡ refused number ⌝ }
 {
     Answer { number, value: 0 }
+}
+
+pub fn read_as(value: u64) -> Placed
+    ensures { λ r. ⌜ r ≡ readAs value ⌝ }
+{
+    Placed {
+        number: ACCEPTED,
+        value,
+        offset: 0,
+    }
+}
+
+pub fn fault_at(number: u64, offset: u64) -> Placed
+    ensures { λ r. ⌜ r ≡ faultAt number offset ⌝ }
+{
+    Placed {
+        number,
+        value: 0,
+        offset,
+    }
 }
 
 // Copies a text to the front of `out`, or answers 7 with the text's length and writes nothing.
@@ -166,27 +202,39 @@ pub fn to_my_backrank(color: u8) -> Answer
     accepted_byte(color * 7)
 }
 
-// The square that the file letter `a` and the rank digit `b` name.
-pub fn from_bytes(a: u8, b: u8) -> Answer
+// The square that the file letter `a` and the rank digit `b` name. Where both are wrong, the file is told.
+pub fn from_bytes(a: u8, b: u8) -> Pair
     ensures { λ r. ⌜ r ≡ squareNamed a b ⌝ }
 {
     match a {
         b'a'..=b'h' => match b {
-            b'1'..=b'8' => accepted_byte((b - b'1') * 8 + (a - b'a')),
-            _ => refused(INVALID_SQUARE),
+            b'1'..=b'8' => Pair::Square((b - b'1') * 8 + (a - b'a')),
+            _ => Pair::BadRank,
         },
-        _ => refused(INVALID_SQUARE),
+        _ => Pair::BadFile,
     }
 }
 
 // The square that the first two bytes of a text name; the rest is dropped.
-pub fn from_str(text: &[u8]) -> Answer
+pub fn from_str(text: &[u8]) -> Pair
     ensures { λ r. ⌜ r ≡ readSquare (now (text .entry)) ⌝ }
 {
     if text.len() < 2 {
-        return refused(INVALID_SQUARE);
+        return Pair::Missing;
     }
     from_bytes(text[0], text[1])
+}
+
+// What is said of a pair that starts at `start` in a text of `long` bytes.
+pub fn told(start: u8, long: usize, pair: Pair) -> Placed
+    ensures { λ r. ⌜ r ≡ told start long pair ⌝ }
+{
+    match pair {
+        Pair::Square(s) => read_as(s as u64),
+        Pair::BadFile => fault_at(INVALID_SQUARE, start as u64),
+        Pair::BadRank => fault_at(INVALID_SQUARE, start as u64 + 1),
+        Pair::Missing => fault_at(INVALID_UCI_MOVE, long as u64),
+    }
 }
 
 // Writes a square's two bytes to the front of `out`. Checks 5, then 7.

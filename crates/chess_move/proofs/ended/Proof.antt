@@ -1,0 +1,98 @@
+use borrow.Author.Needs.{needs}
+use mathlib.Core.Path.{sym, _∙_}
+use native.Mathlib.Omega.{arith}
+use lib.ListN.{getD}
+use Rattle.chess_move.proofs.Ranges.{promotion-named-most}
+use Rattle.chess_move.proofs.Ways.{ended-squares, ended-letter, promoted-none, promoted-some}
+use Rattle.chess_move.proofs.ended.Statement.{statement}
+use Rattle.chess_move.proofs.ended.Tie as tie
+use Rattle.chess_move.proofs.ended.Reads as reads
+use Rattle.chess_move.proofs.ended.Lts as lts
+use Rattle.chess_move.proofs.promotion_named.Reads as promotion-named-reads
+use Rattle.square.proofs.fault_at.Reads as fault-at-reads
+use Rattle.square.proofs.read_as.Reads as read-as-reads
+
+-- src/lib.rt:70:48
+mul-read-as : tie.Need-mul-read-as
+mul-read-as c = search needs
+
+-- src/lib.rt:70:32
+add-read-as : tie.Need-add-read-as
+add-read-as c = search needs
+
+-- src/lib.rt:70:9
+read-as-requires : tie.Need-read-as-requires
+read-as-requires c κs = search needs
+
+-- src/lib.rt:70:9
+returns : tie.Need-returns
+returns c = c .read-as .ensures ∙ sym (ended-squares (c .before .before .before .args .text .now) (c .before .before .before .args .source) (c .before .before .before .args .dest) (c .before .if1 .taken))
+
+-- src/lib.rt:72:37
+shared-slice-read-promotion-named : tie.Need-shared-slice-read-promotion-named
+shared-slice-read-promotion-named c = search needs
+
+-- src/lib.rt:72:9
+promotion-named-requires : tie.Need-promotion-named-requires
+promotion-named-requires c κs = search needs
+
+-- src/lib.rt:74:9
+fault-at-requires : tie.Need-fault-at-requires
+fault-at-requires c κs = search needs
+
+-- src/lib.rt:74:9
+returns-2 : tie.Need-returns-2
+returns-2 c = 
+    let s = c .before .before .before .before .before .before .args .text .now in
+    let x = c .before .before .before .before .before .before .args .source in
+    let y = c .before .before .before .before .before .before .args .dest in
+    let p = c .before .before .promotion-named .result in
+    c .fault-at .ensures ∙ sym (ended-letter s x y p (c .before .before .before .before .if1 .left) (c .before .before .promotion-named .ensures) ∙ promoted-none x y p (c .before .if2 .taken))
+
+-- src/lib.rt:76:37
+mul-read-as-2 : tie.Need-mul-read-as-2
+mul-read-as-2 c = search needs
+
+-- src/lib.rt:76:21
+add-read-as-2 : tie.Need-add-read-as-2
+add-read-as-2 c = search needs
+
+-- src/lib.rt:76:56
+mul-read-as-3 : tie.Need-mul-read-as-3
+mul-read-as-3 c = omega (arith, promotion-named-most (getD (c .before .before .before .before .before .args .text .now) 4 0), c .before .promotion-named .ensures)
+
+-- src/lib.rt:76:21
+add-read-as-3 : tie.Need-add-read-as-3
+add-read-as-3 c = omega (arith, promotion-named-most (getD (c .before .before .before .before .before .args .text .now) 4 0), c .before .promotion-named .ensures)
+
+-- src/lib.rt:76:5
+read-as-requires-2 : tie.Need-read-as-requires-2
+read-as-requires-2 c κs = search needs
+
+-- src/lib.rt:66:1
+returns-3 : tie.Need-returns-3
+returns-3 c = 
+    let s = c .before .before .before .before .before .before .args .text .now in
+    let x = c .before .before .before .before .before .before .args .source in
+    let y = c .before .before .before .before .before .before .args .dest in
+    let p = c .before .before .promotion-named .result in
+    c .read-as2 .ensures ∙ sym (ended-letter s x y p (c .before .before .before .before .if1 .left) (c .before .before .promotion-named .ensures) ∙ promoted-some x y p (c .before .if2 .left))
+
+pub ended-spec : {M : Type 1} → statement M
+ended-spec =
+    tie.close
+    (tie.spec
+    mul-read-as
+    add-read-as
+    read-as-requires
+    returns
+    shared-slice-read-promotion-named
+    promotion-named-requires
+    fault-at-requires
+    returns-2
+    mul-read-as-2
+    add-read-as-2
+    mul-read-as-3
+    add-read-as-3
+    read-as-requires-2
+    returns-3)
