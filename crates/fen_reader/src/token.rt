@@ -1,4 +1,5 @@
 // The tokens of a FEN text: where they end, and what the second, third and fourth say.
+use square::Pair;
 ghost use mathlib.Core.Path.{_≡_};
 ghost use mathlib.Core.Bool.{cond};
 ghost use Prim.Native.Nat.{_+_};
@@ -96,9 +97,11 @@ pub(crate) fn rights(token: &[u8]) -> Sides
 pub(crate) fn en_passant(token: &[u8]) -> u8
     ensures { λ r. ⌜ r ≡ enPassantOf (now (token .entry)) ⌝ }
 {
-    let named = square::from_str(token);
-    if named.number == 0 {
-        return (named.value % 8 + 1) as u8;
+    let pair = square::from_str(token);
+    match pair {
+        Pair::Square(s) => s % 8 + 1,
+        Pair::BadFile => 0,
+        Pair::BadRank => 0,
+        Pair::Missing => 0,
     }
-    0
 }

@@ -9,7 +9,8 @@ use native.Mathlib.Omega.{arith}
 use lib.Dec.{eqb, ltb, lit≤}
 use lib.ListN.{length, length-set}
 use borrow.Author.Tests.{ltb-true}
-use Rattle.square.specs.declared.Answer.{Answer}
+use Rattle.square.specs.declared.Pair.{Pair}
+use Rattle.square.specs.declared.Pair.the-variants.{Square, BadFile, BadRank, Missing}
 use Rattle.square.specs.Answer.{tooFewTokens, badPlacement, badSide}
 use Rattle.square.specs.Square.{squareOf, between, readSquare}
 use Rattle.square.specs.Piece.{pieceOf}
@@ -95,8 +96,11 @@ rights-most k q t = go (among k t) (among q t)
     go false true = lit≤ tt
     go false false = lit≤ tt
 
-file-most : (a : Answer) → fileRead a ≤ 8
-file-most a = cond-both (λ (n : ℕ). n ≤ 8) (eqb (a .number) 0) {x = a .value % 8 + 1} {y = 0} (omega arith) (omega arith)
+file-most : (a : Pair) → fileRead a ≤ 8
+file-most (Square s) = omega arith
+file-most BadFile = omega arith
+file-most BadRank = omega arith
+file-most Missing = omega arith
 
 -- an answer of 0 is a record in range, any other is a refusal with its number and offset
 record Told (f : Fen) : Type 0 where

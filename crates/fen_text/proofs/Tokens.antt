@@ -3,7 +3,7 @@
 use mathlib.Core.Path.{_≡_, refl, ap}
 use mathlib.Core.Bool.{Bool, true, false}
 use mathlib.Core.List.{List, [], _∷_}
-use Prim.Native.Nat.{ℕ, suc, _+_, _%_, _≤_, _<_}
+use Prim.Native.Nat.{ℕ, suc, _+_, _≤_, _<_}
 use native.Mathlib.Nat.{add-zero}
 use native.Mathlib.Numerals.{add-one}
 use native.Mathlib.Omega.{arith}
@@ -11,9 +11,8 @@ use lib.Dec.{eqb}
 use borrow.Author.Tests.{eq-eqb, ne-eqb}
 use lib.ListN.{length, getD, take, drop, drop-of-length-le}
 use lib.Seq.{drop-cons}
-use Rattle.square.specs.declared.Answer.{Answer}
 use Rattle.fen_text.specs.Token.{placeAfter, placeWhere, placeOf, onto, joined, tokens}
-use Rattle.fen_text.specs.Read.{sideByte, sideOf, fileRead}
+use Rattle.fen_text.specs.Read.{sideByte, sideOf}
 
 pub side-other : (s : List ℕ) → (length s ≡ 1 → ⊥) → sideOf s ≡ 2
 unfolding sideOf
@@ -50,13 +49,6 @@ place-hit b s i h e = where-hit (λ (x : ℕ). eqb x b) s i h (eq-eqb _ _ e)
 
 pub place-miss : (b : ℕ) (s : List ℕ) (i : ℕ) → i < length s → (getD s i 0 ≡ b → ⊥) → i + placeOf b (drop i s) ≡ i + 1 + placeOf b (drop (i + 1) s)
 place-miss b s i h n = where-miss (λ (x : ℕ). eqb x b) s i h (ne-eqb _ _ n)
-
--- the file of a square that was read, and of none
-pub file-given : (a : Answer) → a .number ≡ 0 → fileRead a ≡ a .value % 8 + 1
-file-given a e = simp (eq-eqb _ _ e)
-
-pub file-none : (a : Answer) → (a .number ≡ 0 → ⊥) → fileRead a ≡ 0
-file-none a n = simp (ne-eqb _ _ n)
 
 -- no space: one token. A space: a token, and the tokens past it
 token-step : (t : Bool) (x k n : ℕ) (s : List ℕ) (ts : List (List ℕ)) → (n ≤ k → ts ≡ s ∷ []) → suc n ≤ placeAfter t k → joined t x ts ≡ (x ∷ s) ∷ []

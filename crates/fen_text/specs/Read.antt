@@ -6,7 +6,8 @@ use mathlib.Core.Bool.{cond, _||_}
 use mathlib.Core.List.{List, [], _∷_}
 use lib.Dec.{eqb, ltb}
 use lib.ListN.{length}
-use Rattle.square.specs.declared.Answer.{Answer}
+use Rattle.square.specs.declared.Pair.{Pair}
+use Rattle.square.specs.declared.Pair.the-variants.{Square, BadFile, BadRank, Missing}
 use Rattle.square.specs.Answer.{tooFewTokens, badPlacement, badSide}
 use Rattle.square.specs.Square.{readSquare}
 use Rattle.square.specs.Numbers.{among}
@@ -31,8 +32,11 @@ unfoldable pub rightsOf : ℕ → ℕ → List ℕ → ℕ
 rightsOf k q t = rights (cond (among k t) 1 0) (cond (among q t) 1 0)
 
 -- the file, from 1, of a square that was read; none where none was
-abbrev pub fileRead : Answer → ℕ
-fileRead a = cond (eqb (a .number) 0) (a .value % 8 + 1) 0
+abbrev pub fileRead : Pair → ℕ
+fileRead (Square s) = s % 8 + 1
+fileRead BadFile = 0
+fileRead BadRank = 0
+fileRead Missing = 0
 
 -- the fourth token sets a file if its first two bytes are a to h and 1 to 8; the rank and the rest are dropped; otherwise none is set, and that is
 -- no refusal

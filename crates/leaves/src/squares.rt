@@ -1,5 +1,17 @@
 // Squares and their texts.
 use crate::put;
+use square::Answer;
+use square::Pair;
+
+// The original has one error for every pair that is no square.
+fn answer(pair: Pair) -> Answer {
+    match pair {
+        Pair::Square(s) => square::accepted_byte(s),
+        Pair::BadFile => square::refused(square::INVALID_SQUARE),
+        Pair::BadRank => square::refused(square::INVALID_SQUARE),
+        Pair::Missing => square::refused(square::INVALID_SQUARE),
+    }
+}
 
 pub(crate) fn ask(s: u8) {
     put::line(b"square::get_rank", s, square::get_rank(s));
@@ -14,7 +26,7 @@ pub(crate) fn ask(s: u8) {
     put::line(
         b"square::from_str, a tail behind",
         s,
-        square::from_str(&longer),
+        answer(square::from_str(&longer)),
     );
     // of the other files the original says nothing
     match s % 8 {
@@ -30,13 +42,13 @@ pub(crate) fn ask(s: u8) {
 // The text of the byte `a` alone, and on a line every text of `a` and a second byte. ASCII, since the original reads characters.
 pub(crate) fn ask_texts(a: u8) {
     let one = [a];
-    put::line(b"square::from_str", a, square::from_str(&one));
+    put::line(b"square::from_str", a, answer(square::from_str(&one)));
     put::text(b"square::from_str, every second byte");
     put::argument(a);
     put::text(b" =");
     for b in 0u8..128 {
         let two = [a, b];
-        put::answer(square::from_str(&two));
+        put::answer(answer(square::from_str(&two)));
     }
     put::text(b"\n");
 }

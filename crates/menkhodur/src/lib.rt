@@ -5,6 +5,7 @@ use fen_text::Fen;
 use game_rules::Counts;
 use roll_text::Roll;
 use square::Answer;
+use square::Placed;
 ghost use mathlib.Core.Path.{_≡_};
 ghost use lib.ListN.{length};
 ghost use Rattle.version.specs.Version.{version};
@@ -108,7 +109,7 @@ pub extern "C" fn menkhodur_fen_write(b: BoardBuilder, out: &mut [u8]) -> Answer
 }
 
 #[no_mangle]
-pub extern "C" fn menkhodur_move_read(text: &[u8]) -> Answer
+pub extern "C" fn menkhodur_move_read(text: &[u8]) -> Placed
     ensures { λ r. ⌜ r ≡ readMove (now (text .entry)) ⌝ }
 {
     chess_move::from_str(text)

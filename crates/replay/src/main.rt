@@ -227,11 +227,14 @@ fn put_fen(line: &[u8], run: Run) -> Run {
 
 fn put_coordinates(line: &[u8], run: Run) -> Run {
     let read = chess_move::from_str(text::rest(line, 1));
-    put_answer(read);
+    put_number(read.number);
+    put(b" ");
     if read.number != square::ACCEPTED {
+        put_number(read.offset);
         put(b"\n");
         return run;
     }
+    put_number(read.value);
     let mut out = [0u8; LONGEST_COORDINATES];
     let a = chess_move::to_string(read.value, &mut out);
     put_written(a, &out);

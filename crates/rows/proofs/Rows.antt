@@ -13,9 +13,9 @@ use Rattle.san_text.specs.Resolve.{agrees, fits, captureTest, soleThat, castlin
 use Rattle.san_text.specs.Form.{castled, resolved, readAnswer}
 use Rattle.san_text.specs.Name.{optional, promotionLetter, pieceLetter, changesFiles, takesOf, headOf, candidates, names, castlingName, firstName, kingFirst, nameOf, nameText, nameCheck}
 use Rattle.san_text.specs.Paper.{markOf, endOf, sanText}
-use Rattle.square.specs.Square.{readSquare}
+use Rattle.square.specs.Square.{readSquare, told}
 use Rattle.castle_rights.specs.CastleRights.{lettersOf, lettersText}
-use Rattle.chess_move.specs.Coordinate.{promotionNamed, readMove}
+use Rattle.chess_move.specs.Coordinate.{promotionNamed, withDest, withSource, readMove}
 use Rattle.fen_text.specs.Token.{onto, joined, tokens, placeAfter, placeWhere}
 use Rattle.fen_text.specs.Placement.{placeByte, placeAll}
 use Rattle.fen_text.specs.Read.{sideOf, rightsOf, sided, assembled, ofTokens, readFen}
@@ -23,7 +23,7 @@ use Rattle.fen_text.specs.Write.{digitText, runText, slashText, ranksText, righ
 use Rattle.rows.specs.Rows.{SixteenRows}
 
 pub sixteen-rows : SixteenRows
-unfolding writeAnswer writeBytes ascii allAtMost kindOf inRange listInRange among count firstOf placeFrom squareAt same promotionKind pieceKind isCheck after pieceOr readTakes readRank readFile readPiece readEnd readPromotion readDest readText agrees fits captureTest soleThat castlingMove castle castled resolved readAnswer optional promotionLetter pieceLetter changesFiles takesOf headOf candidates names castlingName firstName kingFirst nameOf nameText nameCheck markOf endOf sanText readSquare pieceOf letterOf lettersOf lettersText onto joined tokens placeAfter placeWhere placeByte placeAll sideOf rightsOf sided assembled ofTokens readFen digitText runText slashText ranksText rightsText enPassantText tailText fenText promotionNamed readMove
+unfolding writeAnswer writeBytes ascii allAtMost kindOf inRange listInRange among count firstOf placeFrom squareAt same promotionKind pieceKind isCheck after pieceOr readTakes readRank readFile readPiece readEnd readPromotion readDest readText agrees fits captureTest soleThat castlingMove castle castled resolved readAnswer optional promotionLetter pieceLetter changesFiles takesOf headOf candidates names castlingName firstName kingFirst nameOf nameText nameCheck markOf endOf sanText readSquare pieceOf letterOf lettersOf lettersText onto joined tokens placeAfter placeWhere placeByte placeAll sideOf rightsOf sided assembled ofTokens readFen digitText runText slashText ranksText rightsText enPassantText tailText fenText told promotionNamed withDest withSource readMove
 sixteen-rows = record {
   row1 = (refl, refl);
   row2 = refl;

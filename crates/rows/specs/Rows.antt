@@ -1,22 +1,11 @@
 -- Document 01, "Positions and texts to try": the sixteen rows, in its order, over the definitions that the public contracts cite. Where it has 1, order 2
--- of document 02 says which part is wrong, and where.
+-- of document 02 says which part is wrong; from its orders 2 and 3 come the offsets.
 -- Assumes nothing.
-use Prim.Native.Nat.{ℕ}
-use Prim.Native.String.{String}
-use mathlib.Core.Path.{_≡_}
 use mathlib.Core.List.{[], _∷_}
-use Rattle.square.specs.Answer.{accepted, refused, invalidSquare, invalidUciMove, tooFewTokens, badPlacement}
-use Rattle.square.specs.Ascii.{ascii}
-use Rattle.chess_move.specs.Coordinate.{readMove}
+use Rattle.square.specs.Answer.{invalidSquare, invalidUciMove, tooFewTokens, badPlacement}
+use Rattle.chess_move.specs.AtSmallest.{Moves, NoMove}
 use Rattle.fen_text.specs.Rows.{Writes, Refused}
 use Rattle.san_text.specs.Slips.{Reads, Refuses, Named, knight, knights, rook, pawn}
-
--- a coordinate text's answer
-abbrev pub Moves : String → ℕ → Type 0
-Moves text m = readMove (ascii text) ≡ accepted m
-
-abbrev pub NoMove : String → ℕ → Type 0
-NoMove text number = readMove (ascii text) ≡ refused number
 
 pub record SixteenRows : Type 0 where
   pub row1 : Writes " w - -" "8/8/8/8/8/8/8/8 w - - 0 1"
@@ -25,8 +14,8 @@ pub record SixteenRows : Type 0 where
   pub row4 : Writes "8/8/8/8/8/8/8/8 w - e4" "8/8/8/8/8/8/8/8 w - e6 0 1"
   pub row5 : Writes "8/8/8/8/8/8/8/8 b - z9" "8/8/8/8/8/8/8/8 b - - 0 1"
   pub row6 : (Moves "e2e4q" 22284) × (Moves "e2e4qx" 1804)
-  pub row7 : (NoMove "e2e4k" invalidUciMove) × (NoMove "e2e" invalidUciMove)
-  pub row8 : NoMove "z9e4" invalidSquare
+  pub row7 : (NoMove "e2e4k" invalidUciMove 4) × (NoMove "e2e" invalidUciMove 3)
+  pub row8 : NoMove "z9e4" invalidSquare 0
   -- knight b1, list 1153
   pub row9 : Reads knight (1153 ∷ []) "Nc3+?!" 1153
   pub row10 : Refuses knight (1153 ∷ []) "Nc3x"
