@@ -9,21 +9,23 @@ use native.Mathlib.Omega.{arith}
 use lib.Bits.{bitOr, or-lt, or-add-and, and-le-l, and-le-r}
 use lib.Dec.{eqb, ltb, lit<}
 use borrow.Author.Tests.{eq-eqb, ne-eqb, lt-ltb, le-ltb, le-leb, ltb-true, ltb-false}
-use lib.ListN.{length, take, drop, getD, set, replicate}
+use lib.ListN.{length, take, getD, set, replicate}
 use lib.Seq.{set-getD, take-suc, length-take-le}
 use Rattle.square.specs.Answer.{badPlacement, badSide}
 use Rattle.square.specs.Square.{squareOf}
 use Rattle.square.specs.Piece.{pieceOf}
 use Rattle.board_builder.specs.BoardBuilder.{board}
-use Rattle.fen_text.specs.Token.{placeOf}
+use Rattle.fen_text.specs.Token.{tokens}
 use Rattle.fen_text.specs.Placement.{Placement, placement, start, placeByte, placeAll, firstBad}
 use Rattle.fen_text.specs.Read.{sideOf, rightsOf, enPassantOf, refusedAt, fenOf, sided, assembled, readFen}
+use Rattle.fen_text.specs.Faults.{tokenAt}
 use Rattle.fen_text.proofs.Cases.{cond-both}
+use Rattle.fen_text.proofs.Faults.{four}
 use Rattle.fen_text.proofs.Placed.{place-append}
 use Rattle.fen_text.proofs.Keys.{piece-most}
-use Rattle.fen_reader.specs.Class.{refused, classOf, pieceAfter, stepOf, fileAfter, rankAfter}
+use Rattle.fen_reader.specs.Class.{NoPlacement, refused, classOf, pieceAfter, stepOf, fileAfter, rankAfter}
 use Rattle.fen_reader.proofs.Classes.{Kind, slash, digit, letter, other, kind, class-slash, class-digit, class-letter, class-other}
-use Rattle.fen_reader.proofs.Reading.{Cut, four-tokens}
+use Rattle.fen_reader.proofs.Reading.{first-token}
 
 -- the square to fill next stays on the board
 pub file-small : (file c : ℕ) → fileAfter file c < 8
@@ -97,12 +99,13 @@ pub bad-placement : (s : List ℕ) (n : ℕ) (b c d : List ℕ) → placeAll sta
 unfolding assembled
 bad-placement s n b c d e = simp e
 
--- the same of a text of which three tokens were cut off
-pub bad-first : {s : List ℕ} {a : ℕ} {t : List ℕ} {b : ℕ} {u : List ℕ} {c : ℕ}
-    → Cut s a t → Cut t b u → Cut u c (drop (c + 1) u) → placeAll start (take a s) .good ≡ false
-    → readFen s ≡ refusedAt badPlacement (firstBad (take a s))
-bad-first {s} {a} {t} {b} {u} {c} h k l e =
-    four-tokens h k l refl refl refl refl refl ∙ bad-placement s a (take b t) (take c u) (take (placeOf 32 (drop (c + 1) u)) (drop (c + 1) u)) e
+-- the same of a text with enough tokens, of which the first was walked
+pub bad-first : (s : List ℕ) (n : ℕ) → NoPlacement s n → 4 ≤ length (tokens s) → readFen s ≡ refusedAt badPlacement (firstBad (take n s))
+bad-first s n h k =
+    let first : tokenAt 0 s ≡ take n s = ap (λ (ts : List (List ℕ)). getD ts 0 []) (first-token s .1) ∙ ap (λ (m : ℕ). take m s) (sym (h .place)) in
+    four s k
+    ∙ ap (λ (t : List ℕ). assembled t (tokenAt 1 s) (tokenAt 2 s) (tokenAt 3 s)) first
+    ∙ bad-placement s n (tokenAt 1 s) (tokenAt 2 s) (tokenAt 3 s) (h .bad)
 
 pub good-placement : (s : List ℕ) (n : ℕ) (pieces b c d : List ℕ)
     → n ≤ length s → placeAll start (take n s) .good ≡ true → placeAll start (take n s) .pieces ≡ pieces

@@ -37,8 +37,8 @@ first-by : (s : List ℕ) → Dec (length s ≤ placeOf 32 s) → (ts : List (Li
 first-by s (yes h) = ([], tokens-last s h ∙ ap (λ (t : List ℕ). t ∷ []) (sym (take-all (placeOf 32 s) s h)))
 first-by s (no n) = (tokens (drop (suc (placeOf 32 s)) s), tokens-next s (omega arith))
 
-pub first : (s : List ℕ) → (ts : List (List ℕ)) × (tokens s ≡ take (placeOf 32 s) s ∷ ts)
-first s = first-by s (decLe (length s) (placeOf 32 s))
+pub first-token : (s : List ℕ) → (ts : List (List ℕ)) × (tokens s ≡ take (placeOf 32 s) s ∷ ts)
+first-token s = first-by s (decLe (length s) (placeOf 32 s))
 
 pub one-token : {s : List ℕ} {a : ℕ} → Last s a → readFen s ≡ refusedAt tooFewTokens (length s)
 unfolding readFen ofTokens
@@ -58,4 +58,4 @@ pub four-tokens : {s : List ℕ} {a : ℕ} {t : List ℕ} {b : ℕ} {u : List �
     → p ≡ take a s → q ≡ take b t → x ≡ take c u → y ≡ take d v
     → readFen s ≡ assembled p q x y
 unfolding readFen ofTokens
-four-tokens {v} h k l e ep eq ex ey = rw (cut h, cut k, cut l, first v .1, ep, eq, ex, ey, e)
+four-tokens {v} h k l e ep eq ex ey = rw (cut h, cut k, cut l, first-token v .1, ep, eq, ex, ey, e)

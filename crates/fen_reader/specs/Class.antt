@@ -3,7 +3,7 @@
 -- Assumes nothing.
 use Prim.Native.Nat.{ℕ, _+_, _-_, _%_}
 use mathlib.Core.Path.{_≡_}
-use mathlib.Core.Bool.{cond}
+use mathlib.Core.Bool.{false, cond}
 use mathlib.Core.List.{List, [], _∷_}
 use lib.Dec.{eqb, ltb}
 use lib.ListN.{take, set}
@@ -46,6 +46,11 @@ pub record Walk (s : List ℕ) (r : Walked) : Type 0 where
   pub place : r .end ≡ placeOf 32 s
   pub pieces : placeAll start (take (r .end) s) .pieces ≡ r .pieces
   pub good : placeAll start (take (r .end) s) .good ≡ ltb (r .seen) refused
+
+-- the first token of a text ends there, and is no placement
+pub record NoPlacement (s : List ℕ) (end : ℕ) : Type 0 where
+  pub place : end ≡ placeOf 32 s
+  pub bad : placeAll start (take end s) .good ≡ false
 
 -- both sides' rights
 abbrev pub sidesOf : List ℕ → Sides

@@ -11,6 +11,7 @@ use square::BAD_SIDE;
 use square::TOO_FEW_TOKENS;
 ghost use mathlib.Core.Path.{_≡_};
 ghost use Rattle.fen_text.specs.Read.{sideOf, refusedAt, sided, readFen};
+ghost use Rattle.fen_reader.specs.Class.{NoPlacement};
 
 fn refused_at(number: u64, offset: usize) -> Fen
     ensures { λ r. ⌜ r ≡ refusedAt number offset ⌝ }
@@ -46,13 +47,27 @@ fn assemble(at: usize, pieces: [u8; 64], side: &[u8], castling: &[u8], ep: &[u8]
     }
 }
 
-// Three tokens must follow the first, each byte of which must be one of a placement; what stands behind them is not looked at. Where a placement is bad
-// is looked for only then.
+// A text whose first token, which ends at `end`, is no placement: too few tokens are told first. The place of a bad byte is looked for here alone, so that
+// the walk over a good text carries nothing for it.
+fn no_placement(text: &[u8], end: usize) -> Fen
+    requires { ⌜ NoPlacement (now text) end ⌝ }
+    ensures { λ r. ⌜ r ≡ readFen (now (text .entry)) ⌝ }
+{
+    if token::spaces(text) < 3 {
+        return refused_at(TOO_FEW_TOKENS, text.len());
+    }
+    refused_at(BAD_PLACEMENT, placement::first_bad(token::up_to(text, end)))
+}
+
+// Each byte of the first token must be one of a placement, and three more tokens must follow; what stands behind them is not looked at.
 pub fn read_fen(text: &[u8]) -> Fen
     ensures { λ r. ⌜ r ≡ readFen (now (text .entry)) ⌝ }
 {
     let walked = placement::place(text);
     let end = walked.end;
+    if REFUSED <= walked.seen {
+        return no_placement(text, end);
+    }
     if text.len() <= end {
         return refused_at(TOO_FEW_TOKENS, text.len());
     }
@@ -65,9 +80,6 @@ pub fn read_fen(text: &[u8]) -> Fen
     let rights_end = token::find(from_rights, b' ');
     if from_rights.len() <= rights_end {
         return refused_at(TOO_FEW_TOKENS, text.len());
-    }
-    if REFUSED <= walked.seen {
-        return refused_at(BAD_PLACEMENT, placement::first_bad(token::up_to(text, end)));
     }
     let from_ep = token::after(from_rights, rights_end);
     let ep_end = token::find(from_ep, b' ');

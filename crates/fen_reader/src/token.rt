@@ -4,8 +4,8 @@ ghost use mathlib.Core.Path.{_≡_};
 ghost use mathlib.Core.Bool.{cond};
 ghost use Prim.Native.Nat.{_+_};
 ghost use lib.Dec.{eqb};
-ghost use lib.ListN.{take, drop};
-ghost use Rattle.fen_text.specs.Token.{placeOf};
+ghost use lib.ListN.{length, take, drop};
+ghost use Rattle.fen_text.specs.Token.{placeOf, tokens};
 ghost use Rattle.fen_text.specs.Read.{sideOf, enPassantOf};
 ghost use Rattle.fen_reader.specs.Class.{sidesOf};
 
@@ -21,6 +21,25 @@ pub(crate) fn find(s: &[u8], b: u8) -> usize
         i += 1;
     }
     i
+}
+
+fn one_if(space: bool) -> usize
+    ensures { λ r. ⌜ r ≡ cond space 1 0 ⌝ }
+{
+    if space { 1 } else { 0 }
+}
+
+// How many spaces there are: one less than tokens.
+pub(crate) fn spaces(s: &[u8]) -> usize
+    ensures { λ r. ⌜ r + 1 ≡ length (tokens (now (s .entry))) ⌝ }
+{
+    let mut n: usize = 0;
+    let mut i: usize = 0;
+    while i < s.len() {
+        n += one_if(s[i] == b' ');
+        i += 1;
+    }
+    n
 }
 
 // What stands before the place `at`.

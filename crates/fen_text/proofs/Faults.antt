@@ -226,7 +226,7 @@ is-fen : {f g : Fen} → f ≡ g → g ≡ fenOf (g .board) → f ≡ fenOf (f .
 is-fen e h = rw e h
 
 module _ (s : List ℕ) (h : 4 ≤ length (tokens s)) where
-  four : readFen s ≡ assembled (tokenAt 0 s) (tokenAt 1 s) (tokenAt 2 s) (tokenAt 3 s)
+  pub four : readFen s ≡ assembled (tokenAt 0 s) (tokenAt 1 s) (tokenAt 2 s) (tokenAt 3 s)
   unfolding readFen
   four = enough (length s) (tokens s) h
 
@@ -248,7 +248,7 @@ module _ (s : List ℕ) (h : 4 ≤ length (tokens s)) where
       (record { enough = h; within = at .within; bad = at .bad; none-before = at .none-before })
       (four ∙ simp f)
 
-few-read : (s : List ℕ) → TooFew s → readFen s ≡ refusedAt tooFewTokens (length s)
+pub few-read : (s : List ℕ) → TooFew s → readFen s ≡ refusedAt tooFewTokens (length s)
 unfolding readFen
 few-read s h = too-few (length s) (tokens s) h
 

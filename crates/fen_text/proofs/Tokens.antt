@@ -1,7 +1,7 @@
 -- Laws of the tokens' definitions, by the shapes of a list that the code tells apart: its length and its first bytes.
 -- Assumes nothing.
-use mathlib.Core.Path.{_≡_, refl, ap}
-use mathlib.Core.Bool.{Bool, true, false}
+use mathlib.Core.Path.{_≡_, refl, ap, _∙_}
+use mathlib.Core.Bool.{Bool, true, false, cond}
 use mathlib.Core.List.{List, [], _∷_}
 use Prim.Native.Nat.{ℕ, suc, _+_, _≤_, _<_}
 use native.Mathlib.Nat.{add-zero}
@@ -73,3 +73,27 @@ pub tokens-next : (s : List ℕ) → placeOf 32 s < length s → tokens s ≡ ta
 unfolding placeWhere tokens
 tokens-next [] h = absurd (omega arith)
 tokens-next (x ∷ s) h = tokens-step (eqb x 32) x (placeOf 32 s) s (tokens-next s) h
+
+-- how many tokens there are: one more than spaces, counted from the front
+length-onto : (x : ℕ) (ts : List (List ℕ)) → 0 < length ts → length (onto x ts) ≡ length ts
+unfolding onto
+length-onto x [] h = absurd (omega arith)
+length-onto x (t ∷ ts) h = refl
+
+length-joined : (t : Bool) (x : ℕ) (ts : List (List ℕ)) → 0 < length ts → length (joined t x ts) ≡ cond t 1 0 + length ts
+unfolding joined
+length-joined true x ts h = omega arith
+length-joined false x ts h = length-onto x ts h ∙ omega arith
+
+some-tokens : (s : List ℕ) → 0 < length (tokens s)
+unfolding tokens
+some-tokens [] = omega arith
+some-tokens (x ∷ s) = omega (arith, length-joined (eqb x 32) x (tokens s) (some-tokens s), some-tokens s)
+
+pub count-turn : (s : List ℕ) (i : ℕ) → i < length s → length (tokens (drop i s)) ≡ cond (eqb (getD s i 0) 32) 1 0 + length (tokens (drop (i + 1) s))
+unfolding tokens
+count-turn s i h = rw (add-one i, drop-cons s i 0 h) (length-joined (eqb (getD s i 0) 32) (getD s i 0) (tokens (drop (suc i) s)) (some-tokens (drop (suc i) s)))
+
+pub count-end : (s : List ℕ) (i : ℕ) → length s ≤ i → length (tokens (drop i s)) ≡ 1
+unfolding tokens
+count-end s i h = rw (drop-of-length-le s h)

@@ -3,47 +3,34 @@ use mathlib.Core.Path.{sym, ap, _∙_}
 use Rattle.fen_text.specs.Read.{fileRead}
 use Rattle.fen_reader.proofs.token.en_passant.Statement.{statement}
 use Rattle.fen_reader.proofs.token.en_passant.Tie as tie
-use Rattle.fen_reader.proofs.token.en_passant.Reads as reads
-use Rattle.fen_reader.proofs.token.en_passant.Lts as lts
-use Rattle.square.proofs.from_str.Reads as from-str-reads
 
--- src/token.rt:100:9
 from-str-requires : tie.Need-from-str-requires
 from-str-requires c κs = search needs
 
--- src/token.rt:102:22
 enum-known-pair : tie.Need-enum-known-pair
 enum-known-pair c = search needs
 
--- src/token.rt:102:28
 add-result : tie.Need-add-result
 add-result c = search needs
 
--- src/token.rt:103:26
 enum-told : tie.Need-enum-told
 enum-told c = search needs
 
--- src/token.rt:104:26
 enum-told-2 : tie.Need-enum-told-2
 enum-told-2 c = search needs
 
--- src/token.rt:105:26
 enum-told-3 : tie.Need-enum-told-3
 enum-told-3 c = search needs
 
--- src/token.rt:97:1
 returns : tie.Need-returns
 returns c = sym (ap fileRead (sym (c .before .before .before .from-str .ensures) ∙ c .before .pair .given .1))
 
--- src/token.rt:97:1
 returns-2 : tie.Need-returns-2
 returns-2 c = sym (ap fileRead (sym (c .before .before .from-str .ensures) ∙ c .enum-told .given .1))
 
--- src/token.rt:97:1
 returns-3 : tie.Need-returns-3
 returns-3 c = sym (ap fileRead (sym (c .before .before .from-str .ensures) ∙ c .enum-told2 .given .1))
 
--- src/token.rt:97:1
 returns-4 : tie.Need-returns-4
 returns-4 c = sym (ap fileRead (sym (c .before .before .from-str .ensures) ∙ c .enum-told3 .given .1))
 
