@@ -1,8 +1,8 @@
 /* The host's side of target/staticlib/libmenkhodur.a, for C (from C99) and C++ (from C++11).
  *
- * Numbers, records, moves, logs and texts are those of docs/papers/01-scope.md ("document 01"), rolls and the refusals of FEN texts those
- * of docs/papers/02-change-requests.md ("document 02"); the names and the order of the parameters are those of docs/papers/HOST-ABI.md.
- * tools/abi compares them, and the constants below, with the crates.
+ * Numbers, records, moves, logs and texts are those of docs/papers/01-scope.md ("document 01"), rolls, the refusals of FEN texts and the
+ * offsets in texts those of docs/papers/02-change-requests.md ("document 02"); the names and the order of the parameters are those of
+ * docs/papers/HOST-ABI.md. tools/abi compares them, and the constants below, with the crates.
  *
  * What every function does: it answers for every value of its numbers, it ends, it keeps nothing between calls and allocates
  * nothing, and it reads and writes only what it was lent. A refused call (a number other than 0) changes no lent byte.
@@ -30,7 +30,7 @@
 
 /* Rises by one with each landing that adds or changes a function. CHANGELOG.md tells what a host must change, and a struct that has
  * changed says beside it since which version it is so. */
-#define MENKHODUR_VERSION 3
+#define MENKHODUR_VERSION 4
 
 #ifdef __cplusplus
 extern "C" {
@@ -190,6 +190,9 @@ typedef struct {
 
 /* `value` is the answer of number 0, the length needed of number 7, and 0 of every other number. */
 typedef struct { uint64_t number; uint64_t value; } menkhodur_answer;
+/* The same of a text; `offset` is the place in it of what is wrong, and 0 of number 0. Since version 4 this is the answer of
+ * menkhodur_move_read; until then it was a menkhodur_answer. */
+typedef struct { uint64_t number; uint64_t value; uint64_t offset; } menkhodur_placed;
 typedef struct { uint64_t number; menkhodur_board board; } menkhodur_stepped;
 /* Since version 3 `offset` is the place in the text of what is wrong with it, and 0 of number 0; until then it was 0 in every answer. */
 typedef struct { uint64_t number; uint64_t offset; menkhodur_board board; } menkhodur_fen;
@@ -204,6 +207,7 @@ typedef struct { uint64_t number; uint64_t actions; menkhodur_board board; } men
 #ifdef MENKHODUR_ASSERT
 MENKHODUR_ASSERT(sizeof(menkhodur_board) == 68, "a board record has 68 bytes");
 MENKHODUR_ASSERT(sizeof(menkhodur_answer) == 16, "a number and a value");
+MENKHODUR_ASSERT(sizeof(menkhodur_placed) == 24, "a number, a value and an offset");
 MENKHODUR_ASSERT(offsetof(menkhodur_stepped, board) == 8 && sizeof(menkhodur_stepped) == 80, "a number and a board, filled up to 8 bytes");
 MENKHODUR_ASSERT(offsetof(menkhodur_fen, board) == 16 && sizeof(menkhodur_fen) == 88, "two numbers and a board, filled up to 8 bytes");
 MENKHODUR_ASSERT(sizeof(menkhodur_counts) == 24, "a number and two counts");
@@ -268,10 +272,13 @@ menkhodur_answer menkhodur_fen_write(menkhodur_board b, uint8_t *out, size_t roo
 /* ---- Move texts --------------------------------------------------------------------------------------------------------------- */
 /* A move is a number as MENKHODUR_MOVE makes it, at most 28,671. */
 
-/* Reads a coordinate text. 0: the value is the move. Refused, in this order: 3: the first pair of bytes is not there; 2: it is no
- * square; 3: the second pair is not there; 2: it is no square; 3: there are exactly five bytes, and the fifth is none of q r n b.
- * A text of six bytes or more drops its tail, the fifth byte with it. The text is left alone. */
-menkhodur_answer menkhodur_move_read(const uint8_t *text, size_t length);
+/* Reads a coordinate text: two pairs of bytes, each a file a to h and a rank 1 to 8. 0: the value is the move, and the offset is 0.
+ * Refused, in this order, with the value 0: 3: the first pair is not there; the offset is the text's length, 0 or 1. 2: it is no square;
+ * the offset is the place of its file byte, 0, or if only its rank byte is wrong the place of that, 1. 3: the second pair is not there;
+ * the offset is the text's length, 2 or 3. 2: it is no square; the offset is that of its file byte, 2, or of its rank byte, 3. 3: there
+ * are exactly five bytes, and the fifth is none of q r n b; the offset is 4. A text of six bytes or more drops its tail, the fifth byte
+ * with it. The text is left alone. */
+menkhodur_placed menkhodur_move_read(const uint8_t *text, size_t length);
 
 /* Writes a coordinate text, 4 or 5 bytes. 0: it is at the front of `out`, and the value is its length; the bytes of `out` behind it
  * are left alone. Refused, in this order, with all of `out` left alone: 6: the move is over 28,671, at any size; 7: `room` is shorter

@@ -24,6 +24,11 @@ uint64_t wide_over(unsigned i, uint64_t low)
     return (wide[i] & ~UINT64_C(65535)) + low;
 }
 
+bool is_in(const char *bytes, uint8_t byte)
+{
+    return byte && strchr(bytes, byte);
+}
+
 unsigned any(unsigned below)
 {
     static uint64_t seed = UINT64_C(88172645463325252);
@@ -69,6 +74,13 @@ void expect_answer(uint64_t number, uint64_t value, menkhodur_answer got)
 {
     expect("number", number, got.number);
     expect("value", value, got.value);
+}
+
+void expect_placed(menkhodur_placed want, menkhodur_placed got)
+{
+    expect("number", want.number, got.number);
+    expect("value", want.value, got.value);
+    expect("offset", want.offset, got.offset);
 }
 
 static void expect_bytes(const char *what, const uint8_t *want, const uint8_t *got, size_t length, size_t before)

@@ -11,6 +11,7 @@ void about(const char *function, const char *input, ...) __attribute__((format(p
 
 void expect(const char *what, uint64_t want, uint64_t got);
 void expect_answer(uint64_t number, uint64_t value, menkhodur_answer got);
+void expect_placed(menkhodur_placed want, menkhodur_placed got);
 void expect_board(const menkhodur_board *want, const menkhodur_board *got);
 
 /* The numbers that a function can answer, a bit for each. */
@@ -53,6 +54,9 @@ menkhodur_board board_with(uint8_t side, unsigned men, const uint8_t *squares, c
 enum { WIDE = 8 };
 extern const uint64_t wide[WIDE];
 uint64_t wide_over(unsigned i, uint64_t low);
+
+/* Whether a byte is one of those of a text; 0 never is. */
+bool is_in(const char *bytes, uint8_t byte);
 
 /* A number below the bound that looks random and is the same each time. */
 unsigned any(unsigned below);

@@ -142,11 +142,6 @@ static void check_refused(void)
     }
 }
 
-static bool is_in(const char *bytes, uint8_t byte)
-{
-    return byte && strchr(bytes, byte);
-}
-
 /* "too few tokens (the text's length), a bad placement byte (its place), a bad side token (its start)", "tested in that order". */
 static struct fault fault_of(const uint8_t *text, size_t length)
 {

@@ -9,47 +9,83 @@ static const char move_write[] = "menkhodur_move_write";
 static const char san_read[] = "menkhodur_san_read";
 static const char san_name[] = "menkhodur_san_name";
 
-static void check_coordinate(const char *text, uint64_t number, uint64_t move)
+static menkhodur_placed read_as(uint64_t move)
 {
-    struct part lent = lend_text(text);
-    about(move_read, "text `%s`", text);
-    expect_answer(number, move, menkhodur_move_read(lent.bytes, lent.length));
+    return (menkhodur_placed){ MENKHODUR_ACCEPTED, move, 0 };
+}
+
+static menkhodur_placed refused(uint64_t number, uint64_t offset)
+{
+    return (menkhodur_placed){ number, 0, offset };
+}
+
+static void check_bytes(const void *text, size_t length, menkhodur_placed want)
+{
+    struct part lent = lend_bytes(text, length);
+    about(move_read, "text `%.*s`", (int)length, (const char *)text);
+    expect_placed(want, menkhodur_move_read(lent.bytes, lent.length));
     expect_unchanged("text", &lent);
     give_back(&lent);
 }
 
-/* Every cut of a text, so that each pair is once not there; document 01's rows. */
-static void check_coordinate_rows(void)
+static void check_coordinate(const char *text, menkhodur_placed want)
 {
-    check_coordinate("", MENKHODUR_INVALID_UCI_MOVE, 0);
-    check_coordinate("e", MENKHODUR_INVALID_UCI_MOVE, 0);
-    check_coordinate("z", MENKHODUR_INVALID_UCI_MOVE, 0);
-    check_coordinate("e2", MENKHODUR_INVALID_UCI_MOVE, 0);
-    check_coordinate("z9", MENKHODUR_INVALID_SQUARE, 0);
-    check_coordinate("e2e", MENKHODUR_INVALID_UCI_MOVE, 0);
-    check_coordinate("z9e", MENKHODUR_INVALID_SQUARE, 0);
-    check_coordinate("e2e4", MENKHODUR_ACCEPTED, 1804);
-    check_coordinate("z9e4", MENKHODUR_INVALID_SQUARE, 0);
-    check_coordinate("e2z9", MENKHODUR_INVALID_SQUARE, 0);
-    check_coordinate("e2e9", MENKHODUR_INVALID_SQUARE, 0);
-    check_coordinate("e2i4", MENKHODUR_INVALID_SQUARE, 0);
-    check_coordinate("e0e4", MENKHODUR_INVALID_SQUARE, 0);
-    check_coordinate("E2E4", MENKHODUR_INVALID_SQUARE, 0);
-    check_coordinate("e2e4q", MENKHODUR_ACCEPTED, 22284);
-    check_coordinate("e2e4qx", MENKHODUR_ACCEPTED, 1804);
-    check_coordinate("e2e4k", MENKHODUR_INVALID_UCI_MOVE, 0);
-    check_coordinate("e2z9k", MENKHODUR_INVALID_SQUARE, 0);
-    check_coordinate("z9e4k", MENKHODUR_INVALID_SQUARE, 0);
-    check_coordinate("e2e4kxxxxxxxxxxxxxxxxxxxxx", MENKHODUR_ACCEPTED, 1804);
+    check_bytes(text, strlen(text), want);
 }
 
-static void check_fifth_bytes(void)
+/* Every cut of a text, so that each pair is once not there; document 01's rows. The offsets are counted by hand. */
+static void check_coordinate_rows(void)
 {
-    for (unsigned byte = 1; byte < 256; byte++) {
-        char text[6] = { 'e', '2', 'e', '4', (char)byte, 0 };
-        unsigned promotion = byte == 'n' ? 2 : byte == 'b' ? 3 : byte == 'r' ? 4 : byte == 'q' ? 5 : 0;
-        if (promotion) check_coordinate(text, MENKHODUR_ACCEPTED, 1804 + 4096 * promotion);
-        else check_coordinate(text, MENKHODUR_INVALID_UCI_MOVE, 0);
+    static const struct { const char *text; uint64_t number, offset; } rows[] = {
+        { "", 3, 0 }, { "e", 3, 1 }, { "z", 3, 1 }, { "2", 3, 1 }, { "e2", 3, 2 }, { "e2e", 3, 3 }, { "e2z", 3, 3 }, { "z9", 2, 0 },
+        { "z2", 2, 0 }, { "e9", 2, 1 }, { "z2e", 2, 0 }, { "z9e", 2, 0 }, { "e9e", 2, 1 }, { "z9e4", 2, 0 }, { "E2E4", 2, 0 },
+        { "2ee4", 2, 0 }, { "e0e4", 2, 1 }, { "eee4", 2, 1 }, { "e2z9", 2, 2 }, { "e2i4", 2, 2 }, { "e24e", 2, 2 }, { "e2e9", 2, 3 },
+        { "z9z9", 2, 0 }, { "e9z9", 2, 1 }, { "e2z9k", 2, 2 }, { "e2e9k", 2, 3 }, { "z9e4k", 2, 0 }, { "e2e4k", 3, 4 }, { "e2e4 ", 3, 4 },
+        { "\xff\xff", 2, 0 }, { "h\xc3\xa9", 2, 1 }, { "e2e9 and a tail", 2, 3 }, { "e2\xc3\xa9 and a tail", 2, 2 },
+    };
+    for (size_t i = 0; i < sizeof rows / sizeof *rows; i++) check_coordinate(rows[i].text, refused(rows[i].number, rows[i].offset));
+    check_coordinate("e2e4", read_as(1804));
+    check_coordinate("e2e4q", read_as(22284));
+    check_coordinate("e2e4qx", read_as(1804));
+    check_coordinate("e2e4kxxxxxxxxxxxxxxxxxxxxx", read_as(1804));
+}
+
+/* Document 02, order 3: "the faulty byte's, or the text's length where a pair is not there", the file byte's if both of a pair are faulty.
+ * Numbers and moves are document 01's. */
+static menkhodur_placed owed(const uint8_t *text, size_t length)
+{
+    static const char promotions[] = "nbrq";
+    uint64_t move = 0;
+    for (size_t pair = 0; pair < 4; pair += 2) {
+        if (length < pair + 2) return refused(MENKHODUR_INVALID_UCI_MOVE, length);
+        if (!is_in("abcdefgh", text[pair])) return refused(MENKHODUR_INVALID_SQUARE, pair);
+        if (!is_in("12345678", text[pair + 1])) return refused(MENKHODUR_INVALID_SQUARE, pair + 1);
+        move += (pair ? 64 : 1) * (uint64_t)(8 * (text[pair + 1] - '1') + text[pair] - 'a');
+    }
+    if (length != 5) return read_as(move);
+    if (!is_in(promotions, text[4])) return refused(MENKHODUR_INVALID_UCI_MOVE, 4);
+    return read_as(move + 4096 * (uint64_t)(2 + strchr(promotions, text[4]) - promotions));
+}
+
+/* All texts of up to 6 bytes over a file that promotes too, the last file and rank, a byte past each, and a promotion that is no file. */
+static void check_short_texts(void)
+{
+    static const char bytes[] = "bh8i9q";
+    for (unsigned length = 0, count = 1; length <= 6; length++, count *= 6)
+        for (unsigned n = 0; n < count; n++) {
+            uint8_t text[6];
+            for (unsigned i = 0, left = n; i < length; i++, left /= 6) text[i] = (uint8_t)bytes[left % 6];
+            check_bytes(text, length, owed(text, length));
+        }
+}
+
+/* Every byte in each place of a text that is good without it. */
+static void check_every_byte(void)
+{
+    for (unsigned n = 0; n < 5 * 256; n++) {
+        uint8_t text[5] = { 'e', '2', 'e', '4', 'q' };
+        text[n / 256] = (uint8_t)(n % 256);
+        check_bytes(text, 5, owed(text, 5));
     }
 }
 
@@ -78,7 +114,7 @@ static void check_read_back(uint64_t move)
     unsigned promotion = (unsigned)(move / 4096);
     bool read = promotion != 1 && promotion != 6;
     coordinate_text(move, text);
-    check_coordinate(text, read ? MENKHODUR_ACCEPTED : MENKHODUR_INVALID_UCI_MOVE, read ? move : 0);
+    check_coordinate(text, read ? read_as(move) : refused(MENKHODUR_INVALID_UCI_MOVE, 4));
 }
 
 static void check_every_move(void)
@@ -108,7 +144,8 @@ static void check_no_move(uint64_t move)
 void check_coordinates(void)
 {
     check_coordinate_rows();
-    check_fifth_bytes();
+    check_short_texts();
+    check_every_byte();
     check_every_move();
     for (uint64_t move = MENKHODUR_LAST_MOVE + 1; move < 65536; move += 7) check_no_move(move);
     for (unsigned i = 0; i < WIDE; i++) check_no_move(wide[i]), check_no_move(wide_over(i, 1804));

@@ -17,7 +17,7 @@ static void check_texts(void)
     expect("offset", 0, fen.offset);
     expect_board(&no_board, &fen.board);
     about("menkhodur_move_read", "NULL text");
-    expect_answer(MENKHODUR_INVALID_UCI_MOVE, 0, menkhodur_move_read(NULL, 0));
+    expect_placed((menkhodur_placed){ MENKHODUR_INVALID_UCI_MOVE, 0, 0 }, menkhodur_move_read(NULL, 0));
     about("menkhodur_san_read", "NULL text");
     expect_answer(MENKHODUR_INVALID_SAN_MOVE, 0, menkhodur_san_read(knight(), one_move, 1, NULL, 0));
 }

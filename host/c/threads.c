@@ -58,10 +58,12 @@ static unsigned wrong_texts(void)
 {
     uint8_t room[MENKHODUR_LONGEST_FEN];
     menkhodur_fen fen = menkhodur_fen_read(key_of_all.bytes, key_of_all.length);
+    menkhodur_placed moved;
     unsigned wrong = !is_board(&initial, (menkhodur_stepped){ fen.number, fen.board });
     wrong += !is(MENKHODUR_ACCEPTED, strlen(key), menkhodur_fen_write(initial, room, sizeof room)) || memcmp(room, key, strlen(key)) != 0;
     wrong += !is(MENKHODUR_ACCEPTED, 4, menkhodur_move_write(round_move(0), room, sizeof room));
-    wrong += !is(MENKHODUR_ACCEPTED, round_move(0), menkhodur_move_read(room, 4));
+    moved = menkhodur_move_read(room, 4);
+    wrong += !is(MENKHODUR_ACCEPTED, round_move(0), (menkhodur_answer){ moved.number, moved.value }) || moved.offset != 0;
     wrong += !is(MENKHODUR_ACCEPTED, round_move(0), menkhodur_san_read(initial, list_of(&list_of_all), 2, name_of_all.bytes, name_of_all.length));
     wrong += !is(MENKHODUR_ACCEPTED, 3, menkhodur_san_name(initial, list_of(&list_of_all), 2, round_move(0), room, sizeof room));
     return wrong + (memcmp(room, name_of_all.bytes, 3) != 0);

@@ -1,4 +1,5 @@
-/* Squares, rights, board steps and texts: what document 01 says of their answers and of the bytes lent, and document 02 of refused FENs. */
+/* Squares, rights, board steps and texts: what document 01 says of their answers and of the bytes lent, and document 02 of refused FENs and
+ * coordinate texts. */
 #include "fuzz.h"
 
 #include <string.h>
@@ -303,9 +304,11 @@ void call_fen_read(struct input *in)
 
 /* ---- Coordinate texts ---- */
 
-static bool is_square(const uint8_t *s)
+/* Which byte of a pair is no square's: 0 for the file's, also if both are, 1 for the rank's, 2 for none. */
+static size_t bad_byte(const uint8_t *s)
 {
-    return s[0] >= 'a' && s[0] <= 'h' && s[1] >= '1' && s[1] <= '8';
+    if (s[0] < 'a' || s[0] > 'h') return 0;
+    return s[1] < '1' || s[1] > '8' ? 1 : 2;
 }
 
 static unsigned square_of(const uint8_t *s)
@@ -313,24 +316,38 @@ static unsigned square_of(const uint8_t *s)
     return 8u * (s[1] - '1') + (s[0] - 'a');
 }
 
-static menkhodur_answer model_move(const uint8_t *s, size_t length)
+static menkhodur_placed refused_move(uint64_t number, size_t offset)
+{
+    return (menkhodur_placed){ number, 0, offset };
+}
+
+/* Document 02, order 3: 2 with the place of the faulty byte, 3 with the text's length where a pair is not there, or with 4 for a bad fifth. */
+static menkhodur_placed model_move(const uint8_t *s, size_t length)
 {
     uint64_t promotion = 0;
-    if (length < 2) return accepted_if(false, 0, 3);
-    if (!is_square(s)) return accepted_if(false, 0, 2);
-    if (length < 4) return accepted_if(false, 0, 3);
-    if (!is_square(s + 2)) return accepted_if(false, 0, 2);
+    if (length < 2) return refused_move(3, length);
+    if (bad_byte(s) < 2) return refused_move(2, bad_byte(s));
+    if (length < 4) return refused_move(3, length);
+    if (bad_byte(s + 2) < 2) return refused_move(2, 2 + bad_byte(s + 2));
     if (length == 5) promotion = s[4] == 'n' ? 2 : s[4] == 'b' ? 3 : s[4] == 'r' ? 4 : s[4] == 'q' ? 5 : 7;
-    return accepted_if(promotion < 7, square_of(s) + 64 * square_of(s + 2) + 4096 * promotion, 3);
+    if (promotion == 7) return refused_move(3, 4);
+    return (menkhodur_placed){ 0, square_of(s) + 64 * square_of(s + 2) + 4096 * promotion, 0 };
+}
+
+static void expect_placed(menkhodur_placed want, menkhodur_placed got)
+{
+    expect("number", want.number, got.number);
+    expect("value", want.value, got.value);
+    expect("offset", want.offset, got.offset);
 }
 
 void call_move_read(struct input *in)
 {
-    menkhodur_answer want = model_move(in->text, in->length);
+    menkhodur_placed want = model_move(in->text, in->length);
     for (unsigned turn = 0; turn < 2; turn++) {
         lend_text(in, turn);
         about("move_read");
-        expect_answer(want, CALL(turn, menkhodur_move_read, in->length ? text_part.bytes : NULL, in->length));
+        expect_placed(want, CALL(turn, menkhodur_move_read, in->length ? text_part.bytes : NULL, in->length));
         lent_same("text", &text_part);
     }
     if (want.number == 0) in->move = want.value;
@@ -362,5 +379,5 @@ void call_move_write(struct input *in)
     }
     if (!good || (length == 5 && !memchr("qrnb", text[4], 4))) return;
     about("move_read of what move_write writes");
-    expect_answer((menkhodur_answer){ 0, in->move }, menkhodur_move_read(text, length));
+    expect_placed((menkhodur_placed){ 0, in->move, 0 }, menkhodur_move_read(text, length));
 }

@@ -2,7 +2,7 @@
 //   # TEXT                  printed as it is
 // Texts:
 //   F TEXT                  reads a FEN: its number, and the key of the board that was read or the place of what is wrong
-//   C TEXT                  reads a move in coordinates: number and value, and the move written again
+//   C TEXT                  reads a move in coordinates: its number, and its value and the move written again or the place of what is wrong
 //   p CHECK LIST FEN        the position that S and N are asked of; LIST is moves joined by `,`, or `-` for none
 //   S TEXT                  reads a move in SAN: number and value
 //   N MOVE                  names a move: number and value, and the name

@@ -100,11 +100,11 @@ menkhodur_answer menkhodur_san_read(menkhodur_board b, const uint16_t *list, siz
     return real_san_read(b, list, entries, text, length == 6 && memcmp(text, "O-O-O#", 6) == 0 ? 5 : length);
 }
 #elif FAULT == 13 /* WRAPS move_read: something is kept between calls */
-menkhodur_answer real_move_read(const uint8_t *text, size_t length);
-menkhodur_answer menkhodur_move_read(const uint8_t *text, size_t length)
+menkhodur_placed real_move_read(const uint8_t *text, size_t length);
+menkhodur_placed menkhodur_move_read(const uint8_t *text, size_t length)
 {
     static uint8_t last;
-    menkhodur_answer a = real_move_read(text, length);
+    menkhodur_placed a = real_move_read(text, length);
     if (a.number == 0 && last == 'h' && text[0] == 'b') a.value ^= 1;
     last = length ? text[0] : 0;
     return a;
@@ -129,10 +129,10 @@ menkhodur_fen menkhodur_fen_read(const uint8_t *text, size_t length)
     return f;
 }
 #elif FAULT == 16 /* RARE move_read: the one text h8a1r is read as another move */
-menkhodur_answer real_move_read(const uint8_t *text, size_t length);
-menkhodur_answer menkhodur_move_read(const uint8_t *text, size_t length)
+menkhodur_placed real_move_read(const uint8_t *text, size_t length);
+menkhodur_placed menkhodur_move_read(const uint8_t *text, size_t length)
 {
-    menkhodur_answer a = real_move_read(text, length);
+    menkhodur_placed a = real_move_read(text, length);
     if (length == 5 && memcmp(text, "h8a1r", 5) == 0) a.value++;
     return a;
 }
@@ -193,5 +193,29 @@ menkhodur_fen menkhodur_fen_read(const uint8_t *text, size_t length)
     menkhodur_fen f = real_fen_read(text, length);
     if (f.number == 18 && length && text[length - 1] == ' ') f.offset--;
     return f;
+}
+#elif FAULT == 24 /* WRAPS move_read: where both bytes of a pair are bad the rank byte is told */
+menkhodur_placed real_move_read(const uint8_t *text, size_t length);
+menkhodur_placed menkhodur_move_read(const uint8_t *text, size_t length)
+{
+    menkhodur_placed a = real_move_read(text, length);
+    if (a.number == 2 && a.offset % 2 == 0 && (text[a.offset + 1] < '1' || text[a.offset + 1] > '8')) a.offset++;
+    return a;
+}
+#elif FAULT == 25 /* WRAPS move_read: a pair that is not there is told at its start */
+menkhodur_placed real_move_read(const uint8_t *text, size_t length);
+menkhodur_placed menkhodur_move_read(const uint8_t *text, size_t length)
+{
+    menkhodur_placed a = real_move_read(text, length);
+    if (a.number == 3 && length < 4) a.offset = length / 2 * 2;
+    return a;
+}
+#elif FAULT == 26 /* WRAPS move_read: a bad fifth byte is told at the end of the text */
+menkhodur_placed real_move_read(const uint8_t *text, size_t length);
+menkhodur_placed menkhodur_move_read(const uint8_t *text, size_t length)
+{
+    menkhodur_placed a = real_move_read(text, length);
+    if (a.number == 3 && length == 5) a.offset = length;
+    return a;
 }
 #endif

@@ -19,9 +19,16 @@ use std::fmt;
 #[non_exhaustive]
 pub enum Error {
     /// 2: a pair of bytes in a coordinate text, or a text that should be a square, is not one.
-    InvalidSquare,
+    InvalidSquare {
+        /// The place in the text of the pair's file byte, or of its rank byte if the file byte is right. `FromStr` of
+        /// [`Square`](crate::Square) says what it is for a text that has not two bytes.
+        offset: usize,
+    },
     /// 3: the text is not a move in coordinates: a pair is missing, or a fifth and last byte is not q, r, n or b.
-    InvalidUciMove,
+    InvalidUciMove {
+        /// The text's length if a pair is missing, and 4, the place of the fifth byte, if not.
+        offset: usize,
+    },
     /// 4: the text is no SAN text, fits no listed move (as castling that is not listed) or more than one, or is wrong about whether the
     /// move captures.
     InvalidSanMove,
@@ -86,8 +93,8 @@ impl Error {
     #[must_use]
     pub fn number(&self) -> u64 {
         match *self {
-            Error::InvalidSquare => 2,
-            Error::InvalidUciMove => 3,
+            Error::InvalidSquare { .. } => 2,
+            Error::InvalidUciMove { .. } => 3,
             Error::InvalidSanMove => 4,
             Error::OutOfRange => 5,
             Error::ListOutOfRange => 6,
@@ -109,17 +116,19 @@ impl Error {
         }
     }
 
-    /// The place in the text of what is wrong with it, for the numbers that come with one: 18, 19 and 20.
+    /// The place in the text of what is wrong with it, for the numbers that come with one: 2, 3, 18, 19 and 20.
     ///
     /// ```
-    /// use menkhodur::{Board, Error};
+    /// use menkhodur::{Board, Error, Move};
     ///
     /// assert_eq!(Board::from_fen("8/8/8/8/8/8/8/9 w - -").unwrap_err().offset(), Some(14));
+    /// assert_eq!(Move::from_text("e2e9").unwrap_err().offset(), Some(3));
     /// assert_eq!(Error::GameOver.offset(), None);
     /// ```
     #[must_use]
     pub fn offset(&self) -> Option<usize> {
         match *self {
+            Error::InvalidSquare { offset } | Error::InvalidUciMove { offset } => Some(offset),
             Error::TooFewTokens { offset } | Error::BadPlacement { offset } | Error::BadSide { offset } => Some(offset),
             _ => None,
         }
@@ -132,8 +141,8 @@ impl Error {
         let detail = detail as usize;
         Err(match number {
             0 => return Ok(()),
-            2 => Error::InvalidSquare,
-            3 => Error::InvalidUciMove,
+            2 => Error::InvalidSquare { offset: detail },
+            3 => Error::InvalidUciMove { offset: detail },
             4 => Error::InvalidSanMove,
             5 => Error::OutOfRange,
             6 => Error::ListOutOfRange,
@@ -166,8 +175,8 @@ impl Error {
     #[must_use]
     pub fn meaning(&self) -> &'static str {
         match *self {
-            Error::InvalidSquare => "the text has something else where a square such as e4 should be",
-            Error::InvalidUciMove => "the text is not a move such as e2e4 or e7e8q",
+            Error::InvalidSquare { .. } => "the text has something else where a square such as e4 should be",
+            Error::InvalidUciMove { .. } => "the text is not a move such as e2e4 or e7e8q",
             Error::InvalidSanMove => "the text is no SAN text, fits no listed move or more than one, or is wrong about a capture",
             Error::OutOfRange => "a number of the board, a square, rank, file, colour, rights number or in-check byte is out of range",
             Error::ListOutOfRange => "the list has more than 255 moves, or a move's number is over 28,671",
@@ -253,11 +262,13 @@ mod tests {
     #[test]
     fn the_place_in_the_text_is_kept_and_told() {
         for number in 2..=20 {
-            let error = Error::judge(number, 85).unwrap_err();
-            assert_eq!(error.offset(), (number >= 18).then_some(85));
-            assert_eq!(error.to_string().contains(", at byte 85 (answer "), number >= 18, "{error}");
+            let (error, has) = (Error::judge(number, 85).unwrap_err(), [2, 3, 18, 19, 20].contains(&number));
+            assert_eq!(error.offset(), has.then_some(85));
+            assert_eq!(error.to_string().contains(", at byte 85 (answer "), has, "{error}");
         }
         let words = |number: u64, offset: u64| Error::judge(number, offset).unwrap_err().to_string();
+        assert_eq!(words(2, 3), "the text has something else where a square such as e4 should be, at byte 3 (answer 2)");
+        assert_eq!(words(3, 0), "the text is not a move such as e2e4 or e7e8q, at byte 0 (answer 3)");
         assert_eq!(words(18, 7), "the FEN text ends before its fourth token, at byte 7 (answer 18)");
         assert!(words(19, 0).ends_with("has something other than pieces, digits from 1 to 8 and slashes, at byte 0 (answer 19)"));
         assert_eq!(words(20, 16), "the side to move of the FEN text is not w, W, b or B, at byte 16 (answer 20)");

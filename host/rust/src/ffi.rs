@@ -22,6 +22,14 @@ pub(crate) struct Answer {
 
 #[repr(C)]
 #[derive(Clone, Copy)]
+pub(crate) struct Placed {
+    pub(crate) number: u64,
+    pub(crate) value: u64,
+    pub(crate) offset: u64,
+}
+
+#[repr(C)]
+#[derive(Clone, Copy)]
 pub(crate) struct Stepped {
     pub(crate) number: u64,
     pub(crate) board: Board,
@@ -71,6 +79,12 @@ impl Answer {
     }
 }
 
+impl Placed {
+    pub(crate) fn judged(self) -> Result<u64, Error> {
+        Error::judge(self.number, self.offset).map(|()| self.value)
+    }
+}
+
 impl Stepped {
     pub(crate) fn judged(self) -> Result<lent::Record, Error> {
         Error::judge(self.number, 0).map(|()| self.board.record())
@@ -114,7 +128,7 @@ unsafe extern "C" {
     pub(crate) fn menkhodur_fen_read(text: *const u8, length: usize) -> Fen;
     pub(crate) fn menkhodur_fen_write(board: Board, out: *mut u8, room: usize) -> Answer;
 
-    pub(crate) fn menkhodur_move_read(text: *const u8, length: usize) -> Answer;
+    pub(crate) fn menkhodur_move_read(text: *const u8, length: usize) -> Placed;
     pub(crate) fn menkhodur_move_write(number: u64, out: *mut u8, room: usize) -> Answer;
     pub(crate) fn menkhodur_san_read(board: Board, list: *const u16, entries: usize, text: *const u8, length: usize) -> Answer;
     pub(crate) fn menkhodur_san_name(board: Board, list: *const u16, entries: usize, number: u64, out: *mut u8, room: usize) -> Answer;

@@ -34,6 +34,9 @@ fn structs_lie_as_the_header_has_them() {
     assert_eq!((size_of::<Answer>(), align_of::<Answer>()), (16, 8));
     assert_eq!((offset_of!(Answer, number), offset_of!(Answer, value)), (0, 8));
 
+    assert_eq!((size_of::<Placed>(), align_of::<Placed>()), (24, 8));
+    assert_eq!((offset_of!(Placed, number), offset_of!(Placed, value), offset_of!(Placed, offset)), (0, 8, 16));
+
     assert_eq!((size_of::<Stepped>(), align_of::<Stepped>()), (80, 8));
     assert_eq!((offset_of!(Stepped, number), offset_of!(Stepped, board)), (0, 8));
 
@@ -94,6 +97,18 @@ fn a_refused_fen_is_all_zeros_and_an_accepted_one_has_no_offset() {
 }
 
 #[test]
+fn a_coordinate_text_has_a_value_or_an_offset() {
+    let refused = [(&b"z9e4"[..], 2, 0), (b"e9e4", 2, 1), (b"e2z9", 2, 2), (b"e2e9", 2, 3), (b"z", 3, 1), (b"e2e", 3, 3), (b"e2e4k", 3, 4)];
+    let accepted = [(&b"a1a1"[..], 0), (b"e2e4", 1_804), (b"e2e4q", 22_284), (b"e2e4kx", 1_804)];
+    let wants = refused.map(|(text, number, offset)| (text, (number, 0, offset)));
+    for (text, want) in wants.into_iter().chain(accepted.map(|(text, value)| (text, (0, value, 0)))) {
+        // SAFETY: pointer and length are those of one slice, and the function only reads.
+        let placed = unsafe { menkhodur_move_read(text.as_ptr(), text.len()) };
+        assert_eq!((placed.number, placed.value, placed.offset), want);
+    }
+}
+
+#[test]
 fn a_refused_value_is_zero_but_for_the_length_needed() {
     let mut room = [0; 24];
     let mut write_fen = |record: &lent::Record| {
@@ -103,11 +118,6 @@ fn a_refused_value_is_zero_but_for_the_length_needed() {
     };
     assert_eq!(write_fen(&[0; 68]), (7, 25));
     assert_eq!(write_fen(&bad_record()), (5, 0));
-    for (text, number) in [(&b"z9e4"[..], 2), (b"e2e", 3), (b"e2e4k", 3)] {
-        // SAFETY: pointer and length are those of one slice, and the function only reads.
-        let answer = unsafe { menkhodur_move_read(text.as_ptr(), text.len()) };
-        assert_eq!((answer.number, answer.value), (number, 0));
-    }
     let list = [1153];
     for (number, want) in [(1153, 8), (70_000, 11)] {
         // SAFETY: each pointer and length are those of one slice; the room of none is not written.

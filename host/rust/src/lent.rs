@@ -196,17 +196,17 @@ pub fn fen_write(record: &Record, out: &mut [u8]) -> Result<usize, Error> {
     length(unsafe { ffi::menkhodur_fen_write(ffi::Board::of(record), out.as_mut_ptr(), out.len()) })
 }
 
-/// The number of the move that a coordinate text says. Refused: 2, 3.
+/// The number of the move that a coordinate text says. Refused: 2, 3, with the place in the text.
 ///
 /// ```
 /// use menkhodur::{Error, lent};
 ///
 /// assert_eq!(lent::move_read(b"e2e4q"), Ok(22_284));
-/// assert_eq!(lent::move_read(b"z9e4"), Err(Error::InvalidSquare));
+/// assert_eq!(lent::move_read(b"e2e9"), Err(Error::InvalidSquare { offset: 3 }));
 /// ```
 pub fn move_read(text: &[u8]) -> Result<u16, Error> {
     // SAFETY: pointer and length are those of one slice, borrowed for the call, and the function only reads.
-    number(unsafe { ffi::menkhodur_move_read(text.as_ptr(), text.len()) })
+    placed_number(unsafe { ffi::menkhodur_move_read(text.as_ptr(), text.len()) })
 }
 
 /// Writes a move in coordinates, 4 or 5 bytes, and gives the length. Refused: 6 for a number over 28,671, 7.
@@ -448,6 +448,10 @@ fn byte(answer: ffi::Answer) -> Result<u8, Error> {
 }
 
 fn number(answer: ffi::Answer) -> Result<u16, Error> {
+    answer.judged().map(|value| value as u16)
+}
+
+fn placed_number(answer: ffi::Placed) -> Result<u16, Error> {
     answer.judged().map(|value| value as u16)
 }
 

@@ -53,14 +53,15 @@ impl Move {
         lent::move_write(number, &mut [0; 5]).map(|_| Move(number as u16))
     }
 
-    /// The move that a coordinate text says, the text being any bytes. Refused: [`Error::InvalidSquare`], [`Error::InvalidUciMove`].
+    /// The move that a coordinate text says, the text being any bytes. Refused: [`Error::InvalidSquare`], [`Error::InvalidUciMove`], each
+    /// with the place in the text of what is wrong first.
     ///
     /// ```
     /// use menkhodur::{Error, Move, Square};
     ///
     /// assert_eq!(Move::from_text("e2e4"), Ok(Move::new(Square::E2, Square::E4, None)));
-    /// assert_eq!(Move::from_text(b"e2\xff4"), Err(Error::InvalidSquare));
-    /// assert_eq!(Move::from_text("e2e"), Err(Error::InvalidUciMove));
+    /// assert_eq!(Move::from_text(b"e2\xff4"), Err(Error::InvalidSquare { offset: 2 }));
+    /// assert_eq!(Move::from_text("e2e"), Err(Error::InvalidUciMove { offset: 3 }));
     /// ```
     pub fn from_text(text: impl AsRef<[u8]>) -> Result<Move, Error> {
         lent::move_read(text.as_ref()).map(Move)

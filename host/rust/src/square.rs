@@ -155,21 +155,31 @@ impl Square {
 
 /// Reads a square such as `e4`: a letter a to h and a digit 1 to 8, and nothing more. The original drops what follows.
 ///
+/// Every other text is refused with [`Error::InvalidSquare`], which is answer 2 also where the length is at fault. The offset is the text's
+/// length if it has fewer than two bytes; else 0 if the file byte is none of a to h, 1 if the rank byte is none of 1 to 8, and 2 if there is
+/// more behind a square.
+///
 /// ```
 /// use menkhodur::{Error, Square};
 ///
 /// assert_eq!("e4".parse(), Ok(Square::E4));
-/// assert_eq!("e4 ".parse::<Square>(), Err(Error::InvalidSquare));
-/// assert_eq!("E4".parse::<Square>(), Err(Error::InvalidSquare));
+/// assert_eq!("e".parse::<Square>(), Err(Error::InvalidSquare { offset: 1 }));
+/// assert_eq!("E9".parse::<Square>(), Err(Error::InvalidSquare { offset: 0 }));
+/// assert_eq!("e9".parse::<Square>(), Err(Error::InvalidSquare { offset: 1 }));
+/// assert_eq!("e4 ".parse::<Square>(), Err(Error::InvalidSquare { offset: 2 }));
 /// ```
 impl FromStr for Square {
     type Err = Error;
 
     fn from_str(text: &str) -> Result<Square, Error> {
-        match *text.as_bytes() {
-            [file @ b'a'..=b'h', rank @ b'1'..=b'8'] => Ok(Square((rank - b'1') * 8 + (file - b'a'))),
-            _ => Err(Error::InvalidSquare),
-        }
+        let offset = match *text.as_bytes() {
+            [file @ b'a'..=b'h', rank @ b'1'..=b'8'] => return Ok(Square((rank - b'1') * 8 + (file - b'a'))),
+            [] | [_] => text.len(),
+            [b'a'..=b'h', b'1'..=b'8', ..] => 2,
+            [b'a'..=b'h', ..] => 1,
+            _ => 0,
+        };
+        Err(Error::InvalidSquare { offset })
     }
 }
 

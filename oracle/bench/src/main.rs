@@ -8,7 +8,7 @@ mod keys;
 mod plain;
 mod rolls;
 
-use both::abi::{self, Answer, Log, Record};
+use both::abi::{self, Log, Placed, Record};
 use both::games::{board_of, different_positions, moves_of, random_move, STARTS};
 use both::numbers::{move_of, number_of, position_of, record_of, result_number};
 use both::random::Random;
@@ -93,7 +93,7 @@ fn coordinates(places: &[Place]) {
     let moves: Vec<ChessMove> = numbers.iter().map(|n| move_of(*n)).collect();
     let texts: Vec<String> = moves.iter().map(|m| m.to_string()).collect();
     for (text, number) in texts.iter().zip(&numbers) {
-        assert_eq!(abi::move_read(text.as_bytes()), Answer { number: 0, value: *number as u64 });
+        assert_eq!(abi::move_read(text.as_bytes()), Placed { number: 0, value: *number as u64, offset: 0 });
     }
     let (theirs, ours) = times(&texts, |t| ChessMove::from_str(t), |t| abi::move_read(t.as_bytes()));
     row("coordinate read", texts.len(), theirs, ours, "2");

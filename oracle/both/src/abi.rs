@@ -12,6 +12,15 @@ pub struct Answer {
     pub value: u64,
 }
 
+/// The same of a text, with the place in it of what is wrong.
+#[repr(C)]
+#[derive(Clone, Copy, PartialEq, Eq, Debug)]
+pub struct Placed {
+    pub number: u64,
+    pub value: u64,
+    pub offset: u64,
+}
+
 #[repr(C)]
 #[derive(Clone, Copy, PartialEq, Eq, Debug)]
 pub struct Stepped {
@@ -66,7 +75,7 @@ extern "C" {
     fn menkhodur_fen_read(text: *const u8, length: usize) -> Fen;
     fn menkhodur_fen_write(b: Record, out: *mut u8, room: usize) -> Answer;
 
-    fn menkhodur_move_read(text: *const u8, length: usize) -> Answer;
+    fn menkhodur_move_read(text: *const u8, length: usize) -> Placed;
     fn menkhodur_move_write(number: u64, out: *mut u8, room: usize) -> Answer;
     fn menkhodur_san_read(b: Record, list: *const u16, entries: usize, text: *const u8, length: usize) -> Answer;
     fn menkhodur_san_name(b: Record, list: *const u16, entries: usize, number: u64, out: *mut u8, room: usize) -> Answer;
@@ -133,7 +142,7 @@ pub fn fen_write(b: Record, out: &mut [u8]) -> Answer {
     unsafe { menkhodur_fen_write(b, out.as_mut_ptr(), out.len()) }
 }
 
-pub fn move_read(text: &[u8]) -> Answer {
+pub fn move_read(text: &[u8]) -> Placed {
     unsafe { menkhodur_move_read(text.as_ptr(), text.len()) }
 }
 

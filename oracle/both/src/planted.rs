@@ -50,11 +50,22 @@ pub fn fen_write(b: Record, out: &mut [u8]) -> Answer {
     answer
 }
 
-/// Six bytes that end in a promotion letter promote.
-pub fn move_read(text: &[u8]) -> Answer {
+/// Six bytes that end in a promotion letter promote. Of refused texts: the rank byte is told where both bytes of the second
+/// pair are bad; a second pair of which one byte is there is told at its start; a fifth byte that is a space is told at the
+/// text's end.
+pub fn move_read(text: &[u8]) -> Placed {
     let mut answer = real::move_read(text);
     if planted("moves") && answer.number == 0 && text.len() == 6 && text[5] == b'q' {
         answer.value += 4096 * 5;
+    }
+    if planted("moves-rank") && (answer.number, answer.offset) == (2, 2) && !(b'1'..=b'8').contains(&text[3]) {
+        answer.offset = 3;
+    }
+    if planted("moves-start") && (answer.number, answer.offset) == (3, 3) {
+        answer.offset = 2;
+    }
+    if planted("moves-fifth") && (answer.number, answer.offset) == (3, 4) && text[4] == b' ' {
+        answer.offset = 5;
     }
     answer
 }

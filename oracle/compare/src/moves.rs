@@ -2,8 +2,8 @@
 
 use crate::lent::check_writer;
 use crate::part::{Part, Tally};
-use crate::texts;
-use both::abi::{self, Answer};
+use crate::{rules, texts};
+use both::abi::{self, Answer, Placed};
 use both::numbers::{move_of, number_of, MOST_MOVE};
 use both::random::Random;
 use chess::{ChessMove, Error};
@@ -18,16 +18,34 @@ pub enum Input {
 
 pub struct Moves;
 
+/// Document 01's rows, and the text that document 02's order 3 begins with.
+const PAPER: [&str; 6] = ["e2e4q", "e2e4qx", "e2e4k", "e2e", "z9e4", "e2e9"];
 const LETTERS: &[u8] = b"abcdefgh12345678qrnbkpQRNB09iZ -=x";
 /// The ends of the files and ranks, what lies just past them, a promotion letter and one that is none.
 const SHORT: &[u8] = b"ahi`1890qK";
 
-pub fn owed_read(text: &str) -> Result<Answer, String> {
+/// The crate's answer, its two refusals by their numbers in document 01.
+pub fn crate_reads(text: &str) -> Result<Answer, String> {
     match ChessMove::from_str(text) {
         Ok(m) => Ok(Answer { number: 0, value: number_of(m) as u64 }),
         Err(Error::InvalidSquare) => Ok(Answer { number: 2, value: 0 }),
         Err(Error::InvalidUciMove) => Ok(Answer { number: 3, value: 0 }),
         Err(error) => Err(format!("the crate gives {:?}", error)),
+    }
+}
+
+/// What is owed for a text: the crate's move and offset 0, or the number of its refusal with the offset that a rule finds by
+/// document 02, order 3. The rule, which is told too, must find a fault of that very number.
+pub fn owed_read(text: &str) -> Result<(Placed, Option<usize>), String> {
+    let Answer { number, value } = crate_reads(text)?;
+    if number == 0 {
+        return Ok((Placed { number, value, offset: 0 }, None));
+    }
+    match rules::fault_of_move(text) {
+        Some(fault) if fault.number == number => {
+            Ok((Placed { number, value, offset: fault.offset as u64 }, Some(fault.rule)))
+        }
+        other => Err(format!("the crate refuses with {}, and by document 02 the fault is {:?}", number, other)),
     }
 }
 
@@ -41,7 +59,7 @@ impl Part for Moves {
     const NAME: &'static str = "moves";
 
     fn fixed(&self) -> Box<dyn Iterator<Item = Input>> {
-        let paper = ["e2e4q", "e2e4qx", "e2e4k", "e2e", "z9e4"].iter().map(|t| t.to_string());
+        let paper = PAPER.iter().map(|t| t.to_string());
         let short = texts::all(&texts::ASCII, 2).chain(texts::all(SHORT, 6));
         let writes = (0..=MOST_MOVE).flat_map(|n| (-6..=3).map(move |off| Input::Write(n, off)));
         Box::new(paper.chain(short).chain(pairs_and_one()).map(Input::Read).chain(writes))
@@ -63,11 +81,14 @@ impl Part for Moves {
     fn compare(&self, input: &Input, tally: &mut Tally) -> Result<(), String> {
         match input {
             Input::Read(text) => {
-                let owed = owed_read(text)?;
+                let (owed, rule) = owed_read(text)?;
                 let lent = text.clone();
                 let ours = abi::move_read(lent.as_bytes());
                 if ours != owed || lent != *text {
-                    return Err(format!("crate {:?}, ours {:?}", owed, ours));
+                    return Err(format!("owed {:?}, ours {:?}", owed, ours));
+                }
+                if let Some(rule) = rule {
+                    tally.fired[rule] += 1;
                 }
                 tally.count("moves: read", owed.number == 0);
             }

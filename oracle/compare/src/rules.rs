@@ -12,8 +12,11 @@ pub const EN_PASSANT_RANK: usize = 0;
 pub const TOO_FEW_TOKENS: usize = 1;
 pub const BAD_PLACEMENT: usize = 2;
 pub const BAD_SIDE: usize = 3;
+pub const BAD_SQUARE_BYTE: usize = 4;
+pub const NO_PAIR: usize = 5;
+pub const BAD_FIFTH_BYTE: usize = 6;
 
-pub const RULES: [Rule; 4] = [
+pub const RULES: [Rule; 7] = [
     Rule {
         name: "en-passant-rank",
         part: "fen-write",
@@ -34,9 +37,25 @@ pub const RULES: [Rule; 4] = [
         part: "fen-read",
         why: "the crate's InvalidFen is 20 with the place where the side token starts (document 02, order 2)",
     },
+    Rule {
+        name: "bad-square-byte",
+        part: "moves",
+        why: "the crate's InvalidSquare has the place of the file byte, or of the rank byte (document 02, order 3)",
+    },
+    Rule {
+        name: "no-pair",
+        part: "moves",
+        why: "the crate's InvalidUciMove has the text's length where a pair is not there (document 02, order 3)",
+    },
+    Rule {
+        name: "bad-fifth-byte",
+        part: "moves",
+        why: "the crate's InvalidUciMove has the place of the fifth byte, 4 (document 02, order 3)",
+    },
 ];
 
-/// What document 02, order 2, gives in place of the crate's one refusal of a FEN.
+/// What document 02 says of a refused text: of a FEN, in place of the crate's one refusal (order 2); of a coordinate text, where
+/// it is wrong (order 3).
 #[derive(Clone, Copy, PartialEq, Eq, Debug)]
 pub struct Fault {
     pub rule: usize,
@@ -59,6 +78,25 @@ pub fn fault_of_fen(text: &str) -> Option<Fault> {
     match side {
         "w" | "W" | "b" | "B" => None,
         _ => Some(Fault { rule: BAD_SIDE, number: 20, offset: placement.len() + 1 }),
+    }
+}
+
+/// Where a refused coordinate text is wrong: at the faulty byte, or at the text's length where a pair is not there; with the
+/// number that document 01 has for it, which must be the crate's. None if nothing is wrong.
+pub fn fault_of_move(text: &str) -> Option<Fault> {
+    let bytes = text.as_bytes();
+    for start in [0, 2] {
+        let Some(pair) = bytes.get(start..start + 2) else {
+            return Some(Fault { rule: NO_PAIR, number: 3, offset: bytes.len() });
+        };
+        let good = [b"abcdefgh".contains(&pair[0]), b"12345678".contains(&pair[1])];
+        if let Some(at) = good.iter().position(|good| !good) {
+            return Some(Fault { rule: BAD_SQUARE_BYTE, number: 2, offset: start + at });
+        }
+    }
+    match bytes {
+        [_, _, _, _, fifth] if !b"qrnb".contains(fifth) => Some(Fault { rule: BAD_FIFTH_BYTE, number: 3, offset: 4 }),
+        _ => None,
     }
 }
 
@@ -91,6 +129,21 @@ fn tells_the_first_fault_and_its_place() {
     tells("8/8/8/8/8/8/8/8  w - -", BAD_SIDE, 20, 16);
     tells("   ", BAD_SIDE, 20, 1);
     assert_eq!(fault_of_fen(" w  "), None);
+}
+
+#[test]
+fn tells_where_a_coordinate_text_is_wrong() {
+    let tells = |text: &str, rule: usize, number: u64, offset: usize| {
+        assert_eq!(fault_of_move(text), Some(Fault { rule, number, offset }), "{:?}", text);
+    };
+    for (text, length) in [("", 0), ("z", 1), ("e2", 2), ("e2z", 3)] {
+        tells(text, NO_PAIR, 3, length);
+    }
+    for (text, place) in [("z2e", 0), ("z9e4", 0), ("e9z9", 1), ("e2z9k", 2), ("e2e9", 3), ("e2e9xx", 3)] {
+        tells(text, BAD_SQUARE_BYTE, 2, place);
+    }
+    tells("e2e4k", BAD_FIFTH_BYTE, 3, 4);
+    assert_eq!(["e2e4", "e2e4q", "e2e4kx"].map(fault_of_move), [None; 3]);
 }
 
 #[test]

@@ -1,6 +1,6 @@
 //! One question to both sides. An answer is the text that the table has.
 
-use both::abi::{self, Answer, Fen, Log, Record};
+use both::abi::{self, Answer, Fen, Log, Placed, Record};
 use both::games::{board_of, moves_of};
 use both::numbers::{code_of, move_of, number_of, position_of, result_number};
 use chess::{Board, BoardBuilder, Error, Game, Piece, Square, ALL_COLORS, ALL_PIECES};
@@ -22,7 +22,7 @@ pub fn both(what: &str, input: &str) -> Told {
         "board" => board(input),
         "filed" => filed(input),
         "rights" => Ok((NOT_ASKED.to_string(), answer(abi::rights_add(number(input)? as u8, 0)))),
-        "move" => Ok((answer(moves::owed_read(input)?), answer(abi::move_read(input.as_bytes())))),
+        "move" => coordinates(input),
         "write" => write(number(input)?),
         "san" => san(input),
         "log" => log(input),
@@ -99,6 +99,18 @@ fn filed(text: &str) -> Told {
     let board = Board::from_str(text).map_err(|e| e.to_string())?;
     let (of_crate, _) = rules::en_passant_rank(&BoardBuilder::from(board).to_string());
     Ok((of_crate, text_of_ours(only_beside_a_pawn(abi::fen_read(text.as_bytes()).board))))
+}
+
+fn coordinates(text: &str) -> Told {
+    let of_crate = match moves::crate_reads(text)? {
+        Answer { number: 0, value } => format!("0 {}", value),
+        Answer { number, .. } => number.to_string(),
+    };
+    let of_ours = match abi::move_read(text.as_bytes()) {
+        Placed { number: 0, value, .. } => format!("0 {}", value),
+        Placed { number, offset, .. } => format!("{} {}", number, offset),
+    };
+    Ok((of_crate, of_ours))
 }
 
 fn write(number: u64) -> Told {

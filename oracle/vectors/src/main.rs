@@ -74,7 +74,7 @@ const FENS: [&str; 18] = [
     "rnbqkbnr/pppp1ppp/8/4p3/4P3/5N2/PPPP1PPP/RNBQKB1R b KQkq e3 0 2",
     "4k3/8/8/8/4P3/8/8/4K3 b - e3", "8/8/8/8/8/8/8/4K3 w - -",
 ];
-const COORDINATES: [&str; 2] = ["e2e4p", "e2e4k"];
+const COORDINATES: [&str; 5] = ["e2e4p", "e2e4k", "e2e9", "z9e4", "e2e"];
 /// Men, a list, and texts on them.
 const SANS: [(&[(usize, u8)], &[u16], &[&str]); 8] = [
     (&[(52, 1)], &[24_372], &["e8=Q", "e8Q"]),
@@ -107,14 +107,15 @@ fn fen_texts(out: &mut Vectors) -> Result<(), String> {
 }
 
 fn coordinate_text(out: &mut Vectors, text: &str) -> Result<(), String> {
-    let owed = moves::owed_read(text)?;
-    let again = if owed.number == 0 { format!(" {}", move_of(owed.value as u16)) } else { String::new() };
-    out.told(&format!("C {}", text), &format!("{} {}{}", owed.number, owed.value, again));
+    let (owed, _) = moves::owed_read(text)?;
+    let again = || format!("{} {}", owed.value, move_of(owed.value as u16));
+    let told = if owed.number == 0 { again() } else { owed.offset.to_string() };
+    out.told(&format!("C {}", text), &format!("{} {}", owed.number, told));
     Ok(())
 }
 
 fn coordinate_texts(out: &mut Vectors) -> Result<(), String> {
-    out.heading(&format!("{} coordinate texts: number and value, and the move written again", TEXTS));
+    out.heading(&format!("{} coordinate texts: the number, and the value and the move written again or the place of what is wrong", TEXTS));
     let mut random = Random::new(1, "vectors: coordinates");
     let mut read = || match moves::Moves.random(&mut random) {
         Some(moves::Input::Read(text)) => Some(text),

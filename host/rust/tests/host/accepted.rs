@@ -118,7 +118,7 @@ fn every_move_has_its_number_and_text() {
         let letter = made.get_promotion().map(|piece| piece.to_string(Color::Black)).unwrap_or_default();
         assert_eq!(text, format!("{}{}{letter}", made.get_source(), made.get_dest()));
         match made.get_promotion() {
-            Some(Piece::Pawn | Piece::King) => assert_eq!(text.parse::<Move>(), Err(Error::InvalidUciMove)),
+            Some(Piece::Pawn | Piece::King) => assert_eq!(text.parse::<Move>(), Err(Error::InvalidUciMove { offset: 4 })),
             _ => assert_eq!(text.parse(), Ok(made)),
         }
     }

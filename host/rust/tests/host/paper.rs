@@ -1,4 +1,4 @@
-//! The sixteen rows of document 01's table, the FEN texts refused as document 02 has it (order 2).
+//! The sixteen rows of document 01's table; FEN texts and coordinate texts are refused as document 02 has it (orders 2 and 3).
 
 use crate::common::moves;
 use menkhodur::{Board, Error, Move};
@@ -33,8 +33,9 @@ fn fen_rows() {
 #[test]
 fn coordinate_rows() {
     assert_eq!((number("e2e4q"), number("e2e4qx")), (Ok(22_284), Ok(1_804)));
-    assert_eq!((number("e2e4k"), number("e2e")), (Err(Error::InvalidUciMove), Err(Error::InvalidUciMove)));
-    assert_eq!(number("z9e4"), Err(Error::InvalidSquare));
+    assert_eq!(number("e2e4k"), Err(Error::InvalidUciMove { offset: 4 }));
+    assert_eq!(number("e2e"), Err(Error::InvalidUciMove { offset: 3 }));
+    assert_eq!(number("z9e4"), Err(Error::InvalidSquare { offset: 0 }));
 }
 
 #[test]

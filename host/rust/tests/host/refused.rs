@@ -37,6 +37,15 @@ fn refuses_fens(want: impl Fn(usize) -> Error, texts: &[(&[u8], usize)]) {
     }
 }
 
+/// The same of coordinate texts.
+fn refuses_moves(want: impl Fn(usize) -> Error, texts: &[(&[u8], usize)]) {
+    for &(text, offset) in texts {
+        assert_eq!(lent::move_read(text), Err(want(offset)));
+        assert_eq!(Move::from_text(text), Err(want(offset)));
+        assert_eq!(want(offset).offset(), Some(offset));
+    }
+}
+
 #[test]
 fn number_18_fen_tokens() {
     let texts: [(&[u8], usize); 8] =
@@ -72,20 +81,33 @@ fn number_20_fen_side() {
 
 #[test]
 fn number_2_square() {
-    for text in [&b"z9e4"[..], b"e2z9", b"e0e4", b"e2e9", b"E2e4", b"i1e4q", b"h\xc3\xa9", b"z9z"] {
-        assert_eq!(lent::move_read(text), Err(Error::InvalidSquare));
-        assert_eq!(Move::from_text(text), Err(Error::InvalidSquare));
-    }
+    let texts: [(&[u8], usize); 12] = [
+        (b"z9e4", 0),
+        (b"z2e", 0),
+        (b"z9z", 0),
+        (b"E2e4", 0),
+        (b"i1e4q", 0),
+        (b"e0e4", 1),
+        (b"e9z9k", 1),
+        (b"h\xc3\xa9", 1),
+        (b"e2z9", 2),
+        (b"e2z4k", 2),
+        (b"e2e9", 3),
+        (b"e2e9 and more", 3),
+    ];
+    refuses_moves(|offset| Error::InvalidSquare { offset }, &texts);
     assert_eq!("z9e4".parse::<Move>().unwrap_err().number(), 2);
+    let told = "the text has something else where a square such as e4 should be, at byte 3 (answer 2)";
+    assert_eq!("e2e9".parse::<Move>().unwrap_err().to_string(), told);
 }
 
 #[test]
 fn number_3_coordinates() {
-    for text in [&b""[..], b"e", b"z", b"e2", b"e2e", b"e2z", b"e2e4k", b"e2e4p", b"e2e4Q", b"e2e4 "] {
-        assert_eq!(lent::move_read(text), Err(Error::InvalidUciMove));
-        assert_eq!(Move::from_text(text), Err(Error::InvalidUciMove));
-    }
+    let texts: [(&[u8], usize); 10] =
+        [(b"", 0), (b"e", 1), (b"z", 1), (b"e2", 2), (b"e2e", 3), (b"e2z", 3), (b"e2e4k", 4), (b"e2e4p", 4), (b"e2e4Q", 4), (b"e2e4 ", 4)];
+    refuses_moves(|offset| Error::InvalidUciMove { offset }, &texts);
     assert_eq!("e2e4k".parse::<Move>().unwrap_err().number(), 3);
+    assert_eq!("e2e".parse::<Move>().unwrap_err().to_string(), "the text is not a move such as e2e4 or e7e8q, at byte 3 (answer 3)");
 }
 
 #[test]

@@ -21,10 +21,15 @@ fn a_square_is_read_as_the_archive_reads_it() {
 
 #[test]
 fn only_two_bytes_are_a_square() {
-    for text in ["", "e", "4", "e44", "e4 ", " e4", "e4q", "e2e4", "\u{e9}", "e\u{e9}", "\u{ff45}4", "E4", "e\0"] {
-        assert_eq!(text.parse::<Square>(), Err(Error::InvalidSquare), "{text:?}");
-    }
-    assert_eq!("".parse::<Square>().unwrap_err().number(), 2);
+    let refuses = |offset: usize, texts: &[&str]| {
+        for text in texts {
+            assert_eq!(text.parse::<Square>(), Err(Error::InvalidSquare { offset }), "{text:?}");
+            assert_eq!(text.parse::<Square>().unwrap_err().number(), 2);
+        }
+    };
+    refuses(0, &["", "z4", "z9", "E4", " e4", "z9z", "\u{e9}", "\u{ff45}4"]);
+    refuses(1, &["e", "4", "z", "e9", "ee4", "e0 ", "e\0", "e\u{e9}"]);
+    refuses(2, &["e44", "e4 ", "e4q", "e2e4", "e2z"]);
 }
 
 #[test]
