@@ -4,7 +4,6 @@ use Prim.Native.Nat.{ℕ, _+_, _*_, _-_, _/_, _%_, max}
 use mathlib.Core.Bool.{cond, _&&_}
 use mathlib.Core.List.{List, [], _∷_, _++_}
 use lib.Dec.{ltb, eqb}
-use lib.ListN.{replicate}
 use Rattle.square.specs.declared.Answer.{Answer}
 use Rattle.square.specs.Answer.{accepted, refused, inRangeOr5, outOfRange}
 
@@ -45,13 +44,6 @@ byFile file = cond (eqb file 0) 2 (cond (eqb file 4) 3 (cond (eqb file 7) 1 0))
 
 abbrev pub castlesAt : ℕ → ℕ → ℕ → ℕ
 castlesAt colour rank file = cond (eqb rank (colour * 7)) (byFile file) 0
-
--- the table of castle_rights.rs: white's row and black's
-abbrev pub backRank : List ℕ
-backRank = 2 ∷ 0 ∷ 0 ∷ 0 ∷ 3 ∷ 0 ∷ 0 ∷ 1 ∷ []
-
-abbrev pub castlesPerSquare : List (List ℕ)
-castlesPerSquare = (backRank ++ replicate 56 0) ∷ (replicate 56 0 ++ backRank) ∷ []
 
 abbrev pub squareRights : ℕ → ℕ → Answer
 squareRights colour square = inRangeOr5 (ltb colour 2 && ltb square 64) (castlesAt colour (square / 8) (square % 8))

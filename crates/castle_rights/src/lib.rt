@@ -1,14 +1,12 @@
 // Castling rights, after castle_rights.rs: 0 none, 1 king side, 2 queen side, 3 both. A number out of range is answered 5.
-mod table;
-
 use square::Answer;
 use square::OUT_OF_RANGE;
-use table::CASTLES_PER_SQUARE;
 ghost use mathlib.Core.Path.{_≡_};
 ghost use Prim.Native.Nat.{_<_};
 ghost use lib.ListN.{length};
 ghost use Rattle.square.specs.Answer.{writeAnswer, writeBytes};
-ghost use Rattle.castle_rights.specs.CastleRights.{fromIndex, hasKing, hasQueen, squareRights, removeRights, addRights, rookRights, lettersOf, lettersText, lettersCheck};
+ghost use Rattle.castle_rights.specs.CastleRights.{fromIndex, hasKing, hasQueen, byFile, squareRights, removeRights, addRights, rookRights};
+ghost use Rattle.castle_rights.specs.CastleRights.{lettersOf, lettersText, lettersCheck};
 
 pub fn has_kingside(rights: u8) -> Answer
     ensures { λ r. ⌜ r ≡ hasKing rights ⌝ }
@@ -28,7 +26,19 @@ pub fn has_queenside(rights: u8) -> Answer
     square::accepted_byte(rights / 2)
 }
 
-// The rights that go when a piece leaves or enters the square.
+// On a back rank: the queen's rook stands on file a, the king on e, the king's rook on h.
+fn by_file(file: u8) -> u8
+    ensures { λ r. ⌜ r ≡ byFile file ⌝ }
+{
+    match file {
+        0 => 2,
+        4 => 3,
+        7 => 1,
+        _ => 0,
+    }
+}
+
+// The rights that go when a piece leaves or enters the square. The colour's own back rank begins at square 0 or 56.
 pub fn square_to_castle_rights(color: u8, square: u8) -> Answer
     ensures { λ r. ⌜ r ≡ squareRights color square ⌝ }
 {
@@ -38,7 +48,11 @@ pub fn square_to_castle_rights(color: u8, square: u8) -> Answer
     if 64 <= square {
         return square::refused(OUT_OF_RANGE);
     }
-    square::accepted_byte(CASTLES_PER_SQUARE[color as usize][square as usize])
+    let file = square % 8;
+    if square == color * 56 + file {
+        return square::accepted_byte(by_file(file));
+    }
+    square::accepted(0)
 }
 
 pub fn remove(rights: u8, remove: u8) -> Answer
