@@ -1,6 +1,5 @@
 pub mod Below
 pub mod Bounds
-pub mod Entries
 pub mod Maxima
 pub mod Numbers
 pub mod Parts
