@@ -1,2 +1,3 @@
+pub mod AtSmallest
 pub mod Bits
 pub mod Determined
