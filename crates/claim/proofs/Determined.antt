@@ -2,8 +2,18 @@
 -- Assumes nothing.
 use mathlib.Core.Path.{sym, _∙_}
 use Rattle.square.specs.Determined.{OneAnswer}
+use Rattle.claim.proofs.is_irreversible.Reads as is-irreversible
+use Rattle.claim.proofs.is_irreversible.Kinds as is-irreversible·k
+use Rattle.claim.proofs.run_at.Reads as run-at
+use Rattle.claim.proofs.run_at.Kinds as run-at·k
 use Rattle.claim.proofs.stands.Reads as stands
 use Rattle.claim.proofs.stands.Kinds as stands·k
+
+pub is-irreversible-answer : OneAnswer is-irreversible·k.ps is-irreversible·k.r is-irreversible.Learnt
+is-irreversible-answer κs a x y e f p q = p ∙ sym q
+
+pub run-at-answer : OneAnswer run-at·k.ps run-at·k.r run-at.Learnt
+run-at-answer κs a x y e f p q = p ∙ sym q
 
 pub stands-answer : OneAnswer stands·k.ps stands·k.r stands.Learnt
 stands-answer κs a x y e f p q = p ∙ sym q

@@ -22,7 +22,8 @@ pub struct Run {
     pub since: usize,
 }
 
-fn is_irreversible(p: &[u8], m: u64) -> bool
+// A pawn on the source, or a man on the destination.
+pub fn is_irreversible(p: &[u8], m: u64) -> bool
     ensures { λ r. ⌜ r ≡ irreversible (positionOf (now (p .entry))) m ⌝ }
 {
     let moved = square::byte_at(p, (m % 64) as usize);
@@ -85,7 +86,7 @@ fn is_known(r: Run) -> bool
 }
 
 // The run after the first `n` actions: back from the last one, until both numbers are known.
-fn run_at(acts: &[u8], ps: &[u8], n: usize) -> Run
+pub fn run_at(acts: &[u8], ps: &[u8], n: usize) -> Run
     ensures { λ r. ⌜ r ≡ runAt (now (acts .entry)) (now (ps .entry)) n ⌝ }
 {
     let none = Run { first: 0, since: 0 };

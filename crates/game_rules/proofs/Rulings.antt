@@ -25,11 +25,11 @@ use Rattle.game_rules.specs.Good.{callOf, callAt, historyOf}
 use Rattle.game_rules.proofs.Log.{current-at}
 
 -- a run is the ruling of a history that ends with position m
-record RunIs (ps : List ℕ) (m : ℕ) (R : Ruling) (r : Run) : Type 0 where
-  counted : R .count ≡ m - r .since
-  holds : R .run ≡ positionsFrom ps (r .first) (suc m - r .first)
-  begins : r .first ≤ m
-  since-most : r .since ≤ m
+pub record RunIs (ps : List ℕ) (m : ℕ) (R : Ruling) (r : Run) : Type 0 where
+  pub counted : R .count ≡ m - r .since
+  pub holds : R .run ≡ positionsFrom ps (r .first) (suc m - r .first)
+  pub begins : r .first ≤ m
+  pub since-most : r .since ≤ m
 
 -- a move from position m to the next
 run-moves : (ps : List ℕ) (m : ℕ) (R : Ruling) (r : Run) (k : ℕ) → RunIs ps m R r
@@ -82,7 +82,7 @@ run-steps ps m R r (Holds DeclareDraw) was = was
 run-steps ps m R r (Holds (Resign c)) was = was
 run-steps ps m R r Nothing was = was
 
-run-is : (acts ps : List ℕ) (n : ℕ) → RunIs ps (movesIn acts n) (ruling (historyOf acts ps n)) (runAt acts ps n)
+pub run-is : (acts ps : List ℕ) (n : ℕ) → RunIs ps (movesIn acts n) (ruling (historyOf acts ps n)) (runAt acts ps n)
 unfolding ruling historyOf movesIn runAt callAt positionsFrom
 run-is acts ps zero = record { counted = refl; holds = refl; begins = omega arith; since-most = omega arith }
 run-is acts ps (suc i) =

@@ -1,3 +1,4 @@
 pub mod Layout
 pub mod Repeats
+pub mod Places
 pub mod Promises

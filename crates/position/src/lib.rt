@@ -8,6 +8,7 @@ ghost use lib.ListN.{length};
 ghost use Rattle.square.specs.Parts.{item};
 ghost use Rattle.position.specs.Layout.{IsItem, positionSize, positionOf, positionAt, positionsFrom};
 ghost use Rattle.position.specs.Repeats.{equal, times, equalsTwoEarlier};
+ghost use Rattle.position.specs.Places.{placesOf, placesTold, equalPlaces};
 
 // A record, the in-check byte, the list's length, and two bytes for each move that a list may have.
 
@@ -83,4 +84,60 @@ pub fn equals_two_earlier(ps: &[u8], first: usize, last: usize) -> bool
         return false;
     }
     repeated(ps, first, last)
+}
+
+// How many earlier positions equal one, and the numbers of the two earliest; 0 where there is none.
+pub struct Places {
+    pub count: u64,
+    pub first: u64,
+    pub second: u64,
+}
+
+fn with_place(found: Places, is_equal: bool, i: usize) -> Places {
+    if !is_equal {
+        return found;
+    }
+    let mut next = found;
+    if found.count == 0 {
+        next.first = i as u64;
+    }
+    if found.count == 1 {
+        next.second = i as u64;
+    }
+    next.count = found.count + 1;
+    next
+}
+
+fn places_from(ps: &[u8], first: usize, last: usize) -> Places
+    requires { ⌜ (first ≤ last) × (positionSize * last + positionSize ≤ length (now ps)) ⌝ }
+    ensures { λ r. ⌜ r ≡ placesTold (placesOf (positionAt (now (ps .entry)) last) last (positionsFrom (now (ps .entry)) first (last - first))) ⌝ }
+{
+    let current = position(ps, last);
+    let mut found = Places {
+        count: 0,
+        first: 0,
+        second: 0,
+    };
+    for i in first..last {
+        found = with_place(found, same_position(position(ps, i), current), i);
+    }
+    found
+}
+
+// Which positions from `first` on, before position `last`, equal it. Positions that do not lie in the part equal none.
+pub fn equal_places(ps: &[u8], first: usize, last: usize) -> Places
+    ensures { λ r. ⌜ r ≡ equalPlaces (now (ps .entry)) first last ⌝ }
+{
+    let none = Places {
+        count: 0,
+        first: 0,
+        second: 0,
+    };
+    if ps.len() / POSITION_SIZE <= last {
+        return none;
+    }
+    if last < first {
+        return none;
+    }
+    places_from(ps, first, last)
 }

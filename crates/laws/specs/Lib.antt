@@ -1,0 +1,4 @@
+pub mod Laws
+pub mod Since
+pub mod Ruling
+pub mod Promises
