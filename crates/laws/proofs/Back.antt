@@ -1,0 +1,48 @@
+-- The position since which the Laws' count goes, looked for from the last action back: while none was irreversible, what is before says it.
+-- Assumes nothing.
+use mathlib.Core.Path.{_≡_, refl, ap, sym, _∙_}
+use mathlib.Core.Bool.{Bool, true, false, cond}
+use mathlib.Core.List.{List}
+use Prim.Native.Nat.{ℕ, suc, _+_, _-_, _≤_, _<_}
+use native.Mathlib.Numerals.{add-one}
+use native.Mathlib.Omega.{arith}
+use borrow.Author.Tests.{le-leb, lt-leb}
+use Rattle.square.specs.Parts.{item}
+use Rattle.chess_move.specs.Number.{lastMove}
+use Rattle.actions.specs.Part.{moveAt, movesIn}
+use Rattle.actions.proofs.Counting.{one-more}
+use Rattle.position.specs.Layout.{positionSize, positionOf, positionAt}
+use Rattle.claim.specs.Emptying.{irreversible}
+use Rattle.laws.specs.Since.{lawsSince}
+
+pub since-start : (acts ps : List ℕ) → lawsSince acts ps 0 ≡ 0
+unfolding lawsSince
+since-start acts ps = refl
+
+-- action i makes move m, or none
+module _ (acts ps : List ℕ) (i m : ℕ) (read : m ≡ moveAt acts i) where
+  pub since-by-none : lastMove < m → lawsSince acts ps (i + 1) ≡ lawsSince acts ps i
+  unfolding lawsSince
+  since-by-none h = rw (add-one i, ← read, lt-leb m lastMove h)
+
+  since-by-move : m ≤ lastMove → (k : ℕ) → k ≡ movesIn acts (i + 1)
+      → lawsSince acts ps (i + 1) ≡ cond (irreversible (positionAt ps (k - 1)) m) k (lawsSince acts ps i)
+  unfolding lawsSince
+  since-by-move h k e =
+      let f : k ≡ suc (movesIn acts i) = e ∙ one-more acts i m read h ∙ add-one (movesIn acts i) in
+      let g : k - 1 ≡ movesIn acts i = omega arith in
+      rw (g, f, add-one i, ← read, le-leb m lastMove h)
+
+  -- t tells whether the move from p, which leads to position k, is irreversible
+  module _ (h : m ≤ lastMove) (k : ℕ) (counted : k ≡ movesIn acts (i + 1)) (p : List ℕ) (from : p ≡ item positionSize ps (k - 1))
+      (t : Bool) (told : t ≡ irreversible (positionOf p) m) where
+    since-told : lawsSince acts ps (i + 1) ≡ cond t k (lawsSince acts ps i)
+    since-told =
+        since-by-move h k counted
+        ∙ ap (λ (u : Bool). cond u k (lawsSince acts ps i)) (sym (told ∙ ap (λ (x : List ℕ). irreversible (positionOf x) m) from))
+
+    pub since-found : t ≡ true → lawsSince acts ps (i + 1) ≡ k
+    since-found e = since-told ∙ ap (λ (u : Bool). cond u k (lawsSince acts ps i)) e
+
+    pub since-passed : t ≡ false → lawsSince acts ps (i + 1) ≡ lawsSince acts ps i
+    since-passed e = since-told ∙ ap (λ (u : Bool). cond u k (lawsSince acts ps i)) e
