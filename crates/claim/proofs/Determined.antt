@@ -6,6 +6,8 @@ use Rattle.claim.proofs.is_irreversible.Reads as is-irreversible
 use Rattle.claim.proofs.is_irreversible.Kinds as is-irreversible·k
 use Rattle.claim.proofs.run_at.Reads as run-at
 use Rattle.claim.proofs.run_at.Kinds as run-at·k
+use Rattle.claim.proofs.moves_since.Reads as moves-since
+use Rattle.claim.proofs.moves_since.Kinds as moves-since·k
 use Rattle.claim.proofs.stands.Reads as stands
 use Rattle.claim.proofs.stands.Kinds as stands·k
 
@@ -14,6 +16,9 @@ is-irreversible-answer κs a x y e f p q = p ∙ sym q
 
 pub run-at-answer : OneAnswer run-at·k.ps run-at·k.r run-at.Learnt
 run-at-answer κs a x y e f p q = p ∙ sym q
+
+pub moves-since-answer : OneAnswer moves-since·k.ps moves-since·k.r moves-since.Learnt
+moves-since-answer κs a x y e f p q = p ∙ sym q
 
 pub stands-answer : OneAnswer stands·k.ps stands·k.r stands.Learnt
 stands-answer κs a x y e f p q = p ∙ sym q

@@ -110,7 +110,8 @@ pub fn run_at(acts: &[u8], ps: &[u8], n: usize) -> Run
     r
 }
 
-fn moves_since(since: usize, m: usize) -> usize
+// How many moves lead from one position to another, 0 if it is not the later one.
+pub fn moves_since(since: usize, m: usize) -> usize
     ensures { λ r. ⌜ r ≡ m - since ⌝ }
 {
     if since <= m { m - since } else { 0 }

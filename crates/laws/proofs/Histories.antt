@@ -12,7 +12,7 @@ use borrow.Author.Tests.{le-leb, lt-leb}
 use Rattle.position.specs.Layout.{Position}
 use Rattle.position.specs.Repeats.{times}
 use Rattle.position.specs.Places.{placesOf}
-use Rattle.position.proofs.Places.{places-times}
+use Rattle.position.proofs.PlacesOf.{places-times}
 use Rattle.claim.specs.Emptying.{irreversible, rightsDiffer}
 use Rattle.claim.specs.Claim.{claimCount}
 use Rattle.game_rules.specs.Limits.{Limits}

@@ -1,2 +1,4 @@
 pub mod Back
 pub mod Counted
+pub mod Histories
+pub mod Shown

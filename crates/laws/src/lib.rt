@@ -1,7 +1,19 @@
 // The Laws' count beside the crate's, and what both rulings rest on (document 02, order 5).
 use chess_move::LAST_MOVE;
+use claim::CLAIM_COUNT;
+use ending::GOES_ON;
+use square::ACCEPTED;
+use square::Answer;
 ghost use mathlib.Core.Path.{_≡_};
+ghost use mathlib.Core.Bool.{cond};
+ghost use Prim.Native.Nat.{_+_};
+ghost use lib.Dec.{leb};
+ghost use Rattle.claim.specs.Claim.{claimCount};
+ghost use Rattle.game_rules.specs.Limits.{limits};
+ghost use Rattle.game_rules.specs.Good.{historyOf};
+ghost use Rattle.game_rules.specs.Calls.{logCheck};
 ghost use Rattle.laws.specs.Since.{lawsSince};
+ghost use Rattle.laws.specs.Ruling.{notRuled, ruledOn, rulingAnswer, lawsAnswer};
 
 // What a ruling rests on: an answer number, both counts, how many earlier positions of the run equal the last and the numbers of the two earliest of
 // them, and both claims by reason.
@@ -34,4 +46,84 @@ fn since(acts: &[u8], ps: &[u8], n: usize) -> usize
         }
     }
     0
+}
+
+fn not_ruled(number: u64) -> Ruled
+    ensures { λ r. ⌜ r ≡ notRuled number ⌝ }
+{
+    Ruled {
+        number,
+        count: 0,
+        laws_count: 0,
+        equals: 0,
+        first: 0,
+        second: 0,
+        claim: 0,
+        laws_claim: 0,
+    }
+}
+
+fn number_if(test: bool, number: u64) -> u64
+    ensures { λ r. ⌜ r ≡ cond test number 0 ⌝ }
+{
+    if test { number } else { 0 }
+}
+
+// 1 by a count, 2 by equal positions, 3 by both; 0 where the game does not go on.
+fn reason(going: bool, count: usize, equals: u64) -> u64
+    ensures { λ r. ⌜ r ≡ cond going (cond (leb claimCount count) 1 0 + cond (leb 2 equals) 2 0) 0 ⌝ }
+{
+    if !going {
+        return 0;
+    }
+    number_if(CLAIM_COUNT <= count, 1) + number_if(2 <= equals, 2)
+}
+
+// Of a log that passed its checks.
+fn rule(acts: &[u8], ps: &[u8], n: usize, m: usize) -> Ruled
+    requires { ⌜ logCheck limits (now acts) (now ps) n m ≡ 0 ⌝ }
+    ensures { λ r. ⌜ r ≡ ruledOn (historyOf (now (acts .entry)) (now (ps .entry)) n) ⌝ }
+{
+    let run = claim::run_at(acts, ps, n);
+    let count = claim::moves_since(run.since, m);
+    let laws_count = claim::moves_since(since(acts, ps, n), m);
+    let places = position::equal_places(ps, run.first, m);
+    let going = ending::result(acts, ps, n, m) == GOES_ON;
+    let claim = reason(going, count, places.count);
+    let laws_claim = reason(going, laws_count, places.count);
+    Ruled {
+        number: ACCEPTED,
+        count: count as u64,
+        laws_count: laws_count as u64,
+        equals: places.count,
+        first: places.first,
+        second: places.second,
+        claim,
+        laws_claim,
+    }
+}
+
+// What both rulings rest on. Refused: 16, 9.
+pub fn ruling(acts: &[u8], ps: &[u8], n: u64, m: u64) -> Ruled
+    ensures { λ r. ⌜ r ≡ rulingAnswer limits (now (acts .entry)) (now (ps .entry)) n m ⌝ }
+{
+    let number = good_log::check(acts, ps, n as usize, m as usize);
+    if number != ACCEPTED {
+        return not_ruled(number);
+    }
+    rule(acts, ps, n as usize, m as usize)
+}
+
+// Whether a draw may be claimed by the Laws' count, 1 or 0.
+pub fn can_claim(acts: &[u8], ps: &[u8], n: u64, m: u64) -> Answer
+    ensures { λ r. ⌜ r ≡ lawsAnswer limits (now (acts .entry)) (now (ps .entry)) n m ⌝ }
+{
+    let ruled = ruling(acts, ps, n, m);
+    if ruled.number != ACCEPTED {
+        return square::refused(ruled.number);
+    }
+    if ruled.laws_claim == 0 {
+        return square::accepted(0);
+    }
+    square::accepted(1)
 }

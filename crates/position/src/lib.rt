@@ -2,7 +2,9 @@
 use board_builder::RECORD_SIZE;
 use move_list::LONGEST_LIST;
 ghost use mathlib.Core.Path.{_≡_};
-ghost use Prim.Native.Nat.{_+_, _*_, _-_, _≤_};
+ghost use mathlib.Core.Bool.{cond};
+ghost use mathlib.Core.List.{List, [], _∷_, _++_};
+ghost use Prim.Native.Nat.{ℕ, _+_, _*_, _-_, _<_, _≤_};
 ghost use lib.Dec.{leb};
 ghost use lib.ListN.{length};
 ghost use Rattle.square.specs.Parts.{item};
@@ -93,19 +95,33 @@ pub struct Places {
     pub second: u64,
 }
 
-fn with_place(found: Places, is_equal: bool, i: usize) -> Places {
+// What is told of the numbers so far, with `i` after them where position `i` is equal.
+fn with_place(found: Places, is_equal: bool, i: usize) -> Places
+    requires { ⌜ found .count < 18446744073709551615 ⌝ }
+    ensures { λ r. ⌜ ((l : List ℕ) → found ≡ placesTold l → r ≡ placesTold (l ++ cond «is_equal» (i ∷ []) [])) ⌝ }
+{
     if !is_equal {
         return found;
     }
-    let mut next = found;
     if found.count == 0 {
-        next.first = i as u64;
+        return Places {
+            count: 1,
+            first: i as u64,
+            second: 0,
+        };
     }
     if found.count == 1 {
-        next.second = i as u64;
+        return Places {
+            count: 2,
+            first: found.first,
+            second: i as u64,
+        };
     }
-    next.count = found.count + 1;
-    next
+    Places {
+        count: found.count + 1,
+        first: found.first,
+        second: found.second,
+    }
 }
 
 fn places_from(ps: &[u8], first: usize, last: usize) -> Places

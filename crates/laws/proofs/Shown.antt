@@ -1,0 +1,138 @@
+-- What the code shows of a log that passed its checks is what the rules say of its history; and the Laws' query by what is shown.
+-- Assumes nothing.
+use mathlib.Core.Path.{_≡_, refl, sym, ap, _∙_}
+use mathlib.Core.Bool.{Bool, true, false, cond, not}
+use mathlib.Core.List.{List, [], _∷_}
+use Prim.Native.Nat.{ℕ, suc, _+_, _*_, _-_, _≤_}
+use native.Mathlib.Omega.{arith}
+use lib.Dec.{eqb, leb}
+use lib.ListN.{length, getD}
+use borrow.Author.Tests.{le-leb, eqb-true, eqb-false}
+use Rattle.square.specs.declared.Answer.{Answer}
+use Rattle.square.specs.Answer.{accepted, refused}
+use Rattle.position.specs.declared.Places.{Places}
+use Rattle.position.specs.Layout.{Position, positionSize, positionAt, positionsFrom}
+use Rattle.position.specs.Places.{placesOf, placesTold, equalPlaces}
+use Rattle.ending.specs.Ending.{resultAt}
+use Rattle.claim.specs.declared.Run.{Run}
+use Rattle.claim.specs.Claim.{claimCount, runAt}
+use Rattle.game_rules.specs.Limits.{Limits, limits}
+use Rattle.game_rules.specs.Rules.{History, current, moves, ended, result, ruling, repeats}
+use Rattle.game_rules.specs.Good.{historyOf}
+use Rattle.game_rules.specs.Calls.{logCheck}
+use Rattle.game_rules.proofs.Log.{moves-at, current-is, result-is}
+use Rattle.game_rules.proofs.Rulings.{RunIs, run-is}
+use Rattle.game.proofs.Answers.{Ready, log-ready}
+use Rattle.laws.specs.declared.Ruled.{Ruled}
+use Rattle.laws.specs.Since.{lawsSince}
+use Rattle.laws.specs.Laws.{lawsCount}
+use Rattle.laws.specs.Ruling.{earlier, equalsAt, reason, ruledOn, rulingAnswer, lawsAnswer}
+use Rattle.laws.specs.Promises.{AsTheQueries}
+use Rattle.laws.proofs.Counted.{laws-counted}
+use Rattle.laws.proofs.Histories.{equals-are-shown, rulings-are-as-the-queries}
+
+-- the eight numbers
+abbrev shown : ℕ → ℕ → Places → ℕ → ℕ → Ruled
+shown count laws places claim laws-claim = record {
+  number = 0;
+  count = count;
+  «laws_count» = laws;
+  equals = places .count;
+  first = places .first;
+  second = places .second;
+  claim = claim;
+  «laws_claim» = laws-claim
+}
+
+module _ (acts ps : List ℕ) (n m : ℕ) (passed : logCheck limits acts ps n m ≡ 0) where
+  ready : Ready acts ps n m
+  ready = log-ready acts ps n m passed
+
+  count-is : m - runAt acts ps n .since ≡ ruling (historyOf acts ps n) .count
+  count-is = ap (λ (k : ℕ). k - runAt acts ps n .since) (ready .counted) ∙ sym (run-is acts ps n .counted)
+
+  laws-is : m - lawsSince acts ps n ≡ lawsCount (historyOf acts ps n)
+  laws-is = ap (λ (k : ℕ). k - lawsSince acts ps n) (ready .counted) ∙ sym (laws-counted acts ps n)
+
+  run-here : ruling (historyOf acts ps n) .run ≡ positionAt ps m ∷ positionsFrom ps (runAt acts ps n .first) (m - runAt acts ps n .first)
+  unfolding positionsFrom
+  run-here =
+      let was = run-is acts ps n in
+      let first = runAt acts ps n .first in
+      let long : suc m - first ≡ suc (m - first) = omega (arith, was .begins, ready .counted) in
+      let top : first + (m - first) ≡ m = omega (arith, was .begins, ready .counted) in
+      was .holds ∙ ap (λ (k : ℕ). positionsFrom ps first (suc k - first)) (sym (ready .counted)) ∙ rw (long, top)
+
+  -- the numbers of the equal positions
+  equals-here : equalsAt (historyOf acts ps n) ≡ placesOf (positionAt ps m) m (positionsFrom ps (runAt acts ps n .first) (m - runAt acts ps n .first))
+  unfolding equalsAt
+  equals-here =
+      let h = historyOf acts ps n in
+      let top : moves h ≡ m = moves-at acts ps n ∙ sym (ready .counted) in
+      rw (run-here, top, current-is limits acts ps n m (ready .counted) (ready .ok))
+
+  places-are : equalPlaces ps (runAt acts ps n .first) m ≡ placesTold (equalsAt (historyOf acts ps n))
+  unfolding equalPlaces
+  places-are =
+      let inside : positionSize * m + positionSize ≤ length ps = omega (arith, ready .some, ready .place) in
+      rw (le-leb _ _ inside, equals-here)
+
+  -- the reason for a claim, by whether the game goes on
+  reason-is : (g : Bool) (count : ℕ) (places : Places) → g ≡ eqb (resultAt acts ps n m) 0 → places ≡ placesTold (equalsAt (historyOf acts ps n))
+      → cond g (cond (leb claimCount count) 1 0 + cond (leb 2 (places .count)) 2 0) 0 ≡ reason (historyOf acts ps n) count
+  reason-is g count places e f =
+      let h = historyOf acts ps n in
+      let equals : places .count ≡ repeats (ruling h .run) = ap (λ (p : Places). p .count) f ∙ equals-are-shown h in
+      let goes : g ≡ eqb (result h) 0 = e ∙ ap (λ (k : ℕ). eqb k 0) (result-is limits acts ps n m (ready .counted) (ready .ok)) in
+      rw (equals, goes) (turned (eqb (result h) 0) (cond (leb claimCount count) 1 0 + cond (leb 2 (repeats (ruling h .run))) 2 0))
+    where
+      turned : (t : Bool) (x : ℕ) → cond t x 0 ≡ cond (not t) 0 x
+      turned true x = refl
+      turned false x = refl
+
+  pub ruled-by : (r : Run) (since count laws : ℕ) (places : Places) (g : Bool) (claim laws-claim : ℕ)
+      → r ≡ runAt acts ps n → since ≡ lawsSince acts ps n
+      → count ≡ m - r .since → laws ≡ m - since
+      → places ≡ equalPlaces ps (r .first) m
+      → g ≡ eqb (resultAt acts ps n m) 0
+      → claim ≡ cond g (cond (leb claimCount count) 1 0 + cond (leb 2 (places .count)) 2 0) 0
+      → laws-claim ≡ cond g (cond (leb claimCount laws) 1 0 + cond (leb 2 (places .count)) 2 0) 0
+      → shown count laws places claim laws-claim ≡ ruledOn (historyOf acts ps n)
+  unfolding ruledOn
+  ruled-by r since count laws places g claim laws-claim er es ec el ep eg ex ey =
+      let h = historyOf acts ps n in
+      let counted : count ≡ ruling h .count = ec ∙ ap (λ (q : Run). m - q .since) er ∙ count-is in
+      let by-laws : laws ≡ lawsCount h = el ∙ ap (λ (k : ℕ). m - k) es ∙ laws-is in
+      let there : places ≡ placesTold (equalsAt h) = ep ∙ ap (λ (q : Run). equalPlaces ps (q .first) m) er ∙ places-are in
+      let one : claim ≡ reason h (ruling h .count) = ex ∙ reason-is g count places eg there ∙ ap (reason h) counted in
+      let two : laws-claim ≡ reason h (lawsCount h) = ey ∙ reason-is g laws places eg there ∙ ap (reason h) by-laws in
+      rw (counted, by-laws, one, two, there, ← equals-are-shown h)
+
+-- ---- the Laws' query, by what is shown
+
+module _ (acts ps : List ℕ) (n m : ℕ) (r : Ruled) (e : r ≡ rulingAnswer limits acts ps n m) where
+  queries : AsTheQueries limits acts ps n m
+  queries = rulings-are-as-the-queries limits acts ps n m
+
+  number-told : r .number ≡ lawsAnswer limits acts ps n m .number
+  number-told = ap (λ (x : Ruled). x .number) e ∙ queries .laws-numbers
+
+  same : (a b : Answer) → a .number ≡ b .number → a .value ≡ b .value → a ≡ b
+  same a b f g = rw (f, g)
+
+  value-refused : (lawsAnswer limits acts ps n m .number ≡ 0 → ⊥) → lawsAnswer limits acts ps n m .value ≡ 0
+  unfolding lawsAnswer
+  value-refused some = go (eqb (logCheck limits acts ps n m) 0) refl
+    where
+      go : (t : Bool) → eqb (logCheck limits acts ps n m) 0 ≡ t → lawsAnswer limits acts ps n m .value ≡ 0
+      go true f = absurd (some (simp f))
+      go false f = simp f
+
+  pub laws-refused : (r .number ≡ 0 → ⊥) → refused (r .number) ≡ lawsAnswer limits acts ps n m
+  laws-refused some = same _ _ number-told (sym (value-refused (λ z. some (number-told ∙ z))))
+
+  pub laws-none : r .number ≡ 0 → r .«laws_claim» ≡ 0 → accepted 0 ≡ lawsAnswer limits acts ps n m
+  laws-none z c = same _ _ (sym z ∙ number-told) (sym (queries .no-laws-claim (sym (ap (λ (x : Ruled). x .«laws_claim») e) ∙ c)))
+
+  pub laws-stands : r .number ≡ 0 → (r .«laws_claim» ≡ 0 → ⊥) → accepted 1 ≡ lawsAnswer limits acts ps n m
+  laws-stands z c = same _ _ (sym z ∙ number-told) (sym (queries .laws-claim (λ k. c (ap (λ (x : Ruled). x .«laws_claim») e ∙ k))))
