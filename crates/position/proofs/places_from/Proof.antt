@@ -46,11 +46,13 @@ loop-again c =
     let at-position = c .before .before .before .before .before .position in
     let at-loop = c .before .before .before .before .loop in
     let at-position2 = c .before .before .position2 in
-    let at-same-position = c .before .same-position in
-    (omega arith, omega arith, told-next (a .ps .now) (positionAt (a .ps .now) (a .last)) (a .first) (at-loop .i) (c .with-place .result)
-    (at-same-position .result) (omega arith)
-    (equal-at (a .ps .now) (at-loop .i) (a .last) _ _ _ _ (at-position2 .ensures .is) (at-position .ensures .is) (at-same-position .ensures) refl)
-    (c .with-place .ensures (numbers (a .ps .now) (positionAt (a .ps .now) (a .last)) (a .first) (at-loop .i)) (at-loop .inv .2)))
+    let at-same-position = c .before .same-position in (
+      omega arith,
+      omega arith,
+      told-next (a .ps .now) (positionAt (a .ps .now) (a .last)) (a .first) (at-loop .i) (c .with-place .result) (at-same-position .result) (omega arith)
+          (equal-at (a .ps .now) (at-loop .i) (a .last) _ _ _ _ (at-position2 .ensures .is) (at-position .ensures .is) (at-same-position .ensures) refl)
+          (c .with-place .ensures (numbers (a .ps .now) (positionAt (a .ps .now) (a .last)) (a .first) (at-loop .i)) (at-loop .inv .2)),
+    )
 
 returns : tie.Need-returns Inv-loop μ-loop
 returns c = let e : c .before .loop .i ≡ c .before .before .before .before .args .last = omega arith in rw e at (c .before .loop .inv .2)
