@@ -7,21 +7,17 @@ use Prim.Native.Nat.{ℕ, suc, _+_, _≤_, _<_}
 use native.Mathlib.Decide.{decLe}
 use native.Mathlib.Omega.{arith}
 use lib.Dec.{eqb, leb}
-use lib.ListN.{length, getD}
 use borrow.Author.Tests.{le-leb, lt-leb}
 use Rattle.position.specs.Layout.{Position}
-use Rattle.position.specs.Repeats.{times}
-use Rattle.position.specs.Places.{placesOf}
 use Rattle.position.proofs.PlacesOf.{places-times}
 use Rattle.claim.specs.Emptying.{irreversible, rightsDiffer}
 use Rattle.claim.specs.Claim.{claimCount}
-use Rattle.game_rules.specs.Limits.{Limits}
-use Rattle.game_rules.specs.Rules.{Call, makeMove, offerDraw, acceptDraw, declareDraw, resign, History, begun, after, current, moves, ended, result, ruling, repeats, claimStands}
+use Rattle.game_rules.specs.Rules.{makeMove, offerDraw, acceptDraw, declareDraw, resign, History, begun, after, current, moves, ended, ruling, repeats, claimStands}
 use Rattle.game_rules.specs.Good.{historyOf}
 use Rattle.game_rules.specs.Calls.{logCheck, claimAnswer}
 use Rattle.laws.specs.Laws.{movesMade, sinceLast, lawsCount, lawsClaimStands, rightsKept}
-use Rattle.laws.specs.Ruling.{earlier, equalsAt, ruledOn, rulingAnswer, lawsAnswer}
-use Rattle.laws.specs.Promises.{NeverUnder, ByTheLawsAlone, DifferSo, TheyDifferSo, TheSame, SameWhereRightsWereKept, EqualsAreShown, AsTheQueries, RulingsAreAsTheQueries}
+use Rattle.laws.specs.Ruling.{equalsAt, ruledOn, rulingAnswer, lawsAnswer}
+use Rattle.laws.specs.Promises.{NeverUnder, ByTheLawsAlone, TheyDifferSo, SameWhereRightsWereKept, EqualsAreShown, AsTheQueries, RulingsAreAsTheQueries}
 
 -- ---- the counts
 
@@ -164,8 +160,8 @@ rulings-are-as-the-queries L acts ps n m = go (eqb (logCheck L acts ps n m) 0) r
     go false e = record {
       numbers = simp e;
       laws-numbers = simp e;
-      claim = λ k. absurd (simp e at k);
+      claim = λ k. absurd ((simp e at k) refl);
       no-claim = λ z. simp e;
-      laws-claim = λ k. absurd (simp e at k);
+      laws-claim = λ k. absurd ((simp e at k) refl);
       no-laws-claim = λ z. simp e;
     }

@@ -1,32 +1,32 @@
 -- What the code shows of a log that passed its checks is what the rules say of its history; and the Laws' query by what is shown.
 -- Assumes nothing.
 use mathlib.Core.Path.{_≡_, refl, sym, ap, _∙_}
-use mathlib.Core.Bool.{Bool, true, false, cond, not}
-use mathlib.Core.List.{List, [], _∷_}
+use mathlib.Core.Bool.{Bool, true, false, cond, not, true≢false}
+use mathlib.Core.List.{List, _∷_}
 use Prim.Native.Nat.{ℕ, suc, _+_, _*_, _-_, _≤_}
 use native.Mathlib.Omega.{arith}
 use lib.Dec.{eqb, leb}
-use lib.ListN.{length, getD}
-use borrow.Author.Tests.{le-leb, eqb-true, eqb-false}
+use lib.ListN.{length}
+use borrow.Author.Tests.{le-leb, eq-eqb, ne-eqb}
 use Rattle.square.specs.declared.Answer.{Answer}
 use Rattle.square.specs.Answer.{accepted, refused}
 use Rattle.position.specs.declared.Places.{Places}
-use Rattle.position.specs.Layout.{Position, positionSize, positionAt, positionsFrom}
+use Rattle.position.specs.Layout.{positionSize, positionAt, positionsFrom}
 use Rattle.position.specs.Places.{placesOf, placesTold, equalPlaces}
 use Rattle.ending.specs.Ending.{resultAt}
 use Rattle.claim.specs.declared.Run.{Run}
 use Rattle.claim.specs.Claim.{claimCount, runAt}
-use Rattle.game_rules.specs.Limits.{Limits, limits}
-use Rattle.game_rules.specs.Rules.{History, current, moves, ended, result, ruling, repeats}
+use Rattle.game_rules.specs.Limits.{limits}
+use Rattle.game_rules.specs.Rules.{moves, result, ruling, repeats}
 use Rattle.game_rules.specs.Good.{historyOf}
 use Rattle.game_rules.specs.Calls.{logCheck}
 use Rattle.game_rules.proofs.Log.{moves-at, current-is, result-is}
-use Rattle.game_rules.proofs.Rulings.{RunIs, run-is}
+use Rattle.game_rules.proofs.Rulings.{run-is}
 use Rattle.game.proofs.Answers.{Ready, log-ready}
 use Rattle.laws.specs.declared.Ruled.{Ruled}
 use Rattle.laws.specs.Since.{lawsSince}
 use Rattle.laws.specs.Laws.{lawsCount}
-use Rattle.laws.specs.Ruling.{earlier, equalsAt, reason, ruledOn, rulingAnswer, lawsAnswer}
+use Rattle.laws.specs.Ruling.{equalsAt, reason, ruledOn, notRuled, rulingAnswer, lawsAnswer}
 use Rattle.laws.specs.Promises.{AsTheQueries}
 use Rattle.laws.proofs.Counted.{laws-counted}
 use Rattle.laws.proofs.Histories.{equals-are-shown, rulings-are-as-the-queries}
@@ -107,6 +107,29 @@ module _ (acts ps : List ℕ) (n m : ℕ) (passed : logCheck limits acts ps n m 
       let one : claim ≡ reason h (ruling h .count) = ex ∙ reason-is g count places eg there ∙ ap (reason h) counted in
       let two : laws-claim ≡ reason h (lawsCount h) = ey ∙ reason-is g laws places eg there ∙ ap (reason h) by-laws in
       rw (counted, by-laws, one, two, there, ← equals-are-shown h)
+
+-- ---- the steps of the code
+
+pub not-going : (g : Bool) (x : ℕ) → not g ≡ true → 0 ≡ cond g x 0
+not-going true x e = absurd (true≢false (sym e))
+not-going false x e = refl
+
+pub is-going : (g : Bool) (x y : ℕ) → not g ≡ false → y ≡ x → y ≡ cond g x 0
+is-going true x y e f = f
+is-going false x y e f = absurd (true≢false e)
+
+pub at-most : (t : Bool) (x r : ℕ) → r ≡ cond t x 0 → r ≤ x
+at-most true x r e = omega arith
+at-most false x r e = omega arith
+
+module _ (acts ps : List ℕ) (n m x : ℕ) (e : x ≡ logCheck limits acts ps n m) where
+  pub ruling-refused : (x ≡ 0 → ⊥) → notRuled x ≡ rulingAnswer limits acts ps n m
+  unfolding rulingAnswer
+  ruling-refused some = rw (← e, ne-eqb x 0 some)
+
+  pub ruling-given : (r : Ruled) → x ≡ 0 → r ≡ ruledOn (historyOf acts ps n) → r ≡ rulingAnswer limits acts ps n m
+  unfolding rulingAnswer
+  ruling-given r z given = rw (← e, eq-eqb x 0 z) given
 
 -- ---- the Laws' query, by what is shown
 

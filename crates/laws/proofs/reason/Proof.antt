@@ -1,29 +1,34 @@
 use borrow.Author.Needs.{needs}
+use mathlib.Core.Path.{ap₂}
+use native.Mathlib.Omega.{arith}
+use Prim.Native.Nat.{_+_}
+use lib.Dec.{leb}
+use Rattle.claim.specs.Claim.{claimCount}
+use Rattle.laws.proofs.Shown.{not-going, is-going, at-most}
 use Rattle.laws.proofs.reason.Statement.{statement}
 use Rattle.laws.proofs.reason.Tie as tie
-use Rattle.laws.proofs.reason.Reads as reads
-use Rattle.laws.proofs.reason.Lts as lts
-use Rattle.laws.proofs.number_if.Reads as number-if-reads
 
--- src/lib.rt:77:9
 returns : tie.Need-returns
-returns c = ?
+returns c = not-going (c .before .args .going) _ (c .if1 .taken)
 
--- src/lib.rt:79:5
 number-if-requires : tie.Need-number-if-requires
 number-if-requires c κs = search needs
 
--- src/lib.rt:79:42
 number-if-requires-2 : tie.Need-number-if-requires-2
 number-if-requires-2 c κs = search needs
 
--- src/lib.rt:79:5
 add-result : tie.Need-add-result
-add-result c = ?
+add-result c = 
+    let one = at-most (leb claimCount (c .before .before .before .args .count)) 1 (c .before .number-if .result) (c .before .number-if .ensures) in
+    let two = at-most (leb 2 (c .before .before .before .args .equals)) 2 (c .number-if2 .result) (c .number-if2 .ensures) in
+    omega arith
 
--- src/lib.rt:73:1
 returns-2 : tie.Need-returns-2
-returns-2 c = ?
+returns-2 c =
+    let a = c .before .before .before .args in
+    let at-if1 = c .before .before .if1 in
+    let at-number-if = c .before .number-if in
+    is-going (a .going) _ _ (at-if1 .left) (ap₂ _+_ (at-number-if .ensures) (c .number-if2 .ensures))
 
 pub reason-spec : {M : Type 1} → statement M
 reason-spec =

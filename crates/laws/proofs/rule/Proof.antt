@@ -1,50 +1,51 @@
 use borrow.Author.Needs.{needs}
+use mathlib.Core.Path.{ap}
+use Prim.Native.Nat.{ℕ}
+use lib.Dec.{eqb}
+use Rattle.laws.proofs.Shown.{ruled-by}
 use Rattle.laws.proofs.rule.Statement.{statement}
 use Rattle.laws.proofs.rule.Tie as tie
-use Rattle.laws.proofs.rule.Reads as reads
-use Rattle.laws.proofs.rule.Lts as lts
-use Rattle.claim.proofs.moves_since.Reads as moves-since-reads
-use Rattle.claim.proofs.run_at.Reads as run-at-reads
-use Rattle.ending.proofs.result.Reads as result-reads
-use Rattle.laws.proofs.reason.Reads as reason-reads
-use Rattle.laws.proofs.since.Reads as since-reads
-use Rattle.position.proofs.equal_places.Reads as equal-places-reads
 
--- src/lib.rt:87:9
 run-at-requires : tie.Need-run-at-requires
 run-at-requires c κs = search needs
 
--- src/lib.rt:88:9
 moves-since-requires : tie.Need-moves-since-requires
 moves-since-requires c κs = search needs
 
--- src/lib.rt:89:41
 since-requires : tie.Need-since-requires
 since-requires c κs = search needs
 
--- src/lib.rt:89:9
 moves-since-requires-2 : tie.Need-moves-since-requires-2
 moves-since-requires-2 c κs = search needs
 
--- src/lib.rt:90:9
 equal-places-requires : tie.Need-equal-places-requires
 equal-places-requires c κs = search needs
 
--- src/lib.rt:91:17
 result-requires : tie.Need-result-requires
 result-requires c κs = search needs
 
--- src/lib.rt:92:9
 reason-requires : tie.Need-reason-requires
 reason-requires c κs = search needs
 
--- src/lib.rt:93:9
 reason-requires-2 : tie.Need-reason-requires-2
 reason-requires-2 c κs = search needs
 
--- src/lib.rt:83:1
 returns : tie.Need-returns
-returns c = ?
+returns c =
+    let at-args = c .before .before .before .before .before .before .before .before .before .before .args in
+    let at-pre = c .before .before .before .before .before .before .before .before .before .before .pre in
+    let at-run-at = c .before .before .before .before .before .before .before .run-at in
+    let at-moves-since = c .before .before .before .before .before .before .moves-since in
+    let at-since = c .before .before .before .before .before .since in
+    let at-moves-since2 = c .before .before .before .before .moves-since2 in
+    let at-equal-places = c .before .before .before .equal-places in
+    let at-result = c .before .before .result in
+    let at-reason = c .before .reason in
+    let goes = ap (λ (k : ℕ). eqb k 0) (at-result .ensures) in
+    ruled-by (at-args .acts .now) (at-args .ps .now) (at-args .n) (at-args .m) (at-pre)
+    (at-run-at .result) (at-since .result) (at-moves-since .result) (at-moves-since2 .result) (at-equal-places .result) (eqb (at-result .result) 0)
+    (at-reason .result) (c .reason2 .result) (at-run-at .ensures) (at-since .ensures) (at-moves-since .ensures) (at-moves-since2 .ensures)
+    (at-equal-places .ensures) goes (at-reason .ensures) (c .reason2 .ensures)
 
 pub rule-spec : {M : Type 1} → statement M
 rule-spec =

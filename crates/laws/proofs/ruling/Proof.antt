@@ -1,31 +1,33 @@
 use borrow.Author.Needs.{needs}
+use mathlib.Core.Path.{sym, _∙_}
+use Rattle.laws.proofs.Shown.{ruling-refused, ruling-given}
 use Rattle.laws.proofs.ruling.Statement.{statement}
 use Rattle.laws.proofs.ruling.Tie as tie
-use Rattle.laws.proofs.ruling.Reads as reads
-use Rattle.laws.proofs.ruling.Lts as lts
-use Rattle.good_log.proofs.check.Reads as check-reads
-use Rattle.laws.proofs.not_ruled.Reads as not-ruled-reads
-use Rattle.laws.proofs.rule.Reads as rule-reads
 
--- src/lib.rt:110:9
 check-requires : tie.Need-check-requires
 check-requires c κs = search needs
 
--- src/lib.rt:112:9
 not-ruled-requires : tie.Need-not-ruled-requires
 not-ruled-requires c κs = search needs
 
--- src/lib.rt:112:9
 returns : tie.Need-returns
-returns c = ?
+returns c =
+    let at-args = c .before .before .before .before .before .args in
+    let at-check = c .before .before .check in
+    let at-if1 = c .before .if1 in
+    c .not-ruled .ensures
+    ∙ ruling-refused (at-args .acts .now) (at-args .ps .now) (at-args .n) (at-args .m) (at-check .result) (at-check .ensures) (at-if1 .taken)
 
--- src/lib.rt:114:5
 rule-requires : tie.Need-rule-requires
-rule-requires c κs = search needs
+rule-requires c κs = sym (c .before .check .ensures) ∙ c .if1 .left
 
--- src/lib.rt:107:1
 returns-2 : tie.Need-returns-2
-returns-2 c = ?
+returns-2 c =
+    let at-args = c .before .before .before .before .before .args in
+    let at-check = c .before .before .check in
+    let at-if1 = c .before .if1 in
+    ruling-given (at-args .acts .now) (at-args .ps .now) (at-args .n) (at-args .m) (at-check .result) (at-check .ensures) (c .rule .result) (at-if1 .left)
+    (c .rule .ensures)
 
 pub ruling-spec : {M : Type 1} → statement M
 ruling-spec =
