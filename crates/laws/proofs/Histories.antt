@@ -12,7 +12,8 @@ use Rattle.position.specs.Layout.{Position}
 use Rattle.position.proofs.PlacesOf.{places-times}
 use Rattle.claim.specs.Emptying.{irreversible, rightsDiffer}
 use Rattle.claim.specs.Claim.{claimCount}
-use Rattle.game_rules.specs.Rules.{makeMove, offerDraw, acceptDraw, declareDraw, resign, History, begun, after, current, moves, ended, ruling, repeats, claimStands}
+use Rattle.game_rules.specs.Rules.{makeMove, offerDraw, acceptDraw, declareDraw, resign}
+use Rattle.game_rules.specs.Rules.{History, begun, after, current, moves, ended, ruling, repeats, claimStands}
 use Rattle.game_rules.specs.Good.{historyOf}
 use Rattle.game_rules.specs.Calls.{logCheck, claimAnswer}
 use Rattle.laws.specs.Laws.{movesMade, sinceLast, lawsCount, lawsClaimStands, rightsKept}
@@ -116,13 +117,13 @@ equals-are-shown h = let r = run-head h in rw (r .1) (places-times (current h) (
 
 -- ---- reasons and queries
 
-claims : (e c r : Bool) → (cond e 0 (cond c 1 0 + cond r 2 0) ≡ 0 → ⊥) → cond (not e && (c || r)) 1 0 ≡ 1
+claims : (e c r : Bool) → (cond e 0 (cond c 1 0 + cond r 2 0) ≡ 0 → ⊥) → _≡_ {A = ℕ} (cond (not e && (c || r)) 1 0) 1
 claims true c r n = absurd (n refl)
 claims false true r n = refl
 claims false false true n = refl
 claims false false false n = absurd (n refl)
 
-claims-none : (e c r : Bool) → cond e 0 (cond c 1 0 + cond r 2 0) ≡ 0 → cond (not e && (c || r)) 1 0 ≡ 0
+claims-none : (e c r : Bool) → cond e 0 (cond c 1 0 + cond r 2 0) ≡ 0 → _≡_ {A = ℕ} (cond (not e && (c || r)) 1 0) 0
 claims-none true c r z = refl
 claims-none false true true z = absurd (omega arith)
 claims-none false true false z = absurd (omega arith)

@@ -1,4 +1,6 @@
+pub mod AtSmallest
 pub mod Back
 pub mod Counted
 pub mod Histories
 pub mod Shown
+pub mod Determined

@@ -51,6 +51,10 @@ use Rattle.menkhodur.proofs.menkhodur_game_result.Reads as menkhodur-ga
 use Rattle.menkhodur.proofs.menkhodur_game_result.Kinds as menkhodur-game-result·k
 use Rattle.menkhodur.proofs.menkhodur_game_can_declare_draw.Reads as menkhodur-game-can-declare-draw
 use Rattle.menkhodur.proofs.menkhodur_game_can_declare_draw.Kinds as menkhodur-game-can-declare-draw·k
+use Rattle.menkhodur.proofs.menkhodur_game_can_claim_by_laws.Reads as menkhodur-game-can-claim-by-laws
+use Rattle.menkhodur.proofs.menkhodur_game_can_claim_by_laws.Kinds as menkhodur-game-can-claim-by-laws·k
+use Rattle.menkhodur.proofs.menkhodur_game_ruling.Reads as menkhodur-game-ruling
+use Rattle.menkhodur.proofs.menkhodur_game_ruling.Kinds as menkhodur-game-ruling·k
 use Rattle.menkhodur.proofs.menkhodur_roll_write.Reads as menkhodur-roll-write
 use Rattle.menkhodur.proofs.menkhodur_roll_write.Kinds as menkhodur-roll-write·k
 use Rattle.menkhodur.proofs.menkhodur_roll_read.Reads as menkhodur-roll-read
@@ -161,6 +165,13 @@ menkhodur-game-result-answer κs a x y e f p q = p ∙ sym q
 pub menkhodur-game-can-declare-draw-answer : OneAnswer menkhodur-game-can-declare-draw·k.ps menkhodur-game-can-declare-draw·k.r
     menkhodur-game-can-declare-draw.Learnt
 menkhodur-game-can-declare-draw-answer κs a x y e f p q = p ∙ sym q
+
+pub menkhodur-game-can-claim-by-laws-answer : OneAnswer menkhodur-game-can-claim-by-laws·k.ps menkhodur-game-can-claim-by-laws·k.r
+    menkhodur-game-can-claim-by-laws.Learnt
+menkhodur-game-can-claim-by-laws-answer κs a x y e f p q = p ∙ sym q
+
+pub menkhodur-game-ruling-answer : OneAnswer menkhodur-game-ruling·k.ps menkhodur-game-ruling·k.r menkhodur-game-ruling.Learnt
+menkhodur-game-ruling-answer κs a x y e f p q = p ∙ sym q
 
 pub menkhodur-roll-write-answer : OneAnswer menkhodur-roll-write·k.ps menkhodur-roll-write·k.r menkhodur-roll-write.Learnt
 menkhodur-roll-write-answer κs a x y e f p q = p .0 ∙ sym (q .0)

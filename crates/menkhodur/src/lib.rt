@@ -4,6 +4,7 @@ use board_builder::Stepped;
 use fen_text::Fen;
 use game_rules::Counts;
 use roll_text::Roll;
+use laws::Ruled;
 use square::Answer;
 use square::Placed;
 ghost use mathlib.Core.Path.{_≡_};
@@ -21,6 +22,7 @@ ghost use Rattle.stored_position.specs.Bytes.{positionGiven};
 ghost use Rattle.game_rules.specs.Limits.{limits};
 ghost use Rattle.game_rules.specs.Rules.{makeMove, offerDraw, acceptDraw, declareDraw, resign};
 ghost use Rattle.game_rules.specs.Calls.{callAnswer, counts, countsAfter, actionsAfter, positionsAfter, startAnswer, positionsBegun, resultAnswer, claimAnswer};
+ghost use Rattle.laws.specs.Ruling.{rulingAnswer, lawsAnswer};
 ghost use Rattle.roll_text.specs.Calls.{writeCheck, gameText, judged, rollAnswer, rollOver};
 
 #[no_mangle]
@@ -231,6 +233,20 @@ pub extern "C" fn menkhodur_game_can_declare_draw(acts: &[u8], ps: &[u8], n: u64
     ensures { λ r. ⌜ r ≡ claimAnswer limits (now (acts .entry)) (now (ps .entry)) n m ⌝ }
 {
     game::can_declare_draw(acts, ps, n, m)
+}
+
+#[no_mangle]
+pub extern "C" fn menkhodur_game_can_claim_by_laws(acts: &[u8], ps: &[u8], n: u64, m: u64) -> Answer
+    ensures { λ r. ⌜ r ≡ lawsAnswer limits (now (acts .entry)) (now (ps .entry)) n m ⌝ }
+{
+    laws::can_claim(acts, ps, n, m)
+}
+
+#[no_mangle]
+pub extern "C" fn menkhodur_game_ruling(acts: &[u8], ps: &[u8], n: u64, m: u64) -> Ruled
+    ensures { λ r. ⌜ r ≡ rulingAnswer limits (now (acts .entry)) (now (ps .entry)) n m ⌝ }
+{
+    laws::ruling(acts, ps, n, m)
 }
 
 #[no_mangle]
