@@ -20,7 +20,7 @@ use Rattle.game_rules.proofs.Checks.{log-says}
 use Rattle.game_rules.proofs.Decide.{good-history, good-is-decided}
 
 -- what is asked for only where a check passed
-where-passed : {A : Type 0} (a : ℕ) (x y z : A) → (a ≡ 0 → x ≡ y) → cond (eqb a 0) x z ≡ cond (eqb a 0) y z
+pub where-passed : {A : Type 0} (a : ℕ) (x y z : A) → (a ≡ 0 → x ≡ y) → cond (eqb a 0) x z ≡ cond (eqb a 0) y z
 where-passed a x y z e = go (eqb a 0) refl
   where
     go : (t : Bool) → eqb a 0 ≡ t → cond t x z ≡ cond t y z
@@ -58,11 +58,11 @@ module _ (L : Limits) (acts bacts ps qs : List ℕ) (n m : ℕ) (u : SameUsed L 
       (good-too L acts bacts ps qs n m (u .action-bytes) (u .position-bytes))
       (good-too L bacts acts qs ps n m (sym (u .action-bytes)) (sym (u .position-bytes)))
 
-  one-check : logCheck L bacts qs n m ≡ logCheck L acts ps n m
+  pub one-check : logCheck L bacts qs n m ≡ logCheck L acts ps n m
   unfolding logCheck
   one-check = rw (u .long, u .also-long, one-good) refl
 
-  one-history : logCheck L acts ps n m ≡ 0 → historyOf acts ps n ≡ historyOf bacts qs n
+  pub one-history : logCheck L acts ps n m ≡ 0 → historyOf acts ps n ≡ historyOf bacts qs n
   one-history e = go (good-is-decided L acts ps n m .0 (log-says L acts ps n m e .good))
     where
       go : Good L acts ps n m → historyOf acts ps n ≡ historyOf bacts qs n

@@ -3,4 +3,5 @@ pub mod Back
 pub mod Counted
 pub mod Histories
 pub mod Shown
+pub mod Played
 pub mod Determined

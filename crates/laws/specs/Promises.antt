@@ -1,16 +1,19 @@
 -- What is promised of the two counts and the two rulings, each as a statement that can be read by itself.
 -- Assumes nothing.
 use mathlib.Core.Path.{_≡_}
-use mathlib.Core.Bool.{true}
+use mathlib.Core.Bool.{true, cond, not, _&&_}
 use mathlib.Core.List.{List}
 use Prim.Native.Nat.{ℕ, _≤_, _<_}
 use lib.ListN.{length}
+use Rattle.square.specs.Answer.{accepted}
 use Rattle.claim.specs.Claim.{claimCount}
 use Rattle.game_rules.specs.Limits.{Limits}
-use Rattle.game_rules.specs.Rules.{History, ruling, repeats, claimStands}
-use Rattle.game_rules.specs.Calls.{claimAnswer}
+use Rattle.game_rules.specs.Rules.{History, ended, ruling, repeats, claimStands}
+use Rattle.game_rules.specs.Good.{Accepted, Holding}
+use Rattle.game_rules.specs.Calls.{longEnough, claimAnswer}
+use Rattle.game_rules.specs.Promises.{SameUsed}
 use Rattle.laws.specs.Laws.{movesMade, lawsCount, lawsClaimStands, rightsKept}
-use Rattle.laws.specs.Ruling.{equalsAt, rulingAnswer, lawsAnswer}
+use Rattle.laws.specs.Ruling.{equalsAt, ruledOn, rulingAnswer, lawsAnswer}
 
 -- the Laws' count is never under the crate's
 abbrev pub NeverUnder : Type 0
@@ -53,3 +56,20 @@ pub record AsTheQueries (L : Limits) (acts ps : List ℕ) (n m : ℕ) : Type 0 w
 
 abbrev pub RulingsAreAsTheQueries : Type 0
 RulingsAreAsTheQueries = (L : Limits) (acts ps : List ℕ) (n m : ℕ) → AsTheQueries L acts ps n m
+
+-- on a log that some accepted calls made, with parts that are long enough, both queries are of those calls
+pub record RuledAsPlayed (L : Limits) (acts ps : List ℕ) (n m : ℕ) (h : History) : Type 0 where
+  pub ruling-told : rulingAnswer L acts ps n m ≡ ruledOn h
+  pub laws-told : lawsAnswer L acts ps n m ≡ accepted (cond (not (ended h) && lawsClaimStands h) 1 0)
+
+abbrev pub EveryLogIsRuledAsPlayed : Type 0
+EveryLogIsRuledAsPlayed = (L : Limits) (acts ps : List ℕ) (n m : ℕ) (h : History) → longEnough L acts ps ≡ true → Accepted L h → Holding acts ps n m h
+    → RuledAsPlayed L acts ps n m h
+
+-- and they look at nothing past the used actions and positions
+pub record SameRulings (L : Limits) (acts bacts ps qs : List ℕ) (n m : ℕ) : Type 0 where
+  pub to-ruling : rulingAnswer L acts ps n m ≡ rulingAnswer L bacts qs n m
+  pub to-laws : lawsAnswer L acts ps n m ≡ lawsAnswer L bacts qs n m
+
+abbrev pub LooksAtNothingPast : Type 0
+LooksAtNothingPast = (L : Limits) (acts bacts ps qs : List ℕ) (n m : ℕ) → SameUsed L acts bacts ps qs n m → SameRulings L acts bacts ps qs n m

@@ -86,7 +86,8 @@ fn rule(acts: &[u8], ps: &[u8], n: usize, m: usize) -> Ruled
 {
     let run = claim::run_at(acts, ps, n);
     let count = claim::moves_since(run.since, m);
-    let laws_count = claim::moves_since(since(acts, ps, n), m);
+    let laws = since(acts, ps, n);
+    let laws_count = claim::moves_since(laws, m);
     let places = position::equal_places(ps, run.first, m);
     let going = ending::result(acts, ps, n, m) == GOES_ON;
     let claim = reason(going, count, places.count);
