@@ -34,6 +34,10 @@ runAt acts ps (suc i) =
     (runAfter (positionAt ps (movesIn acts i)) (moveAt acts i) (positionAt ps (suc (movesIn acts i))) (suc (movesIn acts i)) (runAt acts ps i))
     (runAt acts ps i)
 
+-- how many moves lead from a position to position m, 0 if it is not the later one
+abbrev pub movesSince : ℕ → ℕ → ℕ
+movesSince since m = m - since
+
 -- by the run r that ends with position m
 unfoldable pub claimIn : List ℕ → ℕ → Run → Bool
 claimIn ps m r = leb claimCount (m - r .since) || equalsTwoEarlier ps (r .first) m

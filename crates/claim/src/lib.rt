@@ -5,10 +5,9 @@ use board_builder::WHITE_RIGHTS_AT;
 use chess_move::LAST_MOVE;
 ghost use mathlib.Core.Path.{_≡_};
 ghost use mathlib.Core.Bool.{cond};
-ghost use Prim.Native.Nat.{_-_};
 ghost use Rattle.position.specs.Layout.{positionOf};
 ghost use Rattle.claim.specs.Emptying.{irreversible, rightsDiffer};
-ghost use Rattle.claim.specs.Claim.{runAfter, runAt, claimIn, claimAt};
+ghost use Rattle.claim.specs.Claim.{runAfter, runAt, movesSince, claimIn, claimAt};
 ghost use Rattle.claim.specs.Back.{orElse, runBefore, runKnown};
 
 // The reversible moves after which a draw may be claimed.
@@ -112,7 +111,7 @@ pub fn run_at(acts: &[u8], ps: &[u8], n: usize) -> Run
 
 // How many moves lead from one position to another, 0 if it is not the later one.
 pub fn moves_since(since: usize, m: usize) -> usize
-    ensures { λ r. ⌜ r ≡ m - since ⌝ }
+    ensures { λ r. ⌜ r ≡ movesSince since m ⌝ }
 {
     if since <= m { m - since } else { 0 }
 }
