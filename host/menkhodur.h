@@ -1,8 +1,8 @@
 /* The host's side of target/staticlib/libmenkhodur.a, for C (from C99) and C++ (from C++11).
  *
- * Numbers, records, moves, logs and texts are those of docs/papers/01-scope.md ("document 01"), rolls, the refusals of FEN texts and the
- * offsets in texts those of docs/papers/02-change-requests.md ("document 02"); the names and the order of the parameters are those of
- * docs/papers/HOST-ABI.md. tools/abi compares them, and the constants below, with the crates.
+ * Numbers, records, moves, logs and texts are those of docs/papers/01-scope.md ("document 01"), rolls, the refusals of FEN texts, the
+ * offsets in texts and the ruling of the Laws those of docs/papers/02-change-requests.md ("document 02"); the names and the order of the
+ * parameters are those of docs/papers/HOST-ABI.md. tools/abi compares them, and the constants below, with the crates.
  *
  * What every function does: it answers for every value of its numbers, it ends, it keeps nothing between calls and allocates
  * nothing, and it reads and writes only what it was lent. A refused call (a number other than 0) changes no lent byte.
@@ -30,7 +30,7 @@
 
 /* Rises by one with each landing that adds or changes a function. CHANGELOG.md tells what a host must change, and a struct that has
  * changed says beside it since which version it is so. */
-#define MENKHODUR_VERSION 4
+#define MENKHODUR_VERSION 5
 
 #ifdef __cplusplus
 extern "C" {
@@ -72,12 +72,21 @@ enum {
     MENKHODUR_DRAW_DECLARED = 7
 };
 
+/* Why a draw may be claimed: the numbers of `claim` and `laws_claim` of a ruling. */
+enum {
+    MENKHODUR_CLAIM_NONE = 0,         /* it may not, or the game has ended */
+    MENKHODUR_CLAIM_BY_COUNT = 1,     /* the count is MENKHODUR_CLAIM_COUNT or more */
+    MENKHODUR_CLAIM_BY_POSITIONS = 2, /* two or more earlier positions of the run equal the last */
+    MENKHODUR_CLAIM_BY_BOTH = 3
+};
+
 /* Limits. */
 enum {
     MENKHODUR_MAX_ACTIONS = 2048,
     MENKHODUR_MAX_MOVES = 1024,
     MENKHODUR_LONGEST_LIST = 255,
-    MENKHODUR_LAST_MOVE = 28671
+    MENKHODUR_LAST_MOVE = 28671,
+    MENKHODUR_CLAIM_COUNT = 100 /* moves of either side, fifty of each, from which on a count lets a draw be claimed */
 };
 
 /* Colours: the side to move, and who offers or resigns. */
@@ -198,6 +207,20 @@ typedef struct { uint64_t number; menkhodur_board board; } menkhodur_stepped;
 typedef struct { uint64_t number; uint64_t offset; menkhodur_board board; } menkhodur_fen;
 typedef struct { uint64_t number; uint64_t actions; uint64_t moves; } menkhodur_counts;
 typedef struct { uint64_t number; uint64_t actions; menkhodur_board board; } menkhodur_roll;
+/* What the two rulings on a draw rest on. The counts are of moves of either side, since the start if nothing has emptied them. A pawn move,
+ * a capture and a change of either side's castling rights each empty the run of positions, which then begins with the position after that
+ * move. A position's number is the number of moves that led to it, 0 for the start. Where the game has ended both claims are 0, and the
+ * rest is as it was. */
+typedef struct {
+    uint64_t number;
+    uint64_t count;      /* moves since a pawn move, a capture or a change of rights: the reversible count of document 01 */
+    uint64_t laws_count; /* moves since a pawn move or a capture: the count of article 9.3 of the Laws, never below `count` */
+    uint64_t equals;     /* how many earlier positions of the run equal the last, in record and list */
+    uint64_t first;      /* the number of the earliest of them; 0 is the start, or none if `equals` is 0 */
+    uint64_t second;     /* the number of the next one; 0 if `equals` is 0 or 1 */
+    uint64_t claim;      /* MENKHODUR_CLAIM_.. by `count` and `equals`: what menkhodur_game_declare_draw asks for */
+    uint64_t laws_claim; /* MENKHODUR_CLAIM_.. by `laws_count` and `equals` */
+} menkhodur_ruling;
 
 #if defined(__cplusplus)
 #define MENKHODUR_ASSERT(fact, text) static_assert(fact, text)
@@ -212,6 +235,7 @@ MENKHODUR_ASSERT(offsetof(menkhodur_stepped, board) == 8 && sizeof(menkhodur_ste
 MENKHODUR_ASSERT(offsetof(menkhodur_fen, board) == 16 && sizeof(menkhodur_fen) == 88, "two numbers and a board, filled up to 8 bytes");
 MENKHODUR_ASSERT(sizeof(menkhodur_counts) == 24, "a number and two counts");
 MENKHODUR_ASSERT(offsetof(menkhodur_roll, board) == 16 && sizeof(menkhodur_roll) == 88, "two numbers and a board, filled up to 8 bytes");
+MENKHODUR_ASSERT(sizeof(menkhodur_ruling) == 64, "eight numbers");
 MENKHODUR_ASSERT(sizeof(size_t) == 8, "lengths have 64 bits");
 #undef MENKHODUR_ASSERT
 #endif
@@ -350,6 +374,19 @@ menkhodur_answer menkhodur_game_result(const uint8_t *actions, size_t actions_le
 menkhodur_answer menkhodur_game_can_declare_draw(const uint8_t *actions, size_t actions_length,
                                                  const uint8_t *positions, size_t positions_length,
                                                  uint64_t action_count, uint64_t move_count);
+
+/* 0: the value is 1 if the Laws let a draw be claimed and 0 if not, as in a game that is over: as menkhodur_game_can_declare_draw, but by
+ * the count of article 9.3, which a change of castling rights leaves running (document 02, order 5). It is 1 wherever that one is. A draw
+ * that only this one allows cannot be declared in the log. Refused, in this order: 16; 9. Both parts are left alone. */
+menkhodur_answer menkhodur_game_can_claim_by_laws(const uint8_t *actions, size_t actions_length,
+                                                  const uint8_t *positions, size_t positions_length,
+                                                  uint64_t action_count, uint64_t move_count);
+
+/* 0: what both rulings rest on. `claim` is not 0 exactly if the value of menkhodur_game_can_declare_draw is 1, and `laws_claim` is not 0
+ * exactly if that of menkhodur_game_can_claim_by_laws is. Refused, in this order, with all other numbers 0: 16; 9. Both parts are left
+ * alone. */
+menkhodur_ruling menkhodur_game_ruling(const uint8_t *actions, size_t actions_length, const uint8_t *positions, size_t positions_length,
+                                       uint64_t action_count, uint64_t move_count);
 
 /* ---- Rolls -------------------------------------------------------------------------------------------------------------------- */
 /* A roll is a game without its positions, for a store (document 02, order 1): the 68 numbers of the start's record in the order of

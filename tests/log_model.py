@@ -1,5 +1,6 @@
 #!/usr/bin/env python3
-"""What document 01 says the log's chapter of replay's script prints. Written from the document, not from the Rattle code:
+"""What document 01, and of L document 02's order 5, say the log's chapters of replay's script print. Written from the documents, not from the Rattle
+code:
 
     sed -n '/^# 1\. The tests of game.rs/,/^# Vectors/{/^# Vectors/!p}' crates/replay/stdin | tests/log_model.py
 
@@ -58,26 +59,35 @@ def result(history):
         return 2 if end.value == 0 else 4
     return {ACCEPT: 6, DECLARE: 7}.get(end.kind, 0) if end else 0
 
-def claim_stands(history):
-    if result(history):
-        return False
-    count, run, places = 0, [history.positions[0]], iter(history.positions)
-    before = next(places)
-    for call in history.calls:
-        if call.kind != MOVE:
-            continue
-        after = next(places)
-        source, destination = call.value % 64, call.value // 64 % 64
-        if before.record[source] in (1, 7) or before.record[destination] != 0:
-            count, run = 0, []
+def counts_and_run(history):
+    """The reversible count of document 01, the count of article 9.3, which a change of rights leaves running, and the run as numbers of positions."""
+    count, laws_count, run = 0, 0, [0]
+    moves = [call.value for call in history.calls if call.kind == MOVE]
+    for k, move in enumerate(moves):
+        before, after = history.positions[k].record, history.positions[k + 1].record
+        if before[move % 64] in (1, 7) or before[move // 64 % 64] != 0:
+            count, laws_count, run = 0, 0, []
         else:
-            count += 1
-        if before.record[65:67] != after.record[65:67]:
+            count, laws_count = count + 1, laws_count + 1
+        if before[65:67] != after[65:67]:
             count, run = 0, []
-        run.append(after)
-        before = after
-    equal = sum((p.record, p.moves) == (before.record, before.moves) for p in run[:-1])
-    return count >= 100 or equal >= 2
+        run.append(k + 1)
+    return count, laws_count, run
+
+def ruling(history):
+    """Both counts, how many earlier positions of the run equal the last, the two earliest, and the claim by each count: 1 by it, 2 by equals, 3 by both."""
+    count, laws_count, run = counts_and_run(history)
+    key = lambda k: (history.positions[k].record, history.positions[k].moves)
+    equal = [k for k in run[:-1] if key(k) == key(run[-1])]
+    first, second = (equal + [0, 0])[:2]
+    reasons = [0 if result(history) else (n >= 100) + 2 * (len(equal) >= 2) for n in (count, laws_count)]
+    return [count, laws_count, len(equal), first, second] + reasons
+
+def claim_stands(history):
+    return ruling(history)[5] != 0
+
+def claim_stands_by_laws(history):
+    return ruling(history)[6] != 0
 
 def offer_stands(history):
     calls = history.calls
@@ -200,6 +210,11 @@ class Log:
             return '%d 0 %d 0' % (number, number)
         return '0 %d 0 %d' % (result(history), claim_stands(history))
 
+    def laws(self):
+        number, history = self.history()
+        numbers = [number, 0, number] + [0] * 7 if number else [0, claim_stands_by_laws(history), 0] + ruling(history)
+        return ' '.join('%d' % x for x in numbers)
+
 def number(word, most=2**64 - 1):
     if not word or any(b not in '0123456789' for b in word) or int(word) > most:
         raise ValueError
@@ -218,7 +233,7 @@ def given(log, check, moves, fen):
 def play(log, line):
     """What one line prints, None for nothing."""
     letter, *words = line.split(' ')
-    wanted = {'a': 0, 'd': 0, '?': 0, 't': 0, 'o': 1, 'r': 1, 'f': 1, 'c': 2, 'l': 2, 'k': 2, 'b': 3}
+    wanted = {'a': 0, 'd': 0, '?': 0, 'L': 0, 't': 0, 'o': 1, 'r': 1, 'f': 1, 'c': 2, 'l': 2, 'k': 2, 'b': 3}
     if not (letter == 's' and len(words) >= 3 or letter == 'm' and len(words) >= 4 or wanted.get(letter) == len(words)):
         raise ValueError
     if letter == 's':
@@ -231,6 +246,8 @@ def play(log, line):
         return log.call(Call(kind, number(words[0], 255) if words else 0, None))
     if letter == '?':
         return log.queries()
+    if letter == 'L':
+        return log.laws()
     if letter == 't':
         return '%d %d' % (zlib.adler32(log.actions), zlib.adler32(log.positions))
     set_up(log, letter, words)

@@ -83,6 +83,18 @@ void expect_placed(menkhodur_placed want, menkhodur_placed got)
     expect("offset", want.offset, got.offset);
 }
 
+void expect_ruling(menkhodur_ruling want, menkhodur_ruling got)
+{
+    expect("number", want.number, got.number);
+    expect("count", want.count, got.count);
+    expect("count of the Laws", want.laws_count, got.laws_count);
+    expect("equals", want.equals, got.equals);
+    expect("first", want.first, got.first);
+    expect("second", want.second, got.second);
+    expect("claim", want.claim, got.claim);
+    expect("claim by the Laws", want.laws_claim, got.laws_claim);
+}
+
 static void expect_bytes(const char *what, const uint8_t *want, const uint8_t *got, size_t length, size_t before)
 {
     size_t i = 0;

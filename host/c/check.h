@@ -12,6 +12,7 @@ void about(const char *function, const char *input, ...) __attribute__((format(p
 void expect(const char *what, uint64_t want, uint64_t got);
 void expect_answer(uint64_t number, uint64_t value, menkhodur_answer got);
 void expect_placed(menkhodur_placed want, menkhodur_placed got);
+void expect_ruling(menkhodur_ruling want, menkhodur_ruling got);
 void expect_board(const menkhodur_board *want, const menkhodur_board *got);
 
 /* The numbers that a function can answer, a bit for each. */
@@ -73,6 +74,7 @@ void check_san(void);
 void check_log(void);
 void check_orders(void);
 void check_games(void);
+void check_rulings(void);
 void check_nulls(void);
 void check_rolls(void);
 void check_layout(void);

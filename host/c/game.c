@@ -4,7 +4,8 @@
 
 const char *const name_of_call[CALLS] = {
     "menkhodur_game_make_move", "menkhodur_game_offer_draw", "menkhodur_game_accept_draw", "menkhodur_game_declare_draw",
-    "menkhodur_game_resign", "menkhodur_game_result", "menkhodur_game_can_declare_draw",
+    "menkhodur_game_resign", "menkhodur_game_result", "menkhodur_game_can_declare_draw", "menkhodur_game_can_claim_by_laws",
+    "menkhodur_game_ruling",
 };
 
 struct game lend_game(size_t actions_length, size_t positions_length)
@@ -165,13 +166,36 @@ void play(struct game *g, struct request r, uint64_t number)
     else expect_parts(g);
 }
 
-void ask(struct game *g, enum call query, uint64_t number, uint64_t value)
+static void about_query(const struct game *g, enum call query)
+{
+    about(name_of_call[query], "%llu actions, %llu moves", (unsigned long long)g->action_count, (unsigned long long)g->move_count);
+}
+
+void ask_ruling(struct game *g, menkhodur_ruling want)
+{
+    about_query(g, RULING);
+    expect_ruling(want, menkhodur_game_ruling(g->actions.bytes, g->actions.length, g->positions.bytes, g->positions.length, g->action_count,
+                                              g->move_count));
+    expect_parts(g);
+}
+
+static menkhodur_answer answer(const struct game *g, enum call query)
 {
     const uint8_t *a = g->actions.bytes, *p = g->positions.bytes;
     size_t al = g->actions.length, pl = g->positions.length;
-    about(name_of_call[query], "%llu actions, %llu moves", (unsigned long long)g->action_count, (unsigned long long)g->move_count);
-    if (query == RESULT) expect_answer(number, value, menkhodur_game_result(a, al, p, pl, g->action_count, g->move_count));
-    else expect_answer(number, value, menkhodur_game_can_declare_draw(a, al, p, pl, g->action_count, g->move_count));
+    if (query == RESULT) return menkhodur_game_result(a, al, p, pl, g->action_count, g->move_count);
+    if (query == CAN_DECLARE) return menkhodur_game_can_declare_draw(a, al, p, pl, g->action_count, g->move_count);
+    return menkhodur_game_can_claim_by_laws(a, al, p, pl, g->action_count, g->move_count);
+}
+
+void ask(struct game *g, enum call query, uint64_t number, uint64_t value)
+{
+    if (query == RULING) {
+        ask_ruling(g, (menkhodur_ruling){ .number = number });
+        return;
+    }
+    about_query(g, query);
+    expect_answer(number, value, answer(g, query));
     expect_parts(g);
 }
 
@@ -204,6 +228,6 @@ void play_round(struct game *g, uint64_t moves, bool fresh)
 void refuse(struct game *g, enum call call, uint64_t number)
 {
     struct position next = round_position(g->move_count + 1, false);
-    if (call == RESULT || call == CAN_DECLARE) ask(g, call, number, 0);
+    if (call >= RESULT) ask(g, call, number, 0);
     else play(g, (struct request){ call, round_move(g->move_count), 0, &next }, number);
 }

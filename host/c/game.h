@@ -17,7 +17,7 @@ struct game {
 };
 
 /* In the order of `Action`, whose kinds are 1 to 5; then the queries. */
-enum call { MAKE_MOVE, OFFER_DRAW, ACCEPT_DRAW, DECLARE_DRAW, RESIGN, RESULT, CAN_DECLARE, CALLS };
+enum call { MAKE_MOVE, OFFER_DRAW, ACCEPT_DRAW, DECLARE_DRAW, RESIGN, RESULT, CAN_DECLARE, CAN_CLAIM, RULING, CALLS };
 
 struct request {
     enum call call;
@@ -25,6 +25,21 @@ struct request {
     uint8_t colour;
     const struct position *next;
 };
+
+/* What a log must hold: its positions and its actions. */
+enum { RECORDED = 160 };
+struct record {
+    struct position at[RECORDED + 1];
+    struct request done[RECORDED];
+    unsigned actions, moves;
+};
+
+/* The result by document 01 (games.c), and the ruling by document 02, order 5 (rulings.c). */
+uint64_t result_of(const struct record *r);
+menkhodur_ruling ruling_of(const struct record *r);
+
+/* The record with an accepted action. */
+void note(struct record *r, struct request done);
 
 extern const char *const name_of_call[CALLS];
 
@@ -47,10 +62,12 @@ void append_offers(struct game *g, uint64_t offers, uint8_t colour);
 /* The roll of a start and its actions, as document 02 gives its bytes. */
 struct part lend_roll(menkhodur_board start, const uint8_t *actions, uint64_t count);
 
-/* Calls the library and checks number, value, counts and every lent byte. An accepted action is then in the log. */
+/* Calls the library and checks number, value, counts and every lent byte. An accepted action is then in the log. A ruling that is asked for
+ * by its number alone must have 0 in all others. */
 void start(struct game *g, const struct position *p, uint64_t number);
 void play(struct game *g, struct request r, uint64_t number);
 void ask(struct game *g, enum call query, uint64_t number, uint64_t value);
+void ask_ruling(struct game *g, menkhodur_ruling want);
 void play_round(struct game *g, uint64_t moves, bool fresh);
 
 /* The call, made so that nothing but `number` can be wrong with it, on a log that is not to change. */

@@ -1,18 +1,11 @@
 /* Games of random actions, good and bad, beside document 01's "Draws and endings" written out once more. */
 #include "game.h"
 
-enum { LONGEST = 60, GAMES = 300, GAMES_EXACT = 20 };
-
-/* What the log must hold: its positions and its actions. */
-struct record {
-    struct position at[LONGEST + 1];
-    struct request done[LONGEST];
-    unsigned actions, moves;
-};
+enum { TRIES = 60, GAMES = 300, GAMES_EXACT = 20 };
 
 /* ---- Document 01 ---- */
 
-static uint64_t result_of(const struct record *r)
+uint64_t result_of(const struct record *r)
 {
     const struct position *now = &r->at[r->moves];
     const struct request *last = r->actions ? &r->done[r->actions - 1] : NULL;
@@ -100,6 +93,12 @@ static uint64_t number_for(const struct record *r, struct request q)
     }
 }
 
+void note(struct record *r, struct request done)
+{
+    r->done[r->actions++] = done;
+    if (done.call == MAKE_MOVE) r->at[++r->moves] = *done.next;
+}
+
 /* ---- Random games ---- */
 
 /* Few boards and few lists, so that positions recur; a pawn or a man in the way, a change of rights and an empty list now and then. */
@@ -143,17 +142,16 @@ static void check_game(void)
     r.actions = r.moves = 0;
     r.at[0] = some_position((uint8_t)any(2));
     start(&g, &r.at[0], MENKHODUR_ACCEPTED);
-    for (unsigned tries = 0; tries < LONGEST; tries++) {
+    for (unsigned tries = 0; tries < TRIES; tries++) {
         struct position next;
         struct request q = some_request(&r, &next);
         uint64_t number = number_for(&r, q);
         play(&g, q, number);
-        if (number == MENKHODUR_ACCEPTED) {
-            r.done[r.actions++] = q;
-            if (q.call == MAKE_MOVE) r.at[++r.moves] = next;
-        }
+        if (number == MENKHODUR_ACCEPTED) note(&r, q);
         ask(&g, RESULT, MENKHODUR_ACCEPTED, result_of(&r));
         ask(&g, CAN_DECLARE, MENKHODUR_ACCEPTED, claim_stands(&r));
+        ask(&g, CAN_CLAIM, MENKHODUR_ACCEPTED, ruling_of(&r).laws_claim != 0);
+        ask_ruling(&g, ruling_of(&r));
     }
     give_back_game(&g);
 }

@@ -32,6 +32,11 @@ size_t place(size_t position, size_t entry)
     return MENKHODUR_POSITION_SIZE * position + MENKHODUR_POSITION_MOVES + 2 * entry;
 }
 
+int by_laws_alone(menkhodur_ruling r)
+{
+    return r.claim == MENKHODUR_CLAIM_NONE && r.laws_claim == MENKHODUR_CLAIM_BY_COUNT && r.laws_count >= MENKHODUR_CLAIM_COUNT;
+}
+
 menkhodur_board with_men(menkhodur_board b)
 {
     b.pieces[4] = MENKHODUR_WHITE_KING;

@@ -104,6 +104,7 @@ static void check_over(struct game *g, uint64_t result)
 {
     ask(g, RESULT, MENKHODUR_ACCEPTED, result);
     ask(g, CAN_DECLARE, MENKHODUR_ACCEPTED, 0);
+    ask(g, CAN_CLAIM, MENKHODUR_ACCEPTED, 0);
     for (enum call c = MAKE_MOVE; c < RESULT; c++) refuse(g, c, MENKHODUR_GAME_OVER);
 }
 
@@ -439,8 +440,8 @@ static void check_not_good(void)
     check_longer_list(&g);
     check_counts(&g);
     check_after_the_end();
-    for (enum call c = 0; c < CALLS; c++)
-        if (c == RESULT || c == CAN_DECLARE) ask(&g, c, MENKHODUR_ACCEPTED, 0);
+    for (enum call c = RESULT; c <= CAN_CLAIM; c++) ask(&g, c, MENKHODUR_ACCEPTED, 0);
+    ask_ruling(&g, (menkhodur_ruling){ .count = 3, .laws_count = 3 });
     give_back_game(&g);
 }
 

@@ -10,7 +10,7 @@
 
 #define N(number) (UINT32_C(1) << (number))
 
-enum { FUNCTIONS = 26 };
+enum { FUNCTIONS = 28 };
 
 /* Document 01, "Order of checks", and document 02: all that each function can answer. The version is no answer. */
 static const uint32_t range = N(0) | N(5);
@@ -44,6 +44,8 @@ static bool report_all(void)
         { "menkhodur_game_declare_draw", N(0) | N(9) | N(10) | N(13) | N(15) | N(16) },
         { "menkhodur_game_result", query },
         { "menkhodur_game_can_declare_draw", query },
+        { "menkhodur_game_can_claim_by_laws", query },
+        { "menkhodur_game_ruling", query },
         { "menkhodur_roll_write", N(0) | N(5) | N(7) | N(13) | N(16) | N(17) },
         { "menkhodur_roll_read", N(0) | N(5) | N(13) | N(16) | N(17) },
     };
@@ -65,6 +67,7 @@ int main(int argc, char **argv)
     check_log();
     check_orders();
     check_games();
+    check_rulings();
     check_rolls();
     check_nulls();
     check_layout();

@@ -79,6 +79,8 @@ static void check_query_order(unsigned faults, enum full full)
     struct game g = log_with(faults, full, false, true);
     ask(&g, RESULT, number, number == 0 && over ? MENKHODUR_BLACK_RESIGNS : 0);
     ask(&g, CAN_DECLARE, number, number == 0 && !over);
+    ask(&g, CAN_CLAIM, number, number == 0 && !over);
+    if (number) ask(&g, RULING, number, 0);
     give_back_game(&g);
 }
 
@@ -110,6 +112,8 @@ static void check_limits(void)
     for (enum call c = MAKE_MOVE; c < RESULT; c++) refuse(&g, c, MENKHODUR_LOG_FULL);
     ask(&g, RESULT, MENKHODUR_ACCEPTED, MENKHODUR_GOES_ON);
     ask(&g, CAN_DECLARE, MENKHODUR_ACCEPTED, 1);
+    ask(&g, CAN_CLAIM, MENKHODUR_ACCEPTED, 1);
+    ask_ruling(&g, (menkhodur_ruling){ 0, 1024, 1024, 256, 0, 4, MENKHODUR_CLAIM_BY_BOTH, MENKHODUR_CLAIM_BY_BOTH });
     give_back_game(&g);
 }
 

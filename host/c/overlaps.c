@@ -34,6 +34,8 @@ static void check_one_part(const uint8_t *first_action, uint64_t result)
     g.action_count = 1;
     ask(&g, RESULT, MENKHODUR_ACCEPTED, result);
     ask(&g, CAN_DECLARE, MENKHODUR_ACCEPTED, 0);
+    ask(&g, CAN_CLAIM, MENKHODUR_ACCEPTED, 0);
+    ask_ruling(&g, (menkhodur_ruling){ 0 });
     give_back(&g.positions);
 }
 
@@ -46,6 +48,8 @@ static void check_one_part_with_move(void)
     append(&g, (struct request){ MAKE_MOVE, B1A3, 0, &next });
     ask(&g, RESULT, MENKHODUR_ACCEPTED, MENKHODUR_GOES_ON);
     ask(&g, CAN_DECLARE, MENKHODUR_ACCEPTED, 0);
+    ask(&g, CAN_CLAIM, MENKHODUR_ACCEPTED, 0);
+    ask_ruling(&g, (menkhodur_ruling){ .count = 1, .laws_count = 1 });
     give_back(&g.positions);
 }
 

@@ -69,12 +69,18 @@ static unsigned wrong_texts(void)
     return wrong + (memcmp(room, name_of_all.bytes, 3) != 0);
 }
 
+/* Of a log of the knights' round alone, of whole rounds: the last position equals each fourth before it, and the first of them is the start. */
 static unsigned wrong_queries(const struct game *g, uint64_t result, uint64_t claim)
 {
     const uint8_t *a = g->actions.bytes, *p = g->positions.bytes;
     size_t al = g->actions.length, pl = g->positions.length;
-    unsigned wrong = !is(MENKHODUR_ACCEPTED, result, menkhodur_game_result(a, al, p, pl, g->action_count, g->move_count));
-    return wrong + !is(MENKHODUR_ACCEPTED, claim, menkhodur_game_can_declare_draw(a, al, p, pl, g->action_count, g->move_count));
+    uint64_t n = g->action_count, m = g->move_count, by = claim ? MENKHODUR_CLAIM_BY_POSITIONS : MENKHODUR_CLAIM_NONE;
+    const menkhodur_ruling want = { MENKHODUR_ACCEPTED, m, m, m / 4, 0, m / 4 > 1 ? 4 : 0, by, by };
+    const menkhodur_ruling got = menkhodur_game_ruling(a, al, p, pl, n, m);
+    unsigned wrong = !is(MENKHODUR_ACCEPTED, result, menkhodur_game_result(a, al, p, pl, n, m));
+    wrong += !is(MENKHODUR_ACCEPTED, claim, menkhodur_game_can_declare_draw(a, al, p, pl, n, m));
+    wrong += !is(MENKHODUR_ACCEPTED, claim, menkhodur_game_can_claim_by_laws(a, al, p, pl, n, m));
+    return wrong + (memcmp(&want, &got, sizeof want) != 0);
 }
 
 /* The log that all read has the roll that all read, from the start to the end of each. */

@@ -41,6 +41,8 @@ TWIN_OF(menkhodur_game_accept_draw);
 TWIN_OF(menkhodur_game_declare_draw);
 TWIN_OF(menkhodur_game_result);
 TWIN_OF(menkhodur_game_can_declare_draw);
+TWIN_OF(menkhodur_game_can_claim_by_laws);
+TWIN_OF(menkhodur_game_ruling);
 TWIN_OF(menkhodur_roll_write);
 TWIN_OF(menkhodur_roll_read);
 #endif

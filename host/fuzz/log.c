@@ -148,9 +148,17 @@ static menkhodur_answer ask(const struct request *r, unsigned turn)
     const uint8_t *a = lent_actions(r), *p = lent_positions(r);
     size_t al = r->actions_length, pl = r->positions_length;
     uint64_t ac = r->log.action_count, mc = r->log.move_count;
-    about(r->call == RESULT ? "game_result" : "game_can_declare_draw");
+    about(r->call == RESULT ? "game_result" : r->call == CAN_DECLARE ? "game_can_declare_draw" : "game_can_claim_by_laws");
     if (r->call == RESULT) return CALL(turn, menkhodur_game_result, a, al, p, pl, ac, mc);
-    return CALL(turn, menkhodur_game_can_declare_draw, a, al, p, pl, ac, mc);
+    if (r->call == CAN_DECLARE) return CALL(turn, menkhodur_game_can_declare_draw, a, al, p, pl, ac, mc);
+    return CALL(turn, menkhodur_game_can_claim_by_laws, a, al, p, pl, ac, mc);
+}
+
+static menkhodur_ruling ask_ruling(const struct request *r, unsigned turn)
+{
+    about("game_ruling");
+    return CALL(turn, menkhodur_game_ruling, lent_actions(r), r->actions_length, lent_positions(r), r->positions_length, r->log.action_count,
+                r->log.move_count);
 }
 
 static void parts_same(void)
@@ -168,12 +176,38 @@ static void stir(const struct request *r)
     lent_stir(&positions, MENKHODUR_POSITION_SIZE * (least(moved, MENKHODUR_MAX_MOVES) + 1));
 }
 
+static uint64_t want_value(const struct request *r)
+{
+    if (r->call == RESULT) return log_result(&r->log);
+    return r->call == CAN_DECLARE ? log_claimable(&r->log) : log_ruling(&r->log).laws_claim != 0;
+}
+
 static void judge_query(const struct input *in, const struct request *r)
 {
     menkhodur_answer want = { want_number(in, r), 0 };
-    if (want.number == 0) want.value = r->call == RESULT ? log_result(&r->log) : log_claimable(&r->log);
+    if (want.number == 0) want.value = want_value(r);
     for (unsigned turn = 0; turn < 2; turn++) {
         expect_answer(want, ask(r, turn));
+        parts_same();
+        stir(r);
+    }
+}
+
+/* A refused ruling has 0 in all other numbers. */
+static void judge_ruling(const struct input *in, const struct request *r)
+{
+    uint64_t number = want_number(in, r);
+    menkhodur_ruling want = number ? (menkhodur_ruling){ .number = number } : log_ruling(&r->log);
+    for (unsigned turn = 0; turn < 2; turn++) {
+        menkhodur_ruling got = ask_ruling(r, turn);
+        expect("number", want.number, got.number);
+        expect("count", want.count, got.count);
+        expect("count of the Laws", want.laws_count, got.laws_count);
+        expect("equals", want.equals, got.equals);
+        expect("first", want.first, got.first);
+        expect("second", want.second, got.second);
+        expect("claim", want.claim, got.claim);
+        expect("claim by the Laws", want.laws_claim, got.laws_claim);
         parts_same();
         stir(r);
     }
@@ -244,6 +278,10 @@ static void judge(struct input *in, struct request r)
     uint64_t number, moves = r.log.move_count;
     struct request result;
     open_for(moves <= MENKHODUR_MAX_MOVES && moves > move_count ? moves : move_count);
+    if (r.call == RULING) {
+        judge_ruling(in, &r);
+        return;
+    }
     if (r.call >= RESULT) {
         judge_query(in, &r);
         return;

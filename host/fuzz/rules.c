@@ -77,10 +77,14 @@ static bool equal(const uint8_t *p, const uint8_t *q)
     return memcmp(p, q, IN_CHECK) == 0 && memcmp(p + ENTRIES, q + ENTRIES, MENKHODUR_POSITION_SIZE - ENTRIES) == 0;
 }
 
-static bool irreversible(const uint8_t *before, const uint8_t *after, unsigned move)
+static bool takes_or_pawn(const uint8_t *before, unsigned move)
 {
     unsigned man = before[move % 64];
-    if (man == 1 || man == 7 || before[move / 64 % 64]) return true;
+    return man == 1 || man == 7 || before[move / 64 % 64];
+}
+
+static bool rights_differ(const uint8_t *before, const uint8_t *after)
+{
     return before[WHITE_RIGHTS] != after[WHITE_RIGHTS] || before[BLACK_RIGHTS] != after[BLACK_RIGHTS];
 }
 
@@ -91,11 +95,48 @@ bool log_claimable(const struct log *l)
     for (uint64_t i = 0; i < l->action_count; i++) {
         const uint8_t *action = action_at(l, i);
         if (action[0] != 1 + MAKE_MOVE) continue;
-        if (irreversible(position_at(l, at), position_at(l, at + 1), pair_at(action + 2))) since = at + 1;
+        if (takes_or_pawn(position_at(l, at), pair_at(action + 2)) || rights_differ(position_at(l, at), position_at(l, at + 1))) since = at + 1;
         at++;
     }
     for (uint64_t i = since; i < at; i++) equals += equal(position_at(l, i), current_position(l));
     return at - since >= 100 || equals >= 2;
+}
+
+/* ---- The ruling: back from the last move, as far as each count goes ---- */
+
+static void count_back(const struct log *l, menkhodur_ruling *r)
+{
+    uint64_t at = l->move_count;
+    bool running = true;
+    for (uint64_t i = l->action_count; i-- > 0;) {
+        const uint8_t *action = action_at(l, i);
+        if (action[0] != 1 + MAKE_MOVE) continue;
+        if (takes_or_pawn(position_at(l, at - 1), pair_at(action + 2))) return;
+        running = running && !rights_differ(position_at(l, at - 1), position_at(l, at));
+        r->laws_count++;
+        r->count += running;
+        at--;
+    }
+}
+
+static uint64_t reason_of(uint64_t count, uint64_t equals)
+{
+    return (count >= 100 ? 1u : 0u) + (equals >= 2 ? 2u : 0u);
+}
+
+menkhodur_ruling log_ruling(const struct log *l)
+{
+    menkhodur_ruling r = { 0 };
+    count_back(l, &r);
+    for (uint64_t at = l->move_count; at-- > l->move_count - r.count;) {
+        if (!equal(position_at(l, at), current_position(l))) continue;
+        if (r.equals++) r.second = r.first;
+        r.first = at;
+    }
+    if (log_over(l)) return r;
+    r.claim = reason_of(r.count, r.equals);
+    r.laws_claim = reason_of(r.laws_count, r.equals);
+    return r;
 }
 
 /* ---- Good logs ---- */

@@ -1,11 +1,11 @@
-/* Document 01's rules of the log, over its bytes, written from the paper alone. */
+/* Document 01's rules of the log, and the ruling of document 02, order 5, over its bytes, written from the papers alone. */
 #ifndef RULES_H
 #define RULES_H
 
 #include "fuzz.h"
 
-/* In the order of `Action`, whose kinds are 1 to 5; then the queries. */
-enum call { MAKE_MOVE, OFFER_DRAW, ACCEPT_DRAW, DECLARE_DRAW, RESIGN, RESULT, CAN_DECLARE, CALLS };
+/* In the order of `Action`, whose kinds are 1 to 5; then the queries. New ones go at the end, so that seeds and corpora keep their meaning. */
+enum call { MAKE_MOVE, OFFER_DRAW, ACCEPT_DRAW, DECLARE_DRAW, RESIGN, RESULT, CAN_DECLARE, CAN_CLAIM, RULING, CALLS };
 
 struct log {
     const uint8_t *actions, *positions;
@@ -23,6 +23,7 @@ bool log_over(const struct log *l);
 bool log_offered(const struct log *l);
 bool log_claimable(const struct log *l);
 uint64_t log_result(const struct log *l);
+menkhodur_ruling log_ruling(const struct log *l);
 
 void position_bytes(const menkhodur_board *b, uint8_t in_check, const uint16_t *list, size_t entries, uint8_t *bytes);
 void action_bytes(enum call call, uint64_t move, uint8_t colour, uint8_t *bytes);

@@ -11,6 +11,7 @@
 //   m MOVE CHECK LIST FEN   make_move; the position after it
 //   o C, r C, a, d          offer_draw and resign by a colour, accept_draw, declare_draw
 //   ?                       result and can_declare_draw: two answers, each a number and a value
+//   L                       can_claim_by_laws, a number and a value, and the eight numbers of the ruling
 //   t                       a checksum of each part
 //   c N M                   the counts of actions and moves that the next call is given
 //   b a|p OFFSET VALUE      sets a byte of the actions or the positions
@@ -35,6 +36,7 @@ use game_rules::MAX_ACTIONS;
 use game_rules::MAX_MOVES;
 use game_rules::POSITIONS_LENGTH;
 use input::Input;
+use laws::Ruled;
 use libc::STDOUT_FILENO;
 use position::POSITION_SIZE;
 use square::Answer;
@@ -345,6 +347,29 @@ fn put_queries(acts: &[u8], ps: &[u8], run: Run) -> Run {
     run
 }
 
+fn put_next(n: u64) {
+    put(b" ");
+    put_number(n);
+}
+
+fn put_ruling(r: Ruled) {
+    put_next(r.number);
+    put_next(r.count);
+    put_next(r.laws_count);
+    put_next(r.equals);
+    put_next(r.first);
+    put_next(r.second);
+    put_next(r.claim);
+    put_next(r.laws_claim);
+}
+
+fn put_laws(acts: &[u8], ps: &[u8], run: Run) -> Run {
+    put_answer(laws::can_claim(acts, ps, run.actions, run.moves));
+    put_ruling(laws::ruling(acts, ps, run.actions, run.moves));
+    put(b"\n");
+    run
+}
+
 fn put_checksums(acts: &[u8], ps: &[u8], run: Run) -> Run {
     put_number(part::checksum(acts));
     put(b" ");
@@ -464,6 +489,7 @@ fn call(line: &[u8], acts: &mut [u8], ps: &mut [u8], list: &mut [u16], run: Run)
         b'r' => resign(line, acts, ps, run),
         b'a' => called(run, game::accept_draw(acts, ps, run.actions, run.moves)),
         b'd' => called(run, game::declare_draw(acts, ps, run.actions, run.moves)),
+        b'L' => put_laws(acts, ps, run),
         _ => put_queries(acts, ps, run),
     }
 }

@@ -101,7 +101,7 @@ pub(crate) fn has_its_words(line: &[u8]) -> bool {
     let n = spaces(line);
     match letter(line) {
         b'F' | b'C' | b'S' => 1 <= n,
-        b'a' | b'd' | b'?' | b't' => n == 0,
+        b'a' | b'd' | b'?' | b'L' | b't' => n == 0,
         b'o' | b'r' | b'f' | b'N' => n == 1,
         b'c' | b'l' | b'k' => n == 2,
         b'b' => n == 3,
@@ -122,7 +122,7 @@ pub(crate) fn is_text(line: &[u8]) -> bool {
 // Whether the line calls the log.
 pub(crate) fn is_call(line: &[u8]) -> bool {
     match letter(line) {
-        b's' | b'm' | b'o' | b'r' | b'a' | b'd' | b'?' => true,
+        b's' | b'm' | b'o' | b'r' | b'a' | b'd' | b'?' | b'L' => true,
         _ => false,
     }
 }

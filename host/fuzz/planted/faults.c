@@ -218,4 +218,40 @@ menkhodur_placed menkhodur_move_read(const uint8_t *text, size_t length)
     if (a.number == 3 && length == 5) a.offset = length;
     return a;
 }
+#elif FAULT == 27 /* WRAPS game_ruling: a change of rights restarts the count of the Laws */
+menkhodur_ruling real_game_ruling(const uint8_t *a, size_t al, const uint8_t *p, size_t pl, uint64_t ac, uint64_t mc);
+menkhodur_ruling menkhodur_game_ruling(const uint8_t *a, size_t al, const uint8_t *p, size_t pl, uint64_t ac, uint64_t mc)
+{
+    menkhodur_ruling r = real_game_ruling(a, al, p, pl, ac, mc);
+    r.laws_count = r.count;
+    r.laws_claim = r.claim;
+    return r;
+}
+#elif FAULT == 28 /* WRAPS game_ruling: the latest equal position is told in place of the second earliest */
+menkhodur_ruling real_game_ruling(const uint8_t *a, size_t al, const uint8_t *p, size_t pl, uint64_t ac, uint64_t mc);
+menkhodur_ruling menkhodur_game_ruling(const uint8_t *a, size_t al, const uint8_t *p, size_t pl, uint64_t ac, uint64_t mc)
+{
+    menkhodur_ruling r = real_game_ruling(a, al, p, pl, ac, mc);
+    uint64_t k = mc;
+    if (r.number || r.equals < 2) return r;
+    while (k-- > 0 && (memcmp(p + 580 * k, p + 580 * mc, 68) || memcmp(p + 580 * k + 69, p + 580 * mc + 69, 511))) {}
+    r.second = k;
+    return r;
+}
+#elif FAULT == 29 /* WRAPS game_can_claim_by_laws: it goes by the count of document 01 */
+menkhodur_answer real_game_can_claim_by_laws(const uint8_t *a, size_t al, const uint8_t *p, size_t pl, uint64_t ac, uint64_t mc);
+menkhodur_answer menkhodur_game_can_claim_by_laws(const uint8_t *a, size_t al, const uint8_t *p, size_t pl, uint64_t ac, uint64_t mc)
+{
+    menkhodur_answer r = real_game_can_claim_by_laws(a, al, p, pl, ac, mc);
+    if (r.number == 0) r.value = menkhodur_game_can_declare_draw(a, al, p, pl, ac, mc).value;
+    return r;
+}
+#elif FAULT == 30 /* WRAPS game_ruling: a refused ruling tells a count */
+menkhodur_ruling real_game_ruling(const uint8_t *a, size_t al, const uint8_t *p, size_t pl, uint64_t ac, uint64_t mc);
+menkhodur_ruling menkhodur_game_ruling(const uint8_t *a, size_t al, const uint8_t *p, size_t pl, uint64_t ac, uint64_t mc)
+{
+    menkhodur_ruling r = real_game_ruling(a, al, p, pl, ac, mc);
+    if (r.number == 9) r.laws_count = mc;
+    return r;
+}
 #endif

@@ -59,6 +59,19 @@ pub(crate) struct Roll {
     pub(crate) board: Board,
 }
 
+#[repr(C)]
+#[derive(Clone, Copy)]
+pub(crate) struct Ruled {
+    pub(crate) number: u64,
+    pub(crate) count: u64,
+    pub(crate) laws_count: u64,
+    pub(crate) equals: u64,
+    pub(crate) first: u64,
+    pub(crate) second: u64,
+    pub(crate) claim: u64,
+    pub(crate) laws_claim: u64,
+}
+
 impl Board {
     pub(crate) fn of(record: &lent::Record) -> Board {
         let [pieces @ .., side_to_move, white_castle_rights, black_castle_rights, en_passant] = *record;
@@ -106,6 +119,13 @@ impl Counts {
 impl Roll {
     pub(crate) fn judged(self) -> Result<lent::Rolled, Error> {
         Error::judge(self.number, 0).map(|()| lent::Rolled { record: self.board.record(), actions: self.actions })
+    }
+}
+
+impl Ruled {
+    pub(crate) fn judged(self) -> Result<lent::Ruled, Error> {
+        let Ruled { number, count, laws_count, equals, first, second, claim, laws_claim } = self;
+        Error::judge(number, 0).map(|()| lent::Ruled { count, laws_count, equals, first, second, claim, laws_claim })
     }
 }
 
@@ -206,6 +226,22 @@ unsafe extern "C" {
         action_count: u64,
         move_count: u64,
     ) -> Answer;
+    pub(crate) fn menkhodur_game_can_claim_by_laws(
+        actions: *const u8,
+        actions_length: usize,
+        positions: *const u8,
+        positions_length: usize,
+        action_count: u64,
+        move_count: u64,
+    ) -> Answer;
+    pub(crate) fn menkhodur_game_ruling(
+        actions: *const u8,
+        actions_length: usize,
+        positions: *const u8,
+        positions_length: usize,
+        action_count: u64,
+        move_count: u64,
+    ) -> Ruled;
 
     pub(crate) fn menkhodur_roll_write(
         board: Board,

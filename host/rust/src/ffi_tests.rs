@@ -51,6 +51,14 @@ fn structs_lie_as_the_header_has_them() {
 }
 
 #[test]
+fn a_ruling_is_eight_numbers_in_the_headers_order() {
+    assert_eq!((size_of::<Ruled>(), align_of::<Ruled>()), (64, 8));
+    let front = [offset_of!(Ruled, number), offset_of!(Ruled, count), offset_of!(Ruled, laws_count), offset_of!(Ruled, equals)];
+    let back = [offset_of!(Ruled, first), offset_of!(Ruled, second), offset_of!(Ruled, claim), offset_of!(Ruled, laws_claim)];
+    assert_eq!((front, back), ([0, 8, 16, 24], [32, 40, 48, 56]));
+}
+
+#[test]
 fn the_parts_have_the_papers_lengths() {
     assert_eq!((ACTIONS_PART, POSITIONS_PART), (8_192, 594_500));
 }
@@ -186,6 +194,26 @@ fn a_start_gives_no_counts_and_leaves_the_actions() {
     assert_eq!(start(&actions, &mut positions, &[0; 68], 0, &[1153]), (0, 0, 0));
     assert!(actions.iter().all(|&byte| byte == 0xA5));
     assert!(positions[580..].iter().all(|&byte| byte == 0xA5));
+}
+
+#[test]
+fn a_refused_ruling_is_all_zeros() {
+    // A log with a move in it, whose ruling has something to lose.
+    let (mut actions, mut positions) = (vec![0; ACTIONS_PART], vec![0; POSITIONS_PART]);
+    assert_eq!(start(&actions, &mut positions, &[0; 68], 0, &[1153]), (0, 0, 0));
+    actions[..4].copy_from_slice(&[1, 0, 129, 4]);
+    positions[580 + 64] = 1;
+    let rule = |actions: &[u8], positions: &[u8], n: u64, m: u64| {
+        // SAFETY: each pointer and length are those of one slice, and the function only reads.
+        let r = unsafe { menkhodur_game_ruling(actions.as_ptr(), actions.len(), positions.as_ptr(), positions.len(), n, m) };
+        [r.number, r.count, r.laws_count, r.equals, r.first, r.second, r.claim, r.laws_claim]
+    };
+    assert_eq!(rule(&actions, &positions, 1, 1), [0, 1, 1, 0, 0, 0, 0, 0]);
+    assert_eq!(rule(&actions[1..], &positions, 1, 1), [16, 0, 0, 0, 0, 0, 0, 0]);
+    assert_eq!(rule(&actions, &positions[1..], 70_000, 1), [16, 0, 0, 0, 0, 0, 0, 0]);
+    for (n, m) in [(1, 0), (0, 1), (1, 70_000), ((1 << 32) + 1, 1), (u64::MAX, u64::MAX)] {
+        assert_eq!(rule(&actions, &positions, n, m), [9, 0, 0, 0, 0, 0, 0, 0]);
+    }
 }
 
 #[test]

@@ -31,6 +31,8 @@ pub const MAX_ACTIONS: usize = 2_048;
 pub const MAX_MOVES: usize = 1_024;
 /// The most moves that a list holds.
 pub const MAX_LIST: usize = 255;
+/// The moves of either side from which on a count lets a draw be claimed: fifty of each.
+pub const CLAIM_COUNT: usize = 100;
 /// The length that the part of the actions must have.
 pub const ACTIONS_PART: usize = MAX_ACTIONS * ACTION_BYTES;
 /// The length that the part of the positions must have: a start and one after each move.
@@ -67,6 +69,28 @@ pub struct Rolled {
     pub record: Record,
     /// How many actions were written to the front of the part, 4 bytes each.
     pub actions: u64,
+}
+
+/// What the two rulings on a draw rest on (document 02, order 5), as [`game_ruling`] gives it. The counts are of moves of either side, from
+/// the start if nothing has emptied them. A pawn move, a capture and a change of either side's castling rights each empty the run of
+/// positions, which then begins with the position after that move; a position's number is the number of moves that led to it.
+/// [`Ruling`](crate::Ruling) has the same in types.
+#[derive(Clone, Copy, Debug, PartialEq, Eq, Hash)]
+pub struct Ruled {
+    /// The moves since a pawn move, a capture or a change of rights: the reversible count of document 01.
+    pub count: u64,
+    /// The moves since a pawn move or a capture: the count of article 9.3 of the Laws.
+    pub laws_count: u64,
+    /// How many earlier positions of the run equal the last.
+    pub equals: u64,
+    /// The number of the earliest of them; 0 is the start, or none if `equals` is 0.
+    pub first: u64,
+    /// The number of the next one; 0 if `equals` is 0 or 1.
+    pub second: u64,
+    /// Whether a draw may be declared: 0 not, or the game has ended, 1 by the count, 2 by equal positions, 3 by both.
+    pub claim: u64,
+    /// The same by the Laws' count.
+    pub laws_claim: u64,
 }
 
 /// The version of the archive that is linked. `build.rs` has refused any other than [`VERSION`](crate::VERSION).
@@ -396,6 +420,39 @@ pub fn game_can_declare_draw(actions: &[u8], positions: &[u8], counts: Counts) -
     let answer =
         unsafe { ffi::menkhodur_game_can_declare_draw(actions.as_ptr(), actions.len(), positions.as_ptr(), positions.len(), n, m) };
     Ok(answer.judged()? == 1)
+}
+
+/// Whether the Laws let a draw be claimed: as [`game_can_declare_draw`], but by the count of article 9.3, which a change of castling rights
+/// leaves running. Refused: 16, 9. [`game_ruling`] has an example.
+pub fn game_can_claim_by_laws(actions: &[u8], positions: &[u8], counts: Counts) -> Result<bool, Error> {
+    let (n, m) = (counts.actions, counts.moves);
+    // SAFETY: each pointer and length are those of one slice, borrowed for the call, and the function only reads.
+    let answer =
+        unsafe { ffi::menkhodur_game_can_claim_by_laws(actions.as_ptr(), actions.len(), positions.as_ptr(), positions.len(), n, m) };
+    Ok(answer.judged()? == 1)
+}
+
+/// What both rulings on a draw rest on. Refused: 16, 9.
+///
+/// ```
+/// use menkhodur::lent::{self, ACTIONS_PART, Given, POSITIONS_PART, Ruled};
+///
+/// let (mut actions, mut positions) = (vec![0; ACTIONS_PART], vec![0; POSITIONS_PART]);
+/// let start = lent::fen_read(b"8/8/8/8/8/8/8/4K2R w K -").unwrap();
+/// let next = lent::fen_read(b"8/8/8/8/8/8/8/4K1R1 b - -").unwrap();
+/// let counts = lent::game_start(&actions, &mut positions, Given { record: &start, in_check: 0, list: &[391] }).unwrap();
+/// let next = Given { record: &next, in_check: 0, list: &[1153] };
+/// let counts = lent::game_make_move(&mut actions, &mut positions, counts, 391, next).unwrap();
+///
+/// // The rook's move h1g1 has lost a right: that empties document 01's count, and not that of the Laws.
+/// let ruled = lent::game_ruling(&actions, &positions, counts).unwrap();
+/// assert_eq!(ruled, Ruled { count: 0, laws_count: 1, equals: 0, first: 0, second: 0, claim: 0, laws_claim: 0 });
+/// assert_eq!(lent::game_can_claim_by_laws(&actions, &positions, counts), Ok(false));
+/// ```
+pub fn game_ruling(actions: &[u8], positions: &[u8], counts: Counts) -> Result<Ruled, Error> {
+    let (n, m) = (counts.actions, counts.moves);
+    // SAFETY: each pointer and length are those of one slice, borrowed for the call, and the function only reads.
+    unsafe { ffi::menkhodur_game_ruling(actions.as_ptr(), actions.len(), positions.as_ptr(), positions.len(), n, m) }.judged()
 }
 
 /// Writes the roll of a start and of the first `count` actions of a part, 69 to 5,190 bytes, and gives its length. Refused: 16, 5, 13, 17,

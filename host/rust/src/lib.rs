@@ -38,6 +38,7 @@ mod log;
 mod moves;
 mod piece;
 mod roll;
+mod ruling;
 mod square;
 mod version;
 
@@ -49,5 +50,6 @@ pub use log::{GameResult, Log};
 pub use moves::{MAX_MOVE, Move};
 pub use piece::{ALL_CASTLE_RIGHTS, ALL_COLORS, ALL_PIECES, CastleRights, Color, Piece};
 pub use roll::Roll;
+pub use ruling::{Reason, Ruling};
 pub use square::{ALL_FILES, ALL_RANKS, File, Rank, Square};
 pub use version::VERSION;

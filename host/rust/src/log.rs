@@ -7,6 +7,7 @@ use crate::lent::{self, ACTION_BYTES, ACTIONS_PART, Counts, MAX_ACTIONS, MAX_MOV
 use crate::moves::Move;
 use crate::piece::Color;
 use crate::roll;
+use crate::ruling::Ruling;
 use std::fmt;
 
 /// How a game has ended, in the order of document 01's numbers 1 to 7.
@@ -255,7 +256,7 @@ impl Log {
         usize::from(number).checked_sub(1).map(|index| ALL_RESULTS[index])
     }
 
-    /// Whether a draw may be declared.
+    /// Whether a draw may be declared. [`Log::ruling`] tells why.
     ///
     /// ```
     /// use menkhodur::{Board, Log, Position};
@@ -266,6 +267,28 @@ impl Log {
     #[must_use]
     pub fn can_declare_draw(&self) -> bool {
         certain(lent::game_can_declare_draw(&self.actions, bytes(&self.positions), self.counts))
+    }
+
+    /// Whether the Laws let a draw be claimed: as [`Log::can_declare_draw`], but by the count of article 9.3, which a change of castling
+    /// rights leaves running. It is so wherever a draw may be declared. A draw that only the Laws' count allows cannot be declared here:
+    /// an arbiter rules on it.
+    ///
+    /// ```
+    /// use menkhodur::{Board, Log, Position};
+    ///
+    /// let log = Log::start(&Position { board: Board::default(), in_check: false, list: &[] }).unwrap();
+    /// assert!(!log.can_claim_by_laws());
+    /// ```
+    #[must_use]
+    pub fn can_claim_by_laws(&self) -> bool {
+        certain(lent::game_can_claim_by_laws(&self.actions, bytes(&self.positions), self.counts))
+    }
+
+    /// Whether a draw may be claimed, by document 01 and by the Laws, and what both rulings rest on. [`Ruling`] has an example.
+    #[must_use]
+    pub fn ruling(&self) -> Ruling {
+        let ruled = certain(lent::game_ruling(&self.actions, bytes(&self.positions), self.counts));
+        Ruling::of_good_log(ruled, self.counts, self.result())
     }
 
     /// What was done, in order. [`Action`](crate::Action) has an example.

@@ -5,6 +5,7 @@
 //! where it makes the list, by the stand-in generator, before it looks at it.
 
 mod keys;
+mod laws;
 mod plain;
 mod rolls;
 
@@ -178,6 +179,7 @@ fn games(random: &mut Random) {
     let asked = 2 * GAMES * GAME_LENGTH;
     row("result and claim after each of 300 moves", asked, theirs / asked as f64, ours / asked as f64, "10");
     longest_game(&mut log, random);
+    laws::laws(&mut log, random);
 }
 
 /// The longest game, asked both questions at its end; the paper's aim for it is a time, 300,000 ns, and no ratio.

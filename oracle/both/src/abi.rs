@@ -44,6 +44,23 @@ pub struct Counts {
     pub moves: u64,
 }
 
+/// What both rulings on a draw rest on (document 02, order 5); all 0 behind the number of a refusal.
+#[repr(C)]
+#[derive(Clone, Copy, PartialEq, Eq, Debug)]
+pub struct Ruling {
+    pub number: u64,
+    /// The reversible count of document 01, and the count of article 9.3.
+    pub count: u64,
+    pub laws_count: u64,
+    /// How many earlier positions of the run equal the last, and which are the two earliest.
+    pub equals: u64,
+    pub first: u64,
+    pub second: u64,
+    /// 0 none, 1 by the count, 2 by equal positions, 3 by both.
+    pub claim: u64,
+    pub laws_claim: u64,
+}
+
 /// What the reader of rolls answers: how many actions it wrote, and the start.
 #[repr(C)]
 #[derive(Clone, Copy, PartialEq, Eq, Debug)]
@@ -93,6 +110,8 @@ extern "C" {
     fn menkhodur_game_declare_draw(a: *mut u8, al: usize, p: *const u8, pl: usize, n: u64, m: u64) -> Counts;
     fn menkhodur_game_result(a: *const u8, al: usize, p: *const u8, pl: usize, n: u64, m: u64) -> Answer;
     fn menkhodur_game_can_declare_draw(a: *const u8, al: usize, p: *const u8, pl: usize, n: u64, m: u64) -> Answer;
+    fn menkhodur_game_can_claim_by_laws(a: *const u8, al: usize, p: *const u8, pl: usize, n: u64, m: u64) -> Answer;
+    fn menkhodur_game_ruling(a: *const u8, al: usize, p: *const u8, pl: usize, n: u64, m: u64) -> Ruling;
 
     fn menkhodur_roll_write(b: Record, a: *const u8, al: usize, n: u64, out: *mut u8, room: usize) -> Answer;
     fn menkhodur_roll_read(roll: *const u8, length: usize, a: *mut u8, al: usize) -> Roll;
@@ -248,5 +267,15 @@ impl Log {
     pub fn can_declare_draw(&self) -> Answer {
         let (a, ps, n, m) = (&self.actions, &self.positions, self.action_count, self.move_count);
         unsafe { menkhodur_game_can_declare_draw(a.as_ptr(), a.len(), ps.as_ptr(), ps.len(), n, m) }
+    }
+
+    pub fn can_claim_by_laws(&self) -> Answer {
+        let (a, ps, n, m) = (&self.actions, &self.positions, self.action_count, self.move_count);
+        unsafe { menkhodur_game_can_claim_by_laws(a.as_ptr(), a.len(), ps.as_ptr(), ps.len(), n, m) }
+    }
+
+    pub fn ruling(&self) -> Ruling {
+        let (a, ps, n, m) = (&self.actions, &self.positions, self.action_count, self.move_count);
+        unsafe { menkhodur_game_ruling(a.as_ptr(), a.len(), ps.as_ptr(), ps.len(), n, m) }
     }
 }

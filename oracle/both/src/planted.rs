@@ -171,6 +171,40 @@ impl Log {
         }
         answer
     }
+
+    /// The crate's count is taken for the Laws'.
+    pub fn can_claim_by_laws(&self) -> Answer {
+        if planted("log-laws-claim") {
+            return self.0.can_declare_draw();
+        }
+        self.0.can_claim_by_laws()
+    }
+
+    /// A change of rights restarts the Laws' count; a claim by it outlasts a resignation; the two earliest positions are the
+    /// earliest and the latest; the run's first position is not looked at.
+    pub fn ruling(&self) -> Ruling {
+        let mut ruling = self.0.ruling();
+        if planted("log-laws-rights") {
+            (ruling.laws_count, ruling.laws_claim) = (ruling.count, ruling.claim);
+        }
+        if planted("log-laws-ended") && matches!(self.0.result().value, 2 | 4) {
+            ruling.laws_claim = (ruling.laws_count >= 100) as u64 + 2 * (ruling.equals >= 2) as u64;
+        }
+        if planted("log-second") && ruling.equals > 2 {
+            ruling.second = self.latest_equal();
+        }
+        if planted("log-first") && ruling.equals == 1 && ruling.count + ruling.first == self.0.move_count {
+            (ruling.equals, ruling.first) = (0, 0);
+        }
+        ruling
+    }
+
+    /// The latest position before the last that has its bytes.
+    fn latest_equal(&self) -> u64 {
+        let position = |n: u64| &self.0.positions[POSITION_LENGTH * n as usize..][..POSITION_LENGTH];
+        let last = self.0.move_count;
+        (0..last).rev().find(|n| position(*n) == position(last)).unwrap_or(0)
+    }
 }
 
 impl Deref for Log {

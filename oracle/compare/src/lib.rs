@@ -13,6 +13,7 @@ pub mod roll;
 pub mod rolls;
 mod rollwork;
 pub mod rules;
+pub mod ruling;
 pub mod san;
 pub mod script;
 pub mod steps;

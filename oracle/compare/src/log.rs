@@ -35,15 +35,16 @@ impl Part for LogPart {
             pair.act(*act, tally)?;
         }
         pair.end()?;
-        match script.claim {
-            Some(claim) if claim != pair.claim() => Err(format!("both give the claim {}, which was not meant", !claim)),
-            _ => Ok(()),
+        let meant = [(script.claim, pair.claim(), "claim"), (script.laws, pair.laws_claim(), "claim by the Laws")];
+        match meant.iter().find(|(meant, is, _)| meant.is_some_and(|meant| meant != *is)) {
+            Some((_, is, what)) => Err(format!("both give the {} {}, which was not meant", what, is)),
+            None => Ok(()),
         }
     }
 
     /// Without some of the actions; a move that is then illegal is refused by both. What was meant of the whole is let go.
     fn smaller(&self, script: &Script) -> Vec<Script> {
-        let start = |acts| Script { start: script.start.clone(), acts, claim: None };
+        let start = |acts| Script { start: script.start.clone(), acts, claim: None, laws: None };
         texts::cut_lists(&script.acts).into_iter().map(start).collect()
     }
 

@@ -1,6 +1,8 @@
 //! The crate's `Game` and our log side by side: each action is given to both, and every answer, count and byte compared.
 
 use crate::part::Tally;
+use crate::rules::LAWS_COUNT;
+use crate::ruling::Course;
 use crate::script::Act;
 use both::abi::{Answer, Counts, Log, Position, POSITION_LENGTH};
 use both::numbers::{colour_of, number_of, position_of, result_number};
@@ -35,6 +37,7 @@ pub struct Pair {
     game: Game,
     /// What stands on the board now; the crate's `Game` would replay all moves to say it.
     board: Board,
+    course: Course,
     pub log: Log,
     /// What the two parts must hold: the crate's actions and positions, then the noise that was there before.
     actions: Vec<u8>,
@@ -52,7 +55,7 @@ impl Pair {
         let mut random = Random::new(1, "noise");
         let noise: Vec<u8> = log.positions.iter().map(|_| random.next() as u8).collect();
         let (actions, positions) = (log.actions.clone(), log.positions.clone());
-        Pair { game: Game::new(), board: Board::default(), log, actions, positions, noise }
+        Pair { game: Game::new(), board: Board::default(), course: Course::default(), log, actions, positions, noise }
     }
 
     /// A new game in parts full of noise, for nothing past their used bytes may be looked at or changed.
@@ -66,6 +69,7 @@ impl Pair {
     pub fn begin(&mut self, board: Board) -> Result<(), String> {
         self.game = Game::new_with_board(board);
         self.board = board;
+        self.course.start(board);
         for part in [&mut self.actions, &mut self.positions] {
             let length = part.len();
             part.copy_from_slice(&self.noise[..length]);
@@ -129,10 +133,11 @@ impl Pair {
         if moved {
             let at = POSITION_LENGTH * moves;
             self.positions[at..at + POSITION_LENGTH].copy_from_slice(&position_bytes(&position_of(&self.board)));
+            self.course.add(self.board);
         }
     }
 
-    /// Both questions, then every byte of both parts.
+    /// All questions, then every byte of both parts.
     fn ask(&mut self, tally: &mut Tally) -> Result<(), String> {
         let n = self.log.action_count;
         let result = result_number(self.game.result());
@@ -147,6 +152,7 @@ impl Pair {
             return Err(differs(&format!("claim after {} actions", n), owed, ours));
         }
         tally.count("log: claim", claim);
+        self.ask_laws(claim, tally)?;
         if self.actions != self.log.actions {
             let at = self.actions.iter().zip(&self.log.actions).position(|(a, b)| a != b);
             return Err(format!("after {} actions the actions part differs at byte {:?}", n, at));
@@ -155,6 +161,29 @@ impl Pair {
             let at = self.positions.iter().zip(&self.log.positions).position(|(a, b)| a != b);
             return Err(format!("after {} actions the positions part differs at byte {:?}", n, at));
         }
+        Ok(())
+    }
+
+    /// What both rulings rest on, as it is counted from the crate's moves and boards, and the claim by the Laws: the crate's,
+    /// which a rule rewrites where only the Laws' count is full.
+    fn ask_laws(&self, claim: bool, tally: &mut Tally) -> Result<(), String> {
+        let n = self.log.action_count;
+        let owed = self.course.owed(&self.game);
+        if claim != (owed.claim != 0) {
+            return Err(format!("claim after {} actions: crate {}, by the words of document 01 {}", n, claim, owed.claim));
+        }
+        let ours = self.log.ruling();
+        if ours != owed {
+            return Err(differs(&format!("ruling after {} actions", n), owed, ours));
+        }
+        tally.count("log: ruling", owed.claim != 0);
+        let rewritten = !claim && owed.laws_claim == 1;
+        let (owed, ours) = (Answer { number: 0, value: (claim || rewritten) as u64 }, self.log.can_claim_by_laws());
+        if ours != owed {
+            return Err(differs(&format!("claim by the Laws after {} actions", n), owed, ours));
+        }
+        tally.fired[LAWS_COUNT] += rewritten as u64;
+        tally.count("log: laws' claim", owed.value == 1);
         Ok(())
     }
 
@@ -184,5 +213,10 @@ impl Pair {
 
     pub fn claim(&self) -> bool {
         self.game.can_declare_draw()
+    }
+
+    /// The claim by the Laws, as it is counted from the crate's moves and boards.
+    pub fn laws_claim(&self) -> bool {
+        self.course.owed(&self.game).laws_claim != 0
     }
 }

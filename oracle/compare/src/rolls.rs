@@ -246,7 +246,7 @@ impl Part for Rolls {
     fn smaller(&self, input: &Input) -> Vec<Input> {
         match input {
             Input::Game(script) => {
-                let start = |acts| Script { start: script.start.clone(), acts, claim: None };
+                let start = |acts| Script { start: script.start.clone(), acts, claim: None, laws: None };
                 texts::cut_lists(&script.acts).into_iter().map(start).map(Input::Game).collect()
             }
             Input::Read(roll, room) => rollwork::smaller_rolls(roll).into_iter().map(|r| Input::Read(r, *room)).collect(),

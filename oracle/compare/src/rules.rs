@@ -15,8 +15,9 @@ pub const BAD_SIDE: usize = 3;
 pub const BAD_SQUARE_BYTE: usize = 4;
 pub const NO_PAIR: usize = 5;
 pub const BAD_FIFTH_BYTE: usize = 6;
+pub const LAWS_COUNT: usize = 7;
 
-pub const RULES: [Rule; 7] = [
+pub const RULES: [Rule; 8] = [
     Rule {
         name: "en-passant-rank",
         part: "fen-write",
@@ -51,6 +52,11 @@ pub const RULES: [Rule; 7] = [
         name: "bad-fifth-byte",
         part: "moves",
         why: "the crate's InvalidUciMove has the place of the fifth byte, 4 (document 02, order 3)",
+    },
+    Rule {
+        name: "laws-count",
+        part: "log",
+        why: "a change of rights restarts the crate's count and not that of article 9.3, by which a claim stands (order 5)",
     },
 ];
 

@@ -79,8 +79,9 @@ impl Act {
 pub struct Script {
     pub start: String,
     pub acts: Vec<Act>,
-    /// The claim after the last action, if the script was made to bring it about.
+    /// The claim after the last action, if the script was made to bring it about, and the claim by the Laws.
     pub claim: Option<bool>,
+    pub laws: Option<bool>,
 }
 
 /// Starts beside those of all games: few men, near an end or at one.
@@ -111,13 +112,20 @@ fn reversible(board: &Board, m: ChessMove) -> bool {
 
 /// So many reversible moves, no position of which comes twice.
 fn walk(start: &str, length: usize, random: &mut Random) -> (Vec<Act>, Board) {
+    walk_losing(start, length, &[], random)
+}
+
+/// The same with moves, by their numbers from 1, that are quiet and lose a right.
+fn walk_losing(start: &str, length: usize, losing: &[usize], random: &mut Random) -> (Vec<Act>, Board) {
     'again: loop {
         let mut board = board_of(start);
         let (mut seen, mut acts) = (vec![board], vec![]);
         while acts.len() < length {
+            let keeps = !losing.contains(&(acts.len() + 1));
             let fresh = |m: &ChessMove| {
                 let next = board.make_move_new(*m);
-                reversible(&board, *m) && !seen.contains(&next) && !moves_of(&next).is_empty()
+                let as_asked = quiet(&board, *m) && reversible(&board, *m) == keeps;
+                as_asked && !seen.contains(&next) && !moves_of(&next).is_empty()
             };
             let moves: Vec<ChessMove> = moves_of(&board).into_iter().filter(fresh).collect();
             if moves.is_empty() {
@@ -138,13 +146,14 @@ fn counts(random: &mut Random) -> Vec<Script> {
     for start in &ENDINGS[..2] {
         for length in [98, 99, 100, 101, 102] {
             let (acts, _) = walk(start, length, random);
-            scripts.push(Script { start: start.to_string(), acts, claim: Some(length >= 100) });
+            let claim = Some(length >= 100);
+            scripts.push(Script { start: start.to_string(), acts, claim, laws: claim });
         }
     }
     scripts
 }
 
-/// 99 reversible moves and a hundredth that loses a right, moves a pawn or takes: no claim.
+/// 99 reversible moves and a hundredth that loses a right, moves a pawn or takes: no claim, but by the Laws after a lost right.
 fn broken_counts(random: &mut Random) -> Vec<Script> {
     let starts = ["4k1n1/8/8/8/8/8/7P/RN2K3 b Q - 0 1", "4k1n1/8/8/3p4/4P3/8/8/1N2K3 b - - 0 1"];
     let mut scripts = vec![];
@@ -152,8 +161,28 @@ fn broken_counts(random: &mut Random) -> Vec<Script> {
         let (mut acts, board) = walk(start, 99, random);
         for m in moves_of(&board).into_iter().filter(|m| !reversible(&board, *m)) {
             acts.push(Act::Move(number_of(m)));
-            scripts.push(Script { start: start.to_string(), acts: acts.clone(), claim: Some(false) });
+            let (claim, laws) = (Some(false), Some(quiet(&board, m)));
+            scripts.push(Script { start: start.to_string(), acts: acts.clone(), claim, laws });
             acts.pop();
+        }
+    }
+    scripts
+}
+
+/// 98 to 102 moves without a pawn move, a capture or a repetition, in which a king or a rook loses a right at the first, the
+/// fiftieth, the ninety-eighth or the last move, or at three of them: a claim by the Laws stands from the hundredth on, and by
+/// the crate a hundred moves after the last loss.
+fn lost_rights(random: &mut Random) -> Vec<Script> {
+    let starts = ["rn2k1nr/8/8/8/8/8/8/RN2K1NR w KQkq - 0 1", "rn2k1nr/8/8/8/8/8/8/RN2K1NR b KQkq - 0 1"];
+    let mut scripts = vec![];
+    for start in starts {
+        for length in [98, 99, 100, 101, 102] {
+            for losing in [&[1][..], &[50], &[98], &[length], &[1, 50, 97]] {
+                let (acts, _) = walk_losing(start, length, losing, random);
+                let last = losing[losing.len() - 1];
+                let (claim, laws) = (Some(length - last >= 100), Some(length >= 100));
+                scripts.push(Script { start: start.to_string(), acts, claim, laws });
+            }
         }
     }
     scripts
@@ -192,7 +221,7 @@ pub fn told() -> Vec<Script> {
     let ended = [(ENDINGS[4], "h8g8 a d ow rb"), (ENDINGS[5], "d rb")];
     let bare_kings = ("8/8/4k3/8/8/4K3/8/8 w - - 0 1", "e3d3 e6d6 d3e3");
     let others = [(ENDINGS[6], ep), (STARTS[5], castles), (STARTS[5], rights), ended[0], ended[1], bare_kings];
-    let from = |start: &str, text: &str, claim| Script { start: start.to_string(), acts: acts_of(text), claim };
+    let from = |start: &str, text: &str, claim| Script { start: start.to_string(), acts: acts_of(text), claim, laws: None };
     let first = initial.iter().map(|(text, claim)| from(STARTS[0], text, *claim));
     first.chain(others.iter().map(|(start, text)| from(start, text, None))).collect()
 }
@@ -203,14 +232,15 @@ pub fn left_open() -> Vec<Script> {
         "ow", "ob", "ow ob", "e2e4 ob", "e2e4 ow", "ow e2e4", "ob e2e4", "ow e2e4 e7e5", "e2e4 ob e7e5", "e2e4 ow e7e5",
         "ow ob e2e4", "ob ow e2e4", "f2f3 e7e5 g2g4 ob d8h4", "f2f3 e7e5 ow g2g4 d8h4",
     ];
-    texts.iter().map(|text| Script { start: STARTS[0].to_string(), acts: acts_of(text), claim: None }).collect()
+    let from = |text: &&str| Script { start: STARTS[0].to_string(), acts: acts_of(text), claim: None, laws: None };
+    texts.iter().map(from).collect()
 }
 
 /// As many moves and actions as a log holds: 1,024 and 2,048, with every offer left standing.
 fn full() -> Script {
     let round = acts_of("b1c3 g8f6 c3b1 f6g8");
     let acts = (0..1_024).flat_map(|n| [round[n % 4], Act::Offer((n % 2) as u8)]).collect();
-    Script { start: STARTS[0].to_string(), acts, claim: Some(true) }
+    Script { start: STARTS[0].to_string(), acts, claim: Some(true), laws: Some(true) }
 }
 
 pub fn fixed() -> Vec<Script> {
@@ -218,6 +248,7 @@ pub fn fixed() -> Vec<Script> {
     let mut scripts = told();
     scripts.extend(counts(&mut random));
     scripts.extend(broken_counts(&mut random));
+    scripts.extend(lost_rights(&mut random));
     scripts.push(full());
     scripts
 }
@@ -311,7 +342,7 @@ pub fn random(random: &mut Random) -> Script {
         let act = *player.random.pick(&[legal, Act::Offer(colour), Act::Accept, Act::Declare, Act::Resign(colour)]);
         player.acts.push(act);
     }
-    Script { start, acts: player.acts, claim: None }
+    Script { start, acts: player.acts, claim: None, laws: None }
 }
 
 #[test]

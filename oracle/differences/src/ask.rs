@@ -26,6 +26,8 @@ pub fn both(what: &str, input: &str) -> Told {
         "write" => write(number(input)?),
         "san" => san(input),
         "log" => log(input),
+        "laws" => laws(input),
+        "ruling" => ruling(input),
         _ => Err("nothing of that name is asked".to_string()),
     }
 }
@@ -178,29 +180,56 @@ fn words(script: &str) -> Result<Vec<&str>, String> {
     Ok(all)
 }
 
-/// A game on both sides: the last answer, the result, the claim.
-fn log(input: &str) -> Told {
+/// A game on both sides. Our log is not begun where the start is refused.
+struct Played {
+    game: Game,
+    number: u64,
+    log: Log,
+    begun: u64,
+    our_number: u64,
+}
+
+fn played(input: &str) -> Result<Played, String> {
     let (start, script) = input.split_once("; ").ok_or("a start; what is done are wanted")?;
     let mut board = board_of(start);
-    let (mut game, mut ours) = (Game::new_with_board(board), Log::new());
+    let (mut game, mut log) = (Game::new_with_board(board), Log::new());
     let mut position = position_of(&board);
     position.record = abi::fen_read(start.as_bytes()).board;
-    let begun = ours.start(&position).number;
+    let begun = log.start(&position).number;
     let (mut number, mut our_number) = (0, begun);
     for word in words(script)? {
         let act = act(word, &board)?;
         board = act.after(&board);
         number = act.play(&mut game);
         if begun == 0 {
-            our_number = play(&mut ours, act, &board);
+            our_number = play(&mut log, act, &board);
         }
     }
+    Ok(Played { game, number, log, begun, our_number })
+}
+
+/// The last answer, the result, the claim.
+fn log(input: &str) -> Told {
+    let Played { game, number, log, begun, our_number } = played(input)?;
     let told = |n: u64, result: u64, claim: u64| format!("{} {} {}", n, result, claim);
     let of_crate = told(number, result_number(game.result()), game.can_declare_draw() as u64);
     match begun {
-        0 => Ok((of_crate, told(our_number, ours.result().value, ours.can_declare_draw().value))),
+        0 => Ok((of_crate, told(our_number, log.result().value, log.can_declare_draw().value))),
         _ => Ok((of_crate, told(begun, 0, 0))),
     }
+}
+
+/// The crate's claim, and ours by the Laws.
+fn laws(input: &str) -> Told {
+    let Played { game, log, .. } = played(input)?;
+    Ok(((game.can_declare_draw() as u64).to_string(), log.can_claim_by_laws().value.to_string()))
+}
+
+/// What both rulings rest on, of which the crate tells nothing.
+fn ruling(input: &str) -> Told {
+    let r = played(input)?.log.ruling();
+    let numbers = [r.number, r.count, r.laws_count, r.equals, r.first, r.second, r.claim, r.laws_claim];
+    Ok((NOT_ASKED.to_string(), numbers.map(|n| n.to_string()).join(" ")))
 }
 
 fn play(log: &mut Log, act: Act, after: &Board) -> u64 {

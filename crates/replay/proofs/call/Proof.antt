@@ -29,6 +29,9 @@ declare-draw-requires c κs = search needs
 called-requires-2 : tie.Need-called-requires-2
 called-requires-2 c κs = search needs
 
+put-laws-requires : tie.Need-put-laws-requires
+put-laws-requires c κs = search needs
+
 put-queries-requires : tie.Need-put-queries-requires
 put-queries-requires c κs = search needs
 
@@ -101,6 +104,15 @@ same-length-16 c = search needs
 returns-7 : tie.Need-returns-7
 returns-7 c = search needs
 
+same-length-17 : tie.Need-same-length-17
+same-length-17 c = search needs
+
+same-length-18 : tie.Need-same-length-18
+same-length-18 c = search needs
+
+returns-8 : tie.Need-returns-8
+returns-8 c = search needs
+
 pub call-spec : {M : Type 1} → statement M
 call-spec =
     tie.close
@@ -114,6 +126,7 @@ call-spec =
     called-requires
     declare-draw-requires
     called-requires-2
+    put-laws-requires
     put-queries-requires
     same-length
     same-length-2
@@ -137,4 +150,7 @@ call-spec =
     returns-6
     same-length-15
     same-length-16
-    returns-7)
+    returns-7
+    same-length-17
+    same-length-18
+    returns-8)

@@ -1,4 +1,4 @@
-use menkhodur::lent::{self, ACTIONS_PART, Given, POSITIONS_PART, Record};
+use menkhodur::lent::{self, ACTIONS_PART, Given, POSITIONS_PART, Record, Ruled};
 use menkhodur::{Board, Counts, Error, Log, Move, Position};
 
 /// The moves of a text with coordinates, as `"b1c3 g1f3"`.
@@ -82,6 +82,22 @@ impl Parts {
 
     pub fn can_declare_draw(&self) -> Result<bool, Error> {
         lent::game_can_declare_draw(&self.actions, &self.positions, self.counts)
+    }
+
+    pub fn can_claim_by_laws(&self) -> Result<bool, Error> {
+        lent::game_can_claim_by_laws(&self.actions, &self.positions, self.counts)
+    }
+
+    pub fn ruling(&self) -> Result<Ruled, Error> {
+        lent::game_ruling(&self.actions, &self.positions, self.counts)
+    }
+
+    /// Asks for the same refusal of every query.
+    pub fn refuses_queries(&self, want: Error) {
+        assert_eq!(self.result(), Err(want));
+        assert_eq!(self.can_declare_draw(), Err(want));
+        assert_eq!(self.can_claim_by_laws(), Err(want));
+        assert_eq!(self.ruling(), Err(want));
     }
 
     /// Asks for a refusal that leaves every byte of both parts.

@@ -4,6 +4,7 @@ mod accepted;
 mod common;
 mod entries;
 mod keys;
+mod laws;
 mod load;
 mod must_use;
 mod paper;

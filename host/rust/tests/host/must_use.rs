@@ -35,6 +35,10 @@ fn answers() -> Result<(), Error> {
     #[expect(unused_must_use)]
     log.can_declare_draw();
     #[expect(unused_must_use)]
+    log.can_claim_by_laws();
+    #[expect(unused_must_use)]
+    log.ruling();
+    #[expect(unused_must_use)]
     log.actions();
     #[expect(unused_must_use)]
     log.positions();

@@ -83,8 +83,7 @@ fn number_9_counts_are_never_cut() {
         let mut parts = started();
         parts.counts = Counts { actions, moves };
         parts.refuses_all(Error::LogNotGood);
-        assert_eq!(parts.result(), Err(Error::LogNotGood));
-        assert_eq!(parts.can_declare_draw(), Err(Error::LogNotGood));
+        parts.refuses_queries(Error::LogNotGood);
         assert_eq!(Log::from_parts(&parts.actions, &parts.positions, parts.counts), Err(Error::LogNotGood));
     }
 }
@@ -102,8 +101,7 @@ fn number_9_bytes() {
         assert_ne!(part[place], byte);
         part[place] = byte;
         parts.refuses_all(Error::LogNotGood);
-        assert_eq!(parts.result(), Err(Error::LogNotGood));
-        assert_eq!(parts.can_declare_draw(), Err(Error::LogNotGood));
+        parts.refuses_queries(Error::LogNotGood);
         assert_eq!(Log::from_parts(&parts.actions, &parts.positions, parts.counts), Err(Error::LogNotGood));
     }
 }
@@ -248,8 +246,7 @@ fn number_16_parts() {
         for counts in [Counts::default(), Counts { actions: 70_000, moves: u64::MAX }] {
             parts.counts = counts;
             parts.refuses_all(Error::PartTooShort);
-            assert_eq!(parts.result(), Err(Error::PartTooShort));
-            assert_eq!(parts.can_declare_draw(), Err(Error::PartTooShort));
+            parts.refuses_queries(Error::PartTooShort);
         }
         refuses_start(&mut parts, Error::PartTooShort, Given { record: &[255; 68], in_check: 2, list: &[65_535] });
     }

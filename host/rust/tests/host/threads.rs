@@ -1,7 +1,7 @@
 //! The archive keeps nothing between calls, so what is owned can be sent and what is shared can be asked.
 
 use crate::common::play;
-use menkhodur::{ALL_COLORS, Action, Actions, Board, Error, GameResult, Log, Move, Position, Positions, Roll, Square};
+use menkhodur::{ALL_COLORS, Action, Actions, Board, Error, GameResult, Log, Move, Position, Positions, Reason, Roll, Ruling, Square};
 use std::thread;
 
 #[test]
@@ -14,6 +14,7 @@ fn everything_is_send_and_sync() {
     both::<Action>();
     both::<Roll>();
     both::<GameResult>();
+    both::<Ruling>();
     both::<Error>();
     both::<Position<'static>>();
     both::<Actions<'static>>();
@@ -28,7 +29,8 @@ fn one_log_is_asked_by_many() {
         for _ in 0..4 {
             scope.spawn(|| {
                 for _ in 0..50 {
-                    assert_eq!((log.result(), log.can_declare_draw()), (None, true));
+                    assert_eq!((log.result(), log.can_declare_draw(), log.can_claim_by_laws()), (None, true, true));
+                    assert_eq!(log.ruling().claim, Some(Reason::EqualPositions));
                 }
             });
         }
