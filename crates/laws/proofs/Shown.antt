@@ -1,17 +1,17 @@
--- What the code shows of a log that passed its checks is what the rules say of its history; and the Laws' query by what is shown.
+-- What the code shows of a log that passed its checks is what the rules say of its history; and the Laws' query.
 -- Assumes nothing.
 use mathlib.Core.Path.{_≡_, refl, sym, ap, _∙_}
 use mathlib.Core.Bool.{Bool, true, false, cond, not, true≢false}
 use mathlib.Core.List.{List, _∷_}
-use Prim.Native.Nat.{ℕ, suc, _+_, _*_, _-_, _≤_}
+use Prim.Native.Nat.{ℕ, suc, _+_, _*_, _-_, _≤_, _<_}
 use native.Mathlib.Omega.{arith}
 use lib.Dec.{eqb, leb}
 use lib.ListN.{length}
-use borrow.Author.Tests.{le-leb, eq-eqb, ne-eqb}
-use Rattle.square.specs.declared.Answer.{Answer}
+use borrow.Author.Tests.{le-leb, lt-leb, eq-eqb, ne-eqb}
 use Rattle.square.specs.Answer.{accepted, refused}
 use Rattle.position.specs.declared.Places.{Places}
 use Rattle.position.specs.Layout.{positionSize, positionAt, positionsFrom}
+use Rattle.position.specs.Repeats.{equalsTwoEarlier}
 use Rattle.position.specs.Places.{placesOf, placesTold, equalPlaces}
 use Rattle.ending.specs.Ending.{resultAt}
 use Rattle.claim.specs.declared.Run.{Run}
@@ -25,11 +25,10 @@ use Rattle.game_rules.proofs.Rulings.{run-is}
 use Rattle.game.proofs.Answers.{Ready, log-ready}
 use Rattle.laws.specs.declared.Ruled.{Ruled}
 use Rattle.laws.specs.Since.{lawsSince}
-use Rattle.laws.specs.Laws.{lawsCount}
+use Rattle.laws.specs.Laws.{lawsCount, lawsClaimStands}
 use Rattle.laws.specs.Ruling.{equalsAt, reason, ruledOn, notRuled, rulingAnswer, lawsAnswer}
-use Rattle.laws.specs.Promises.{AsTheQueries}
 use Rattle.laws.proofs.Counted.{laws-counted}
-use Rattle.laws.proofs.Histories.{equals-are-shown, rulings-are-as-the-queries}
+use Rattle.laws.proofs.Histories.{equals-are-shown}
 
 -- the eight numbers
 abbrev shown : ℕ → ℕ → Places → ℕ → ℕ → Ruled
@@ -131,31 +130,40 @@ module _ (acts ps : List ℕ) (n m x : ℕ) (e : x ≡ logCheck limits acts ps n
   unfolding rulingAnswer
   ruling-given r z given = rw (← e, eq-eqb x 0 z) given
 
--- ---- the Laws' query, by what is shown
+-- ---- the Laws' query
 
-module _ (acts ps : List ℕ) (n m : ℕ) (r : Ruled) (e : r ≡ rulingAnswer limits acts ps n m) where
-  queries : AsTheQueries limits acts ps n m
-  queries = rulings-are-as-the-queries limits acts ps n m
+module _ (acts ps : List ℕ) (n m : ℕ) (passed : logCheck limits acts ps n m ≡ 0) (since count : ℕ)
+    (es : since ≡ lawsSince acts ps n) (ec : count ≡ m - since) where
+  counted : count ≡ lawsCount (historyOf acts ps n)
+  counted = ec ∙ ap (λ (k : ℕ). m - k) es ∙ laws-is acts ps n m passed
 
-  number-told : r .number ≡ lawsAnswer limits acts ps n m .number
-  number-told = ap (λ (x : Ruled). x .number) e ∙ queries .laws-numbers
+  pub stands-by-count : claimCount ≤ count → true ≡ lawsClaimStands (historyOf acts ps n)
+  unfolding lawsClaimStands
+  stands-by-count h = rw (← counted, le-leb _ _ h)
 
-  same : (a b : Answer) → a .number ≡ b .number → a .value ≡ b .value → a ≡ b
-  same a b f g = rw (f, g)
+  pub stands-by-run : count < claimCount → (r : Run) → r ≡ runAt acts ps n → equalsTwoEarlier ps (r .first) m ≡ lawsClaimStands (historyOf acts ps n)
+  unfolding lawsClaimStands equalsTwoEarlier
+  stands-by-run h r e =
+      let ready = log-ready acts ps n m passed in
+      let inside : positionSize * m + positionSize ≤ length ps = omega (arith, ready .some, ready .place) in
+      rw (← counted, lt-leb _ _ h, le-leb _ _ inside, run-here acts ps n m passed, e)
 
-  value-refused : (lawsAnswer limits acts ps n m .number ≡ 0 → ⊥) → lawsAnswer limits acts ps n m .value ≡ 0
+-- x is the log's check, v the game's result
+module _ (acts ps : List ℕ) (n m x : ℕ) (e : x ≡ logCheck limits acts ps n m) where
+  pub laws-refused : (x ≡ 0 → ⊥) → refused x ≡ lawsAnswer limits acts ps n m
   unfolding lawsAnswer
-  value-refused some = go (eqb (logCheck limits acts ps n m) 0) refl
-    where
-      go : (t : Bool) → eqb (logCheck limits acts ps n m) 0 ≡ t → lawsAnswer limits acts ps n m .value ≡ 0
-      go true f = absurd (some (simp f))
-      go false f = simp f
+  laws-refused some = rw (← e, ne-eqb x 0 some)
 
-  pub laws-refused : (r .number ≡ 0 → ⊥) → refused (r .number) ≡ lawsAnswer limits acts ps n m
-  laws-refused some = same _ _ number-told (sym (value-refused (λ z. some (number-told ∙ z))))
+  module _ (z : x ≡ 0) (v : ℕ) (f : v ≡ resultAt acts ps n m) where
+    result-here : v ≡ result (historyOf acts ps n)
+    result-here =
+        let r = log-ready acts ps n m (sym e ∙ z) in
+        f ∙ result-is limits acts ps n m (r .counted) (r .ok)
 
-  pub laws-none : r .number ≡ 0 → r .«laws_claim» ≡ 0 → accepted 0 ≡ lawsAnswer limits acts ps n m
-  laws-none z c = same _ _ (sym z ∙ number-told) (sym (queries .no-laws-claim (sym (ap (λ (x : Ruled). x .«laws_claim») e) ∙ c)))
+    pub laws-over : (v ≡ 0 → ⊥) → accepted 0 ≡ lawsAnswer limits acts ps n m
+    unfolding lawsAnswer
+    laws-over some = rw (← e, eq-eqb x 0 z, ← result-here, ne-eqb v 0 some)
 
-  pub laws-stands : r .number ≡ 0 → (r .«laws_claim» ≡ 0 → ⊥) → accepted 1 ≡ lawsAnswer limits acts ps n m
-  laws-stands z c = same _ _ (sym z ∙ number-told) (sym (queries .laws-claim (λ k. c (ap (λ (x : Ruled). x .«laws_claim») e ∙ k))))
+    pub laws-told : v ≡ 0 → (t : Bool) → t ≡ lawsClaimStands (historyOf acts ps n) → accepted (cond t 1 0) ≡ lawsAnswer limits acts ps n m
+    unfolding lawsAnswer
+    laws-told y t g = rw (← e, eq-eqb x 0 z, ← result-here, eq-eqb v 0 y, ← g)

@@ -1,8 +1,8 @@
 -- Both counts and the run at their smallest: a king's move that loses a right, and one after it; then a pawn's move, and a capture.
 -- Assumes nothing.
 use mathlib.Core.Path.{_≡_}
-use mathlib.Core.List.{List, [], _∷_, _++_}
-use Prim.Native.Nat.{ℕ, _+_, _*_}
+use mathlib.Core.List.{[], _∷_, _++_}
+use Prim.Native.Nat.{ℕ}
 use lib.ListN.{length, replicate}
 use Rattle.position.specs.Layout.{Position}
 use Rattle.game_rules.specs.Rules.{makeMove, offerDraw, History, begun, after, ruling}

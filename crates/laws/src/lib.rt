@@ -12,6 +12,7 @@ ghost use Rattle.claim.specs.Claim.{claimCount};
 ghost use Rattle.game_rules.specs.Limits.{limits};
 ghost use Rattle.game_rules.specs.Good.{historyOf};
 ghost use Rattle.game_rules.specs.Calls.{logCheck};
+ghost use Rattle.laws.specs.Laws.{lawsClaimStands};
 ghost use Rattle.laws.specs.Since.{lawsSince};
 ghost use Rattle.laws.specs.Ruling.{notRuled, ruledOn, rulingAnswer, lawsAnswer};
 
@@ -115,16 +116,31 @@ pub fn ruling(acts: &[u8], ps: &[u8], n: u64, m: u64) -> Ruled
     rule(acts, ps, n as usize, m as usize)
 }
 
-// Whether a draw may be claimed by the Laws' count, 1 or 0.
+// A claim by the Laws' count, which is looked at first, or by two earlier positions of the run. Of a log that passed its checks.
+fn stands(acts: &[u8], ps: &[u8], n: usize, m: usize) -> bool
+    requires { ⌜ logCheck limits (now acts) (now ps) n m ≡ 0 ⌝ }
+    ensures { λ r. ⌜ r ≡ lawsClaimStands (historyOf (now (acts .entry)) (now (ps .entry)) n) ⌝ }
+{
+    if CLAIM_COUNT <= claim::moves_since(since(acts, ps, n), m) {
+        return true;
+    }
+    let run = claim::run_at(acts, ps, n);
+    position::equals_two_earlier(ps, run.first, m)
+}
+
+// Whether a draw may be claimed by the Laws' count, 1 or 0. Refused: 16, 9.
 pub fn can_claim(acts: &[u8], ps: &[u8], n: u64, m: u64) -> Answer
     ensures { λ r. ⌜ r ≡ lawsAnswer limits (now (acts .entry)) (now (ps .entry)) n m ⌝ }
 {
-    let ruled = ruling(acts, ps, n, m);
-    if ruled.number != ACCEPTED {
-        return square::refused(ruled.number);
+    let number = good_log::check(acts, ps, n as usize, m as usize);
+    if number != ACCEPTED {
+        return square::refused(number);
     }
-    if ruled.laws_claim == 0 {
+    if ending::result(acts, ps, n as usize, m as usize) != GOES_ON {
         return square::accepted(0);
     }
-    square::accepted(1)
+    if stands(acts, ps, n as usize, m as usize) {
+        return square::accepted(1);
+    }
+    square::accepted(0)
 }

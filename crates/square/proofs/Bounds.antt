@@ -15,7 +15,7 @@ use borrow.Author.Tests.{eq-eqb, ne-eqb, eqb-true, eqb-false, leb-true, leb-fals
 use Rattle.square.specs.Numbers.{allAtMost}
 use Rattle.square.proofs.Numbers.{most-head, most-tail, most-drop}
 
-or-none : (a b : ℕ) → eqb (bitOr a b) 0 ≡ eqb a 0 && eqb b 0
+pub or-none : (a b : ℕ) → eqb (bitOr a b) 0 ≡ eqb a 0 && eqb b 0
 or-none a b = go (eqb a 0) (eqb b 0) refl refl
   where
     go : (p q : Bool) → eqb a 0 ≡ p → eqb b 0 ≡ q → eqb (bitOr a b) 0 ≡ eqb a 0 && eqb b 0

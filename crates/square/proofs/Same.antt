@@ -1,15 +1,18 @@
 -- Laws of `same`: what it tells of two lists, and a loop that goes up both.
 -- Assumes nothing.
-use mathlib.Core.Path.{_≡_, refl, ap, ap₂}
-use mathlib.Core.Bool.{Bool, true, false, false≢true}
+use mathlib.Core.Path.{_≡_, refl, ap, ap₂, _∙_}
+use mathlib.Core.Bool.{Bool, true, false, false≢true, _&&_, and-true, and-assoc}
 use mathlib.Core.List.{List, [], _∷_}
-use Prim.Native.Nat.{ℕ, _+_, _≤_, _<_}
+use Prim.Native.Nat.{ℕ, suc, _+_, _≤_, _<_}
 use native.Mathlib.Numerals.{add-one}
+use native.Mathlib.Omega.{arith}
+use lib.Bits.{bitOr, bitXor, xor-self, xor-add-and, and-le-l, and-le-r}
 use lib.Dec.{eqb}
 use lib.ListN.{length, getD, drop, drop-of-length-le}
 use lib.Seq.{drop-cons}
-use borrow.Author.Tests.{eq-eqb, ne-eqb, eqb-true}
+use borrow.Author.Tests.{eq-eqb, ne-eqb, eqb-true, eqb-false}
 use Rattle.square.specs.Numbers.{same}
+use Rattle.square.proofs.Bounds.{or-none}
 use Rattle.square.proofs.Numbers.{both-left, both-right}
 
 -- it holds of equal lists, and of no others
@@ -33,16 +36,27 @@ same-lengths l m n = go (same l m) refl
     go true e = absurd (n (ap length (same-eq l m e)))
     go false e = refl
 
--- a turn of a loop over both lists, its early end, and its end
-module _ (l m : List ℕ) (i : ℕ) where
-  pub same-turn : i < length l → i < length m → getD l i 0 ≡ getD m i 0 → same (drop i l) (drop i m) ≡ same (drop (i + 1) l) (drop (i + 1) m)
-  unfolding same
-  same-turn h k e = rw (add-one i, drop-cons l i 0 h, drop-cons m i 0 k) (simp (eq-eqb _ _ e))
+-- two numbers differ in no bit exactly if they are equal
+xor-none : (x y : ℕ) → eqb (bitXor x y) 0 ≡ eqb x y
+xor-none x y = go (eqb x y) refl
+  where
+    go : (t : Bool) → eqb x y ≡ t → eqb (bitXor x y) 0 ≡ eqb x y
+    go true e =
+        let same : bitXor x y ≡ 0 = ap (λ (z : ℕ). bitXor z y) (eqb-true x y e) ∙ xor-self y in
+        rw e (eq-eqb _ _ same)
+    go false e =
+        let other : bitXor x y ≡ 0 → ⊥ = λ z. eqb-false x y e (omega (arith, xor-add-and x y, and-le-l x y, and-le-r x y)) in
+        rw e (ne-eqb _ _ other)
 
-  pub same-stop : i < length l → i < length m → (getD l i 0 ≡ getD m i 0 → ⊥) → same (drop i l) (drop i m) ≡ false
+-- a turn of a loop over both lists that gathers where they differ, and its end
+module _ (l m : List ℕ) (d i : ℕ) where
+  pub same-turn : i < length l → i < length m
+      → eqb (bitOr d (bitXor (getD l i 0) (getD m i 0))) 0 && same (drop (i + 1) l) (drop (i + 1) m) ≡ eqb d 0 && same (drop i l) (drop i m)
   unfolding same
-  same-stop h k n = rw (drop-cons l i 0 h, drop-cons m i 0 k) (simp (ne-eqb _ _ n))
+  same-turn h k =
+      rw (add-one i, drop-cons l i 0 h, drop-cons m i 0 k, or-none d (bitXor (getD l i 0) (getD m i 0)), xor-none (getD l i 0) (getD m i 0))
+      (and-assoc (eqb d 0) (eqb (getD l i 0) (getD m i 0)) (same (drop (suc i) l) (drop (suc i) m)))
 
-  pub same-end : length l ≤ i → length m ≤ i → same (drop i l) (drop i m) ≡ true
+  pub same-end : length l ≤ i → length m ≤ i → eqb d 0 && same (drop i l) (drop i m) ≡ eqb d 0
   unfolding same
-  same-end h k = rw (drop-of-length-le l h, drop-of-length-le m k)
+  same-end h k = rw (drop-of-length-le l h, drop-of-length-le m k) (and-true (eqb d 0))

@@ -5,7 +5,7 @@ use mathlib.Core.Path.{_≡_}
 use mathlib.Core.List.{List}
 use lib.ListN.{length, take, drop}
 use Rattle.square.specs.declared.Answer.{Answer}
-use Rattle.square.specs.Answer.{outputTooShort, accepted, overwrite, writeAnswer, writeBytes}
+use Rattle.square.specs.Answer.{outputTooShort, overwrite, writeAnswer, writeBytes}
 use Rattle.square.specs.declared.Pair.{Pair}
 use Rattle.square.specs.declared.Pair.the-variants.{Square}
 use Rattle.square.specs.Square.{readSquare, squareText, told}

@@ -3,34 +3,25 @@ use borrow.Author.Tests.{le-leb, lt-leb}
 use native.Mathlib.Nat.{le-of-suc-le-suc}
 use Rattle.square.proofs.from_bytes.Statement.{statement}
 use Rattle.square.proofs.from_bytes.Tie as tie
-use Rattle.square.proofs.from_bytes.Reads as reads
-use Rattle.square.proofs.from_bytes.Lts as lts
 
--- src/lib.rt:211:41
 mul-t8 : tie.Need-mul-t8
 mul-t8 c = search needs
 
--- src/lib.rt:211:41
 add-t10 : tie.Need-add-t10
 add-t10 c = search needs
 
--- src/lib.rt:206:1
 returns : tie.Need-returns
 returns c = simp (le-leb _ _ (c .before .before .before .if1 .left), le-leb _ 104 (le-of-suc-le-suc (c .before .before .if2 .taken)), le-leb _ _ (c .before .if3 .left), le-leb _ 56 (le-of-suc-le-suc (c .if4 .taken)))
 
--- src/lib.rt:206:1
 returns-2 : tie.Need-returns-2
 returns-2 c = simp (le-leb _ _ (c .before .before .if1 .left), le-leb _ 104 (le-of-suc-le-suc (c .before .if2 .taken)), lt-leb 49 _ (c .if3 .taken))
 
--- src/lib.rt:206:1
 returns-3 : tie.Need-returns-3
 returns-3 c = simp (le-leb _ _ (c .before .before .before .if1 .left), le-leb _ 104 (le-of-suc-le-suc (c .before .before .if2 .taken)), le-leb _ _ (c .before .if3 .left), lt-leb _ 56 (c .if4 .left))
 
--- src/lib.rt:206:1
 returns-4 : tie.Need-returns-4
 returns-4 c = simp (lt-leb 97 _ (c .if1 .taken))
 
--- src/lib.rt:206:1
 returns-5 : tie.Need-returns-5
 returns-5 c = simp (le-leb _ _ (c .before .if1 .left), lt-leb _ 104 (c .if2 .left))
 
