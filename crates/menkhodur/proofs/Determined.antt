@@ -35,6 +35,10 @@ use Rattle.menkhodur.proofs.menkhodur_san_read.Reads as menkhodur-san-r
 use Rattle.menkhodur.proofs.menkhodur_san_read.Kinds as menkhodur-san-read·k
 use Rattle.menkhodur.proofs.menkhodur_san_name.Reads as menkhodur-san-name
 use Rattle.menkhodur.proofs.menkhodur_san_name.Kinds as menkhodur-san-name·k
+use Rattle.menkhodur.proofs.menkhodur_san_read_standard.Reads as menkhodur-san-read-standard
+use Rattle.menkhodur.proofs.menkhodur_san_read_standard.Kinds as menkhodur-san-read-standard·k
+use Rattle.menkhodur.proofs.menkhodur_san_name_standard.Reads as menkhodur-san-name-standard
+use Rattle.menkhodur.proofs.menkhodur_san_name_standard.Kinds as menkhodur-san-name-standard·k
 use Rattle.menkhodur.proofs.menkhodur_game_start.Reads as menkhodur-game-start
 use Rattle.menkhodur.proofs.menkhodur_game_start.Kinds as menkhodur-game-start·k
 use Rattle.menkhodur.proofs.menkhodur_game_make_move.Reads as menkhodur-game-make-move
@@ -116,6 +120,16 @@ menkhodur-san-name-answer κs a x y e f p q = p .0 ∙ sym (q .0)
 
 pub menkhodur-san-name-out : OnePart menkhodur-san-name·k.ps menkhodur-san-name·k.r (λ κs x e. now (e .1 .1 .1 .0)) menkhodur-san-name.Learnt
 menkhodur-san-name-out κs a x y e f p q = p .1 ∙ sym (q .1)
+
+pub menkhodur-san-read-standard-answer : OneAnswer menkhodur-san-read-standard·k.ps menkhodur-san-read-standard·k.r menkhodur-san-read-standard.Learnt
+menkhodur-san-read-standard-answer κs a x y e f p q = p ∙ sym q
+
+pub menkhodur-san-name-standard-answer : OneAnswer menkhodur-san-name-standard·k.ps menkhodur-san-name-standard·k.r menkhodur-san-name-standard.Learnt
+menkhodur-san-name-standard-answer κs a x y e f p q = p .0 ∙ sym (q .0)
+
+pub menkhodur-san-name-standard-out : OnePart menkhodur-san-name-standard·k.ps menkhodur-san-name-standard·k.r
+    (λ κs x e. now (e .1 .1 .1 .0)) menkhodur-san-name-standard.Learnt
+menkhodur-san-name-standard-out κs a x y e f p q = p .1 ∙ sym (q .1)
 
 pub menkhodur-game-start-answer : OneAnswer menkhodur-game-start·k.ps menkhodur-game-start·k.r menkhodur-game-start.Learnt
 menkhodur-game-start-answer κs a x y e f p q = p .0 ∙ sym (q .0)

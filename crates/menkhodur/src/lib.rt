@@ -17,6 +17,7 @@ ghost use Rattle.board_builder.specs.Steps.{setPiece, clearSquare, setSide, set
 ghost use Rattle.fen_text.specs.Read.{readFen};
 ghost use Rattle.chess_move.specs.Coordinate.{readMove, moveText, moveCheck};
 ghost use Rattle.san_text.specs.Paper.{fromSan, nameAnswer, nameBytes};
+ghost use Rattle.san_text.specs.Standard.{fromSanStandard, standardNameAnswer, standardNameBytes};
 ghost use Rattle.fen_text.specs.Write.{fenText, fenCheck};
 ghost use Rattle.stored_position.specs.Bytes.{positionGiven};
 ghost use Rattle.game_rules.specs.Limits.{limits};
@@ -143,6 +144,26 @@ pub extern "C" fn menkhodur_san_name(
     ensures bytes { λ r. ⌜ now (out .exit) ≡ nameBytes b (now (list .entry)) n (now (out .entry)) ⌝ }
 {
     namer::to_san(b, list, n, out)
+}
+
+#[no_mangle]
+pub extern "C" fn menkhodur_san_read_standard(b: BoardBuilder, list: &[u16], text: &[u8]) -> Answer
+    ensures { λ r. ⌜ r ≡ fromSanStandard b (now (list .entry)) (now (text .entry)) ⌝ }
+{
+    san::from_san_standard(b, list, text)
+}
+
+#[no_mangle]
+pub extern "C" fn menkhodur_san_name_standard(
+    b: BoardBuilder,
+    list: &[u16],
+    n: u64,
+    out: &mut [u8],
+) -> Answer
+    ensures answer { λ r. ⌜ r ≡ standardNameAnswer b (now (list .entry)) n (length (now (out .entry))) ⌝ }
+    ensures bytes { λ r. ⌜ now (out .exit) ≡ standardNameBytes b (now (list .entry)) n (now (out .entry)) ⌝ }
+{
+    namer::to_san_standard(b, list, n, out)
 }
 
 #[no_mangle]

@@ -6,9 +6,13 @@ pub mod Lawful
 pub mod Named
 pub mod Tried
 pub mod PaperLawful
+pub mod StandardLawful
 pub mod Lengths
 pub mod ReadBack
 pub mod Seven
 pub mod Hollow
 pub mod Blind
 pub mod AtSmallest
+pub mod Standards
+pub mod ReadIn
+pub mod Between

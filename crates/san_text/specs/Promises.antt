@@ -17,6 +17,7 @@ use Rattle.move_list.specs.MoveList.{listInRange}
 use Rattle.san_text.specs.Resolve.{kindAt, emptyAt}
 use Rattle.san_text.specs.Name.{nameText}
 use Rattle.san_text.specs.Paper.{paper, fromSan, nameAnswer, nameBytes}
+use Rattle.san_text.specs.Standard.{fromSanStandard, standardNameAnswer, standardNameBytes}
 
 -- any reader: a record, a list, a text
 abbrev pub Reader : Type 0
@@ -41,29 +42,50 @@ pub record Ready (b : BoardBuilder) (moves : List ℕ) (m : ℕ) : Type 0 where
   pub list-in-range : listInRange moves ≡ true
   pub move-listed : among m moves ≡ true
 
--- a name: its length is the answer's value, 2 to 11, and that many bytes at the front of the room are a text that the reader answers with 0 and
+-- a name: its length is the answer's value, 2 to N, and that many bytes at the front of the room are a text that the reader answers with 0 and
 -- exactly that move
-pub record NamedSo (w : Namer) (read : Reader) (b : BoardBuilder) (moves : List ℕ) (m : ℕ) (out : List ℕ) : Type 0 where
+pub record NamedWithin (longest : ℕ) (w : Namer) (read : Reader) (b : BoardBuilder) (moves : List ℕ) (m : ℕ) (out : List ℕ) : Type 0 where
   pub number : w .answer b moves m (length out) .number ≡ 0
   pub least : 2 ≤ w .answer b moves m (length out) .value
-  pub most : w .answer b moves m (length out) .value ≤ 11
+  pub most : w .answer b moves m (length out) .value ≤ longest
   pub back : read b moves (take (w .answer b moves m (length out) .value) (w .room b moves m out)) ≡ accepted m
+
+-- of document 01's form: 2 to 11
+abbrev pub NamedSo : Namer → Reader → BoardBuilder → List ℕ → ℕ → List ℕ → Type 0
+NamedSo = NamedWithin 11
 
 -- no name: 8, and no text of any length is read as the move
 pub record Unnamed (w : Namer) (read : Reader) (b : BoardBuilder) (moves : List ℕ) (m : ℕ) (out : List ℕ) : Type 0 where
   pub number : w .answer b moves m (length out) .number ≡ noName
   pub none-reads : (t : List ℕ) → read b moves t ≡ accepted m → ⊥
 
--- demand 3, of any namer and reader: with the checks passed, the move listed and eleven bytes of room or more, a listed move is named so, or it is
--- unnamed and no text of any length is read as it
+-- demand 3, of any namer and reader: with the checks passed, the move listed and room for the longest name or more, a listed move is named so, or it
+-- is unnamed and no text of any length is read as it
+abbrev pub Demand3Within : ℕ → Namer → Reader → Type 0
+Demand3Within longest w read =
+    (b : BoardBuilder) (moves : List ℕ) (m : ℕ) (out : List ℕ) → Ready b moves m → longest ≤ length out
+    → NamedWithin longest w read b moves m out ⊎ Unnamed w read b moves m out
+
+-- with document 01's eleven bytes
 abbrev pub Demand3 : Namer → Reader → Type 0
-Demand3 w read =
-    (b : BoardBuilder) (moves : List ℕ) (m : ℕ) (out : List ℕ) → Ready b moves m → 11 ≤ length out
-    → NamedSo w read b moves m out ⊎ Unnamed w read b moves m out
+Demand3 = Demand3Within 11
 
 -- kept by ours
 abbrev pub NamesReadBack : Type 0
 NamesReadBack = Demand3 namer fromSan
+
+-- and by the standard's namer and reader, with names of 2 to 8 bytes; no fewer will do
+abbrev pub standardNamer : Namer
+standardNamer = record { answer = standardNameAnswer; room = standardNameBytes }
+
+abbrev pub StandardNamesReadBack : Type 0
+StandardNamesReadBack = Demand3Within 8 standardNamer fromSanStandard
+
+pub record StandardNameOfEight : Type 0 where
+  pub board : BoardBuilder
+  pub moves : List ℕ
+  pub move : ℕ
+  pub answer : standardNameAnswer board moves move 8 ≡ accepted 8
 
 -- and not by a namer that always refuses, nor by one that writes nothing, with our reader ..
 abbrev pub RefusingNamerFails : Type 0
@@ -112,6 +134,12 @@ pub record SevenTellsTheLength (b : BoardBuilder) (moves : List ℕ) (m room : �
 
 abbrev pub SevenIsTrue : Type 0
 SevenIsTrue = (b : BoardBuilder) (moves : List ℕ) (m room : ℕ) → nameAnswer b moves m room .number ≡ outputTooShort → SevenTellsTheLength b moves m room
+
+abbrev pub StandardSevenIsTrue : Type 0
+StandardSevenIsTrue =
+    (b : BoardBuilder) (moves : List ℕ) (m room : ℕ) → standardNameAnswer b moves m room .number ≡ outputTooShort
+    → (standardNameAnswer b moves m (standardNameAnswer b moves m room .value) ≡ accepted (standardNameAnswer b moves m room .value))
+    × (room < standardNameAnswer b moves m room .value)
 
 -- two records that agree on the side, on piece kinds at listed sources and on emptiness of listed destinations
 pub record Alike (b c : BoardBuilder) (moves : List ℕ) : Type 0 where
