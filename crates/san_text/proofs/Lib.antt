@@ -16,3 +16,4 @@ pub mod AtSmallest
 pub mod Standards
 pub mod ReadIn
 pub mod Between
+pub mod Unnamed

@@ -55,7 +55,8 @@ named-first (some t) o h = tt
 -- both source parts are the last text to try
 named-both : (f : List ℕ → Bool) (text : Bool → Bool → List ℕ) (changes : Bool) (o : Option (List ℕ)) → f (text true true) ≡ true → Named (firstName f (candidates text changes) o)
 unfolding candidates firstName
-named-both f text true o e = named-step (f (text true false)) (text true false) _ (rw e tt)
+named-both f text true o e =
+    named-step (f (text true false)) (text true false) _ (rw e tt)
 named-both f text false o e =
     named-step (f (text false false)) (text false false) _
     (named-step (f (text true false)) (text true false) _
@@ -88,7 +89,7 @@ module _ (F : Form) (law : Lawful F) (b : BoardBuilder) (l : List ℕ) (m : ℕ)
   Resolves t = resolved F b l (F .read t) ≡ accepted m
 
   -- castling answered with the move: the form takes castling here, and the move is that pair
-  castled-is : (file : ℕ) → castled F b l file ≡ accepted m → (F .castles b ≡ true) × (castlingMove (b .«side_to_move») file ≡ m)
+  pub castled-is : (file : ℕ) → castled F b l file ≡ accepted m → (F .castles b ≡ true) × (castlingMove (b .«side_to_move») file ≡ m)
   unfolding castled
   castled-is file e = go (F .castles b) refl e
     where
@@ -109,7 +110,7 @@ module _ (F : Form) (law : Lawful F) (b : BoardBuilder) (l : List ℕ) (m : ℕ)
 
   -- ---- if any text resolves to the move, it has a name
 
-  named-castling : F .castles b ≡ true → Pair (b .«side_to_move») m → Named (nameOf F b l m)
+  pub named-castling : F .castles b ≡ true → Pair (b .«side_to_move») m → Named (nameOf F b l m)
   unfolding nameOf
   named-castling c p = go (law .castling b)
     where
@@ -128,16 +129,21 @@ module _ (F : Form) (law : Lawful F) (b : BoardBuilder) (l : List ℕ) (m : ℕ)
           let king : kindAt (b .pieces) (sourceOf m) ≡ 6 = ap (kindAt (b .pieces)) (pair-source (b .«side_to_move») m low p) ∙ d c in
           rw (eq-eqb (kindAt (b .pieces) (sourceOf m)) 6 king) (named-first castling (tried (F .resort castling)) (pair-named (b .«side_to_move») m p))
 
-  both-named : (u : San) → Moves (u .piece) → Promotes (u .promotion) → soleThat (fits (b .pieces) u) (F .captures (b .pieces) u) l ≡ accepted m → names F b l m (F .text (b .pieces) m true true) ≡ true
+  -- one entry alone fits what some text says, whatever that text's own test
+  both-named : (test : ℕ → Bool) (u : San) → Moves (u .piece) → Promotes (u .promotion) → soleThat (fits (b .pieces) u) test l ≡ accepted m
+      → names F b l m (F .text (b .pieces) m true true) ≡ true
   unfolding names resolved
-  both-named u k p e =
-      let s = sayable (b .pieces) u (F .captures (b .pieces) u) l m e k p in
+  both-named test u k p e =
+      let s = sayable (b .pieces) u test l m e k p in
       let t = law .both (b .pieces) m (s .0) (s .1) in
-      rw (t .reads, both-sole (b .pieces) m (t .takes) (t .mark) l u (F .captures (b .pieces) u) (F .captures (b .pieces) (bothWith (b .pieces) m (t .takes) (t .mark))) h (t .passes) e) (is-move m)
+      let passed = F .captures (b .pieces) (bothWith (b .pieces) m (t .takes) (t .mark)) in
+      rw (t .reads, both-sole (b .pieces) m (t .takes) (t .mark) l u test passed h (t .passes) e) (is-move m)
 
-  named-move : (u : San) → Moves (u .piece) → Promotes (u .promotion) → soleThat (fits (b .pieces) u) (F .captures (b .pieces) u) l ≡ accepted m → Named (nameOf F b l m)
+  pub named-move : (test : ℕ → Bool) (u : San) → Moves (u .piece) → Promotes (u .promotion) → soleThat (fits (b .pieces) u) test l ≡ accepted m
+      → Named (nameOf F b l m)
   unfolding nameOf
-  named-move u k p e = named-king _ _ _ (named-both (names F b l m) (F .text (b .pieces) m) (changesFiles (b .pieces) m) _ (both-named u k p e))
+  named-move test u k p e =
+      named-king _ _ _ (named-both (names F b l m) (F .text (b .pieces) m) (changesFiles (b .pieces) m) _ (both-named test u k p e))
 
   pub named : (t : List ℕ) → Resolves t → Named (nameOf F b l m)
   unfolding resolved
@@ -146,7 +152,7 @@ module _ (F : Form) (law : Lawful F) (b : BoardBuilder) (l : List ℕ) (m : ℕ)
       go : (T : SanText) → Says T → resolved F b l T ≡ accepted m → Named (nameOf F b l m)
       go KingSide Says.king-side q = let c = castled-is 6 q in named-castling (c .0) (inl (c .1))
       go QueenSide Says.queen-side q = let c = castled-is 2 q in named-castling (c .0) (inr (c .1))
-      go (Move u) (Says.move k p) q = named-move u k p q
+      go (Move u) (Says.move k p) q = named-move (F .captures (b .pieces) u) u k p q
       go Refused Says.nothing-said q = absurd (refused-not q)
 
   -- ---- a name resolves to its move

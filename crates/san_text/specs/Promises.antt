@@ -7,7 +7,7 @@ use mathlib.Core.List.{List}
 use mathlib.Core.Logic.{_⊎_}
 use lib.ListN.{length, take}
 use Rattle.square.specs.declared.Answer.{Answer}
-use Rattle.square.specs.Answer.{accepted, noName, outputTooShort}
+use Rattle.square.specs.Answer.{accepted, noName, outputTooShort, refused}
 use Rattle.square.specs.Promises.{ItsText, Invented}
 use Rattle.square.specs.Numbers.{among}
 use Rattle.board_builder.specs.declared.BoardBuilder.{BoardBuilder}
@@ -151,3 +151,14 @@ pub record Alike (b c : BoardBuilder) (moves : List ℕ) : Type 0 where
 abbrev pub SameSanAnswer : Type 0
 SameSanAnswer =
     (b c : BoardBuilder) (moves text : List ℕ) → inRange b ≡ true → inRange c ≡ true → Alike b c moves → fromSan b moves text ≡ fromSan c moves text
+
+-- between the forms: a move that document 01's namer leaves unnamed, the standard's does too; the other way round does not hold
+abbrev pub UnnamedInBoth : Type 0
+UnnamedInBoth = (b : BoardBuilder) (moves : List ℕ) (m room : ℕ) → nameAnswer b moves m room .number ≡ noName → standardNameAnswer b moves m room .number ≡ noName
+
+pub record NamedInOne : Type 0 where
+  pub board : BoardBuilder
+  pub moves : List ℕ
+  pub move : ℕ
+  pub named : nameAnswer board moves move 3 ≡ accepted 3
+  pub unnamed : standardNameAnswer board moves move 3 ≡ refused noName
