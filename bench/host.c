@@ -23,8 +23,8 @@ struct scene {
     uint16_t list[256];
     size_t entries;
     uint64_t move;
-    uint8_t name[MENKHODUR_LONGEST_NAME];
-    size_t name_length;
+    uint8_t name[MENKHODUR_LONGEST_NAME], standard_name[MENKHODUR_LONGEST_STANDARD_NAME];
+    size_t name_length, standard_length;
 };
 
 struct log {
@@ -139,6 +139,9 @@ static void make_scenes(void)
         named = menkhodur_san_name(s->board, s->list, s->entries, s->move, s->name, sizeof s->name);
         if (named.number) continue;
         s->name_length = (size_t)named.value;
+        named = menkhodur_san_name_standard(s->board, s->list, s->entries, s->move, s->standard_name, sizeof s->standard_name);
+        if (named.number) continue;
+        s->standard_length = (size_t)named.value;
         menkhodur_move_write(s->move, coordinates[scene_count], sizeof coordinates[0]);
         scene_count++;
     }
@@ -241,6 +244,19 @@ static uint64_t san_name(size_t i)
     return menkhodur_san_name(s->board, s->list, s->entries, s->move, out, sizeof out).value;
 }
 
+static uint64_t san_read_standard(size_t i)
+{
+    const struct scene *s = &scenes[i % scene_count];
+    return menkhodur_san_read_standard(s->board, s->list, s->entries, s->standard_name, s->standard_length).value;
+}
+
+static uint64_t san_name_standard(size_t i)
+{
+    const struct scene *s = &scenes[i % scene_count];
+    uint8_t out[MENKHODUR_LONGEST_STANDARD_NAME];
+    return menkhodur_san_name_standard(s->board, s->list, s->entries, s->move, out, sizeof out).value;
+}
+
 /* Into a log of its own, so that the others stay good. */
 static uint64_t game_start(size_t i)
 {
@@ -296,7 +312,8 @@ static void print_base(void)
         { "make_square", make_square }, { "rights_add", rights_add }, { "rights_remove", rights_remove }, { "square_rights", square_rights },
         { "piece", piece }, { "clear_square", clear_square }, { "side_to_move", side_to_move }, { "castle_rights", castle_rights },
         { "en_passant", en_passant }, { "fen_read", fen_read }, { "fen_write", fen_write }, { "move_read", move_read },
-        { "move_write", move_write }, { "san_read", san_read }, { "san_name", san_name }, { "game_start", game_start },
+        { "move_write", move_write }, { "san_read", san_read }, { "san_name", san_name }, { "san_read_standard", san_read_standard },
+        { "san_name_standard", san_name_standard }, { "game_start", game_start },
     };
     printf("%-24s %12s\n", "function", "ns a call");
     for (size_t i = 0; i < sizeof rows / sizeof *rows; i++) printf("%-24s %12.1f\n", rows[i].name, best(rows[i].call, 16 * MOST));

@@ -1,8 +1,9 @@
 /* The host's side of target/staticlib/libmenkhodur.a, for C (from C99) and C++ (from C++11).
  *
  * Numbers, records, moves, logs and texts are those of docs/papers/01-scope.md ("document 01"), rolls, the refusals of FEN texts, the
- * offsets in texts and the ruling of the Laws those of docs/papers/02-change-requests.md ("document 02"); the names and the order of the
- * parameters are those of docs/papers/HOST-ABI.md. tools/abi compares them, and the constants below, with the crates.
+ * offsets in texts, the ruling of the Laws and the standard's form of SAN those of docs/papers/02-change-requests.md ("document 02"); the
+ * names and the order of the parameters are those of docs/papers/HOST-ABI.md. tools/abi compares them, and the constants below, with the
+ * crates.
  *
  * What every function does: it answers for every value of its numbers, it ends, it keeps nothing between calls and allocates
  * nothing, and it reads and writes only what it was lent. A refused call (a number other than 0) changes no lent byte.
@@ -30,7 +31,7 @@
 
 /* Rises by one with each landing that adds or changes a function. CHANGELOG.md tells what a host must change, and a struct that has
  * changed says beside it since which version it is so. */
-#define MENKHODUR_VERSION 5
+#define MENKHODUR_VERSION 6
 
 #ifdef __cplusplus
 extern "C" {
@@ -179,6 +180,7 @@ enum {
     MENKHODUR_LONGEST_FEN = 85,
     MENKHODUR_SHORTEST_NAME = 2,
     MENKHODUR_LONGEST_NAME = 11,
+    MENKHODUR_LONGEST_STANDARD_NAME = 8, /* of menkhodur_san_name_standard; its shortest has MENKHODUR_SHORTEST_NAME bytes too */
     MENKHODUR_SHORTEST_COORDINATE = 4,
     MENKHODUR_LONGEST_COORDINATE = 5
 };
@@ -320,6 +322,24 @@ menkhodur_answer menkhodur_san_read(menkhodur_board b, const uint16_t *list, siz
  * `out` left alone: 5: a record number out of range; 6: more than 255 entries, or an entry over 28,671; 11: the move is not in the
  * list, at any size; 8: no text names it; 7: `room` is shorter than the text, whose length is the value. The list is left alone. */
 menkhodur_answer menkhodur_san_name(menkhodur_board b, const uint16_t *list, size_t entries, uint64_t move, uint8_t *out, size_t room);
+
+/* The same two for SAN as the PGN standard writes it, as in files of other programs. A text is a castling text, `O-O` or `O-O-O`, or an
+ * optional N B R Q K, an optional file, an optional rank, an optional `x`, the square of the destination and, for a promotion, `=` with
+ * one of N B R Q; one `+` or `#` may follow either, and then the text ends: a longer one is refused, also one that ends in ` e.p.`. */
+
+/* Reads such a text. 0: the value is the move that it names in the list. Refused, in this order: 5: a record number out of range;
+ * 6: more than 255 entries, or an entry over 28,671; 4: the text is no such text, or it is a castling text and its move is not listed or no
+ * king, of either colour, stands on file e of the back rank of the side to move, or it is another text and not exactly one entry fits it,
+ * or the one that fits fails the capture test: `x` stands exactly when the destination is occupied or a pawn changes files, and a pawn's
+ * `x` comes with the file that it leaves (`exd6`, en passant too). List and text are left alone. */
+menkhodur_answer menkhodur_san_read_standard(menkhodur_board b, const uint16_t *list, size_t entries, const uint8_t *text, size_t length);
+
+/* Writes such a text, 2 to 8 bytes and without `+` or `#`, that menkhodur_san_read_standard with the same record and list reads as exactly
+ * this move. 0: it is at the front of `out`, and the value is its length; the bytes of `out` behind it are left alone. Refused, in this
+ * order, with all of `out` left alone: 5: a record number out of range; 6: more than 255 entries, or an entry over 28,671; 11: the move is
+ * not in the list, at any size; 8: no text names it; 7: `room` is shorter than the text, whose length is the value. The list is left
+ * alone. */
+menkhodur_answer menkhodur_san_name_standard(menkhodur_board b, const uint16_t *list, size_t entries, uint64_t move, uint8_t *out, size_t room);
 
 /* ---- The game log ------------------------------------------------------------------------------------------------------------- */
 /* A log lies in two lent parts, actions and positions, of at least 8,192 and 594,500 bytes, and its two counts travel by value: hand

@@ -71,6 +71,7 @@ void check_steps(void);
 void check_fen(const char *positions);
 void check_coordinates(void);
 void check_san(void);
+void check_standard(void);
 void check_log(void);
 void check_orders(void);
 void check_games(void);

@@ -10,7 +10,7 @@
 
 #define N(number) (UINT32_C(1) << (number))
 
-enum { FUNCTIONS = 28 };
+enum { FUNCTIONS = 30 };
 
 /* Document 01, "Order of checks", and document 02: all that each function can answer. The version is no answer. */
 static const uint32_t range = N(0) | N(5);
@@ -36,6 +36,8 @@ static bool report_all(void)
         { "menkhodur_move_write", N(0) | N(6) | N(7) },
         { "menkhodur_san_read", N(0) | N(4) | N(5) | N(6) },
         { "menkhodur_san_name", N(0) | N(5) | N(6) | N(7) | N(8) | N(11) },
+        { "menkhodur_san_read_standard", N(0) | N(4) | N(5) | N(6) },
+        { "menkhodur_san_name_standard", N(0) | N(5) | N(6) | N(7) | N(8) | N(11) },
         { "menkhodur_game_start", N(0) | N(5) | N(6) | N(16) },
         { "menkhodur_game_make_move", N(0) | N(5) | N(6) | N(9) | N(10) | N(11) | N(12) | N(13) | N(16) },
         { "menkhodur_game_offer_draw", coloured },
@@ -64,6 +66,7 @@ int main(int argc, char **argv)
     check_fen(argv[1]);
     check_coordinates();
     check_san();
+    check_standard();
     check_log();
     check_orders();
     check_games();

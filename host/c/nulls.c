@@ -20,6 +20,8 @@ static void check_texts(void)
     expect_placed((menkhodur_placed){ MENKHODUR_INVALID_UCI_MOVE, 0, 0 }, menkhodur_move_read(NULL, 0));
     about("menkhodur_san_read", "NULL text");
     expect_answer(MENKHODUR_INVALID_SAN_MOVE, 0, menkhodur_san_read(knight(), one_move, 1, NULL, 0));
+    about("menkhodur_san_read_standard", "NULL text");
+    expect_answer(MENKHODUR_INVALID_SAN_MOVE, 0, menkhodur_san_read_standard(knight(), one_move, 1, NULL, 0));
 }
 
 static void check_lists(void)
@@ -37,6 +39,21 @@ static void check_lists(void)
     give_back(&text);
 }
 
+static void check_lists_of_standard(void)
+{
+    struct part out = lend(MENKHODUR_LONGEST_STANDARD_NAME), text = lend_text("Nc3");
+    about("menkhodur_san_read_standard", "NULL list");
+    expect_answer(MENKHODUR_INVALID_SAN_MOVE, 0, menkhodur_san_read_standard(knight(), NULL, 0, text.bytes, text.length));
+    expect_answer(MENKHODUR_INVALID_SAN_MOVE, 0, menkhodur_san_read_standard(knight(), NULL, 0, NULL, 0));
+    expect_unchanged("text", &text);
+    about("menkhodur_san_name_standard", "NULL list");
+    expect_answer(MENKHODUR_NOT_LISTED, 0, menkhodur_san_name_standard(knight(), NULL, 0, 1153, out.bytes, out.length));
+    expect_answer(MENKHODUR_NOT_LISTED, 0, menkhodur_san_name_standard(knight(), NULL, 0, 1153, NULL, 0));
+    expect_unchanged("room", &out);
+    give_back(&out);
+    give_back(&text);
+}
+
 static void check_rooms(void)
 {
     about("menkhodur_fen_write", "NULL room");
@@ -45,6 +62,8 @@ static void check_rooms(void)
     expect_answer(MENKHODUR_OUTPUT_TOO_SHORT, 4, menkhodur_move_write(1804, NULL, 0));
     about("menkhodur_san_name", "NULL room");
     expect_answer(MENKHODUR_OUTPUT_TOO_SHORT, 3, menkhodur_san_name(knight(), one_move, 1, 1153, NULL, 0));
+    about("menkhodur_san_name_standard", "NULL room");
+    expect_answer(MENKHODUR_OUTPUT_TOO_SHORT, 3, menkhodur_san_name_standard(knight(), one_move, 1, 1153, NULL, 0));
 }
 
 /* A roll, the part that its actions go to or come from, and the room for it. */
@@ -105,6 +124,7 @@ void check_nulls(void)
 {
     check_texts();
     check_lists();
+    check_lists_of_standard();
     check_rooms();
     check_rolls_of_null();
     check_empty_lists();

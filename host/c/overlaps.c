@@ -12,6 +12,9 @@ static void check_text_in_list(void)
     about("menkhodur_san_read", "a text that lies in the list");
     expect_answer(MENKHODUR_ACCEPTED, B1C3, menkhodur_san_read(knight, (const uint16_t *)(const void *)list.bytes, 3, list.bytes, 3));
     expect_answer(MENKHODUR_INVALID_SAN_MOVE, 0, menkhodur_san_read(knight, (const uint16_t *)(const void *)list.bytes, 2, list.bytes, 3));
+    about("menkhodur_san_read_standard", "a text that lies in the list");
+    expect_answer(MENKHODUR_ACCEPTED, B1C3, menkhodur_san_read_standard(knight, (const uint16_t *)(const void *)list.bytes, 3, list.bytes, 3));
+    expect_answer(MENKHODUR_INVALID_SAN_MOVE, 0, menkhodur_san_read_standard(knight, (const uint16_t *)(const void *)list.bytes, 2, list.bytes, 3));
     expect_unchanged("list", &list);
     give_back(&list);
 }

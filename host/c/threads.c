@@ -69,6 +69,15 @@ static unsigned wrong_texts(void)
     return wrong + (memcmp(room, name_of_all.bytes, 3) != 0);
 }
 
+static unsigned wrong_standard_texts(void)
+{
+    uint8_t room[MENKHODUR_LONGEST_STANDARD_NAME];
+    const uint16_t *list = list_of(&list_of_all);
+    unsigned wrong = !is(MENKHODUR_ACCEPTED, round_move(0), menkhodur_san_read_standard(initial, list, 2, name_of_all.bytes, name_of_all.length));
+    wrong += !is(MENKHODUR_ACCEPTED, 3, menkhodur_san_name_standard(initial, list, 2, round_move(0), room, sizeof room));
+    return wrong + (memcmp(room, name_of_all.bytes, 3) != 0);
+}
+
 /* Of a log of the knights' round alone, of whole rounds: the last position equals each fourth before it, and the first of them is the start. */
 static unsigned wrong_queries(const struct game *g, uint64_t result, uint64_t claim)
 {
@@ -124,8 +133,10 @@ static unsigned wrong_own(struct game *g)
 static void *work(void *worker)
 {
     struct worker *w = worker;
-    for (unsigned i = 0; i < (exact ? ROUNDS_EXACT : ROUNDS); i++)
-        w->wrong += wrong_numbers() + wrong_texts() + wrong_queries(&log_of_all, MENKHODUR_GOES_ON, 1) + wrong_rolls() + wrong_own(&w->own);
+    for (unsigned i = 0; i < (exact ? ROUNDS_EXACT : ROUNDS); i++) {
+        w->wrong += wrong_numbers() + wrong_texts() + wrong_standard_texts() + wrong_queries(&log_of_all, MENKHODUR_GOES_ON, 1);
+        w->wrong += wrong_rolls() + wrong_own(&w->own);
+    }
     return NULL;
 }
 

@@ -33,6 +33,8 @@ TWIN_OF(menkhodur_move_read);
 TWIN_OF(menkhodur_move_write);
 TWIN_OF(menkhodur_san_read);
 TWIN_OF(menkhodur_san_name);
+TWIN_OF(menkhodur_san_read_standard);
+TWIN_OF(menkhodur_san_name_standard);
 TWIN_OF(menkhodur_game_start);
 TWIN_OF(menkhodur_game_make_move);
 TWIN_OF(menkhodur_game_offer_draw);
@@ -116,12 +118,14 @@ typedef void step(struct input *in);
 
 step call_version, call_make_square, call_rights, call_square_rights, call_board_step;
 step call_fen_read, call_fen_write, call_move_read, call_move_write, call_san_read, call_san_name;
+step call_san_read_standard, call_san_name_standard;
 step call_start, call_log, call_round, tamper, garbage, long_log, log_to_registers;
 step call_roll_write, call_roll_read, add_actions, roll_of_game, poke_roll, insert_in_roll, cut_roll;
 
 /* The texts that the register can be set to. */
 void text_of_board(struct input *in);
 void text_of_move(struct input *in);
+void standard_text_of_move(struct input *in);
 
 /* At the beginning and the end of an input. */
 void texts_begin(void);

@@ -254,4 +254,38 @@ menkhodur_ruling menkhodur_game_ruling(const uint8_t *a, size_t al, const uint8_
     if (r.number == 9) r.laws_count = mc;
     return r;
 }
+#elif FAULT == 31 /* WRAPS san_read_standard: a tail ` e.p.` is dropped */
+menkhodur_answer real_san_read_standard(menkhodur_board b, const uint16_t *list, size_t entries, const uint8_t *text, size_t length);
+menkhodur_answer menkhodur_san_read_standard(menkhodur_board b, const uint16_t *list, size_t entries, const uint8_t *text, size_t length)
+{
+    size_t tail = length > 5 && memcmp(text + length - 5, " e.p.", 5) == 0 ? 5 : 0;
+    return real_san_read_standard(b, list, entries, text, length - tail);
+}
+#elif FAULT == 32 /* WRAPS san_read_standard: a rook castles */
+menkhodur_answer real_san_read_standard(menkhodur_board b, const uint16_t *list, size_t entries, const uint8_t *text, size_t length);
+menkhodur_answer menkhodur_san_read_standard(menkhodur_board b, const uint16_t *list, size_t entries, const uint8_t *text, size_t length)
+{
+    menkhodur_answer a = real_san_read_standard(b, list, entries, text, length);
+    unsigned e = b.side_to_move ? 60 : 4;
+    if (a.number != 4 || (b.pieces[e] - 1) % 6 != 3 || length < 3 || memcmp(text, "O-O", 3) != 0) return a;
+    b.pieces[e] = 6;
+    return real_san_read_standard(b, list, entries, text, length);
+}
+#elif FAULT == 33 /* WRAPS san_name_standard: a byte is written behind a name of 8 bytes */
+menkhodur_answer real_san_name_standard(menkhodur_board b, const uint16_t *list, size_t entries, uint64_t move, uint8_t *out, size_t room);
+menkhodur_answer menkhodur_san_name_standard(menkhodur_board b, const uint16_t *list, size_t entries, uint64_t move, uint8_t *out, size_t room)
+{
+    menkhodur_answer a = real_san_name_standard(b, list, entries, move, out, room);
+    if (a.number == 0 && a.value == 8) out[8] = 0;
+    return a;
+}
+#elif FAULT == 34 /* WRAPS san_read_standard: a pawn takes without its file */
+menkhodur_answer real_san_read_standard(menkhodur_board b, const uint16_t *list, size_t entries, const uint8_t *text, size_t length);
+menkhodur_answer menkhodur_san_read_standard(menkhodur_board b, const uint16_t *list, size_t entries, const uint8_t *text, size_t length)
+{
+    menkhodur_answer a = real_san_read_standard(b, list, entries, text, length);
+    for (unsigned file = 0; a.number == 4 && file < 8 && length == 3 && text[0] == 'x'; file++)
+        a = real_san_read_standard(b, list, entries, (uint8_t[]){ (uint8_t)('a' + file), 'x', text[1], text[2] }, 4);
+    return a;
+}
 #endif

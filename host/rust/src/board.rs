@@ -253,6 +253,39 @@ impl Board {
         Ok(text_of(&room[..length]))
     }
 
+    /// The one listed move that a SAN text in the form of the PGN standard names, the text being any bytes: `e8=Q`, `exd6` for an en passant
+    /// capture, `O-O+`. Refused: [`Error::ListOutOfRange`] for more than 255 moves, [`Error::InvalidSanMove`].
+    ///
+    /// ```
+    /// use menkhodur::{Board, Error, Move, Piece, Square};
+    ///
+    /// let board = Board::from_fen("8/4P3/8/8/8/8/8/8 w - -").unwrap();
+    /// let list = [Move::new(Square::E7, Square::E8, Some(Piece::Queen))];
+    /// assert_eq!(board.read_san_standard(&list, "e8=Q+"), Ok(list[0]));
+    /// assert_eq!(board.read_san_standard(&list, "e8Q"), Err(Error::InvalidSanMove));
+    /// ```
+    pub fn read_san_standard(&self, list: &[Move], text: impl AsRef<[u8]>) -> Result<Move, Error> {
+        lent::san_read_standard(&self.0, Move::numbers(list), text.as_ref()).map(Move::of_list)
+    }
+
+    /// The SAN name of a listed move in the form of the PGN standard, 2 to 8 bytes without a check mark, which
+    /// [`Board::read_san_standard`] reads as exactly this move. Refused: [`Error::ListOutOfRange`] for more than 255 moves,
+    /// [`Error::MoveNotListed`], [`Error::NoName`].
+    ///
+    /// ```
+    /// use menkhodur::{Board, Error, Move, Piece, Square};
+    ///
+    /// let board = Board::from_fen("8/4P3/8/8/8/8/8/8 w - -").unwrap();
+    /// let list = [Move::new(Square::E7, Square::E8, Some(Piece::Queen))];
+    /// assert_eq!(board.name_standard(&list, list[0]).unwrap(), "e8=Q");
+    /// assert_eq!(board.name_standard(&[], list[0]), Err(Error::MoveNotListed));
+    /// ```
+    pub fn name_standard(&self, list: &[Move], chess_move: Move) -> Result<String, Error> {
+        let mut room = [0; 8];
+        let length = lent::san_name_standard(&self.0, Move::numbers(list), u64::from(chess_move.number()), &mut room)?;
+        Ok(text_of(&room[..length]))
+    }
+
     pub(crate) fn of_good_log(record: Record) -> Board {
         Board(record)
     }

@@ -152,6 +152,15 @@ unsafe extern "C" {
     pub(crate) fn menkhodur_move_write(number: u64, out: *mut u8, room: usize) -> Answer;
     pub(crate) fn menkhodur_san_read(board: Board, list: *const u16, entries: usize, text: *const u8, length: usize) -> Answer;
     pub(crate) fn menkhodur_san_name(board: Board, list: *const u16, entries: usize, number: u64, out: *mut u8, room: usize) -> Answer;
+    pub(crate) fn menkhodur_san_read_standard(board: Board, list: *const u16, entries: usize, text: *const u8, length: usize) -> Answer;
+    pub(crate) fn menkhodur_san_name_standard(
+        board: Board,
+        list: *const u16,
+        entries: usize,
+        number: u64,
+        out: *mut u8,
+        room: usize,
+    ) -> Answer;
 
     pub(crate) fn menkhodur_game_start(
         actions: *const u8,

@@ -131,9 +131,15 @@ fn a_refused_value_is_zero_but_for_the_length_needed() {
         // SAFETY: each pointer and length are those of one slice; the room of none is not written.
         let answer = unsafe { menkhodur_san_name(Board::of(&[0; 68]), list.as_ptr(), 1, number, [].as_mut_ptr(), 0) };
         assert_eq!((answer.number, answer.value), (want, 0));
+        // SAFETY: as above.
+        let answer = unsafe { menkhodur_san_name_standard(Board::of(&[0; 68]), list.as_ptr(), 1, number, [].as_mut_ptr(), 0) };
+        assert_eq!((answer.number, answer.value), (want, 0));
     }
     // SAFETY: each pointer and length are those of one slice, and the function only reads.
     let answer = unsafe { menkhodur_san_read(Board::of(&[0; 68]), list.as_ptr(), 1, b"Nc3".as_ptr(), 3) };
+    assert_eq!((answer.number, answer.value), (4, 0));
+    // SAFETY: as above.
+    let answer = unsafe { menkhodur_san_read_standard(Board::of(&[0; 68]), list.as_ptr(), 1, b"Nc3".as_ptr(), 3) };
     assert_eq!((answer.number, answer.value), (4, 0));
     let squares = [menkhodur_make_square(8, 0), menkhodur_rights_add(4, 0), menkhodur_rights_remove(0, 4), menkhodur_square_rights(2, 0)];
     assert!(squares.iter().all(|answer| (answer.number, answer.value) == (5, 0)));

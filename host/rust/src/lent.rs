@@ -280,6 +280,38 @@ pub fn san_name(record: &Record, list: &[u16], number: u64, out: &mut [u8]) -> R
     length(unsafe { ffi::menkhodur_san_name(ffi::Board::of(record), list.as_ptr(), entries, number, out.as_mut_ptr(), room) })
 }
 
+/// The number of the one listed move that a SAN text in the form of the PGN standard names. Refused: 5, 6, 4.
+///
+/// ```
+/// use menkhodur::{Error, lent};
+///
+/// let pawn = lent::fen_read(b"8/4P3/8/8/8/8/8/8 w - -").unwrap();
+/// assert_eq!(lent::san_read_standard(&pawn, &[24_372], b"e8=Q+"), Ok(24_372));
+/// assert_eq!(lent::san_read_standard(&pawn, &[24_372], b"e8Q"), Err(Error::InvalidSanMove));
+/// ```
+pub fn san_read_standard(record: &Record, list: &[u16], text: &[u8]) -> Result<u16, Error> {
+    // SAFETY: each pointer and length are those of one slice, borrowed for the call, the list's of aligned `u16`; the function only reads.
+    number(unsafe { ffi::menkhodur_san_read_standard(ffi::Board::of(record), list.as_ptr(), list.len(), text.as_ptr(), text.len()) })
+}
+
+/// Writes the SAN name of a listed move in the form of the PGN standard, 2 to 8 bytes, and gives its length. Refused: 5, 6, 11, 8, 7.
+///
+/// ```
+/// use menkhodur::{Error, lent};
+///
+/// let pawn = lent::fen_read(b"8/8/8/4P3/8/8/8/8 w - -").unwrap();
+/// let mut room = [0; 8];
+/// assert_eq!(lent::san_name_standard(&pawn, &[2788], 2788, &mut room), Ok(4));
+/// assert_eq!(&room[..4], b"exd6");
+/// assert_eq!(lent::san_name_standard(&pawn, &[2788], 70_000, &mut room), Err(Error::MoveNotListed));
+/// ```
+pub fn san_name_standard(record: &Record, list: &[u16], number: u64, out: &mut [u8]) -> Result<usize, Error> {
+    let (entries, room) = (list.len(), out.len());
+    // SAFETY: each pointer and length are those of one slice, the list's of aligned `u16`. The room is borrowed mutably for the call, so
+    // that the list cannot lie in it.
+    length(unsafe { ffi::menkhodur_san_name_standard(ffi::Board::of(record), list.as_ptr(), entries, number, out.as_mut_ptr(), room) })
+}
+
 /// Starts a log at a position, which is written over the first of its part, and gives the counts, 0 and 0. The part of the actions is
 /// only looked at for its length. Refused: 16, 5, 6.
 ///

@@ -9,11 +9,12 @@ mod laws;
 mod plain;
 mod rolls;
 
-use both::abi::{self, Log, Placed, Record};
+use both::abi::{self, Answer, Log, Placed, Position, Record};
 use both::games::{board_of, different_positions, moves_of, random_move, STARTS};
 use both::numbers::{move_of, number_of, position_of, record_of, result_number};
 use both::random::Random;
 use chess::{Board, BoardBuilder, ChessMove, Game, Piece};
+use compare::standard;
 use std::hint::black_box;
 use std::str::FromStr;
 use std::time::{Duration, Instant};
@@ -35,22 +36,31 @@ struct Place {
     record: Record,
     list: Vec<u16>,
     names: Vec<String>,
+    /// In the PGN standard's form (document 02, order 6).
+    standard_names: Vec<String>,
     board: Board,
     at_hand: sanlist::board::Board,
 }
 
-fn place_of(board: &Board) -> Place {
-    let (position, builder) = (position_of(board), BoardBuilder::from(board));
+type Namer = fn(Record, &[u16], u64, &mut [u8]) -> Answer;
+
+fn names_of(position: &Position, namer: Namer) -> Vec<String> {
     let name = |number: &u16| {
         let mut room = [0; 11];
-        let answer = abi::san_name(position.record, &position.list, *number as u64, &mut room);
+        let answer = namer(position.record, &position.list, *number as u64, &mut room);
         assert_eq!(answer.number, 0, "a legal move has a name");
         String::from_utf8(room[..answer.value as usize].to_vec()).expect("a name is ASCII")
     };
-    let names = position.list.iter().map(name).collect();
+    position.list.iter().map(name).collect()
+}
+
+fn place_of(board: &Board) -> Place {
+    let (position, builder) = (position_of(board), BoardBuilder::from(board));
+    let names = names_of(&position, abi::san_name);
+    let standard_names = names_of(&position, abi::san_name_standard);
     let at_hand = sanlist::board::Board::new(position.record.0, &position.list);
     let (record, list) = (position.record, position.list);
-    Place { builder, fen: board.to_string(), record, list, names, board: *board, at_hand }
+    Place { builder, fen: board.to_string(), record, list, names, standard_names, board: *board, at_hand }
 }
 
 /// Nanoseconds of one round over all inputs. What `work` gives is kept from being optimised away.
@@ -122,6 +132,30 @@ fn san(places: &[Place]) {
     let mut room = [0; 11];
     let (reading, naming) = times(&all, read, |(p, i)| abi::san_name(p.record, &p.list, p.list[*i] as u64, &mut room));
     row("naming (ours), against a SAN read (ours)", all.len(), reading, naming, "");
+    san_standard(&all);
+}
+
+/// The PGN standard's form, which the crate has not, against document 01's: each reads and writes its own names.
+fn san_standard(all: &[(&Place, usize)]) {
+    for (p, i) in all {
+        let owed = standard::name(&p.record, &p.list, p.list[*i] as u64);
+        assert_eq!(owed.as_ref(), Ok(&p.standard_names[*i]));
+        let read = abi::san_read_standard(p.record, &p.list, p.standard_names[*i].as_bytes());
+        assert_eq!(read, Answer { number: 0, value: p.list[*i] as u64 });
+    }
+    let (first, standard) = times(
+        all,
+        |(p, i)| abi::san_read(p.record, &p.list, p.names[*i].as_bytes()),
+        |(p, i)| abi::san_read_standard(p.record, &p.list, p.standard_names[*i].as_bytes()),
+    );
+    row("standard's form read (ours), against 01's (ours)", all.len(), first, standard, "");
+    let (mut room, mut other) = ([0; 11], [0; 8]);
+    let (first, standard) = times(
+        all,
+        |(p, i)| abi::san_name(p.record, &p.list, p.list[*i] as u64, &mut room),
+        |(p, i)| abi::san_name_standard(p.record, &p.list, p.list[*i] as u64, &mut other),
+    );
+    row("standard's naming (ours), against 01's (ours)", all.len(), first, standard, "");
 }
 
 /// A game of so many moves, mostly reversible ones, so that runs are long.

@@ -96,6 +96,10 @@ extern "C" {
     fn menkhodur_move_write(number: u64, out: *mut u8, room: usize) -> Answer;
     fn menkhodur_san_read(b: Record, list: *const u16, entries: usize, text: *const u8, length: usize) -> Answer;
     fn menkhodur_san_name(b: Record, list: *const u16, entries: usize, number: u64, out: *mut u8, room: usize) -> Answer;
+    fn menkhodur_san_read_standard(b: Record, list: *const u16, entries: usize, text: *const u8, length: usize) -> Answer;
+    fn menkhodur_san_name_standard(
+        b: Record, list: *const u16, entries: usize, number: u64, out: *mut u8, room: usize,
+    ) -> Answer;
 
     fn menkhodur_game_start(
         a: *const u8, al: usize, p: *mut u8, pl: usize, b: Record, in_check: u8, list: *const u16, entries: usize,
@@ -175,6 +179,14 @@ pub fn san_read(b: Record, list: &[u16], text: &[u8]) -> Answer {
 
 pub fn san_name(b: Record, list: &[u16], number: u64, out: &mut [u8]) -> Answer {
     unsafe { menkhodur_san_name(b, list.as_ptr(), list.len(), number, out.as_mut_ptr(), out.len()) }
+}
+
+pub fn san_read_standard(b: Record, list: &[u16], text: &[u8]) -> Answer {
+    unsafe { menkhodur_san_read_standard(b, list.as_ptr(), list.len(), text.as_ptr(), text.len()) }
+}
+
+pub fn san_name_standard(b: Record, list: &[u16], number: u64, out: &mut [u8]) -> Answer {
+    unsafe { menkhodur_san_name_standard(b, list.as_ptr(), list.len(), number, out.as_mut_ptr(), out.len()) }
 }
 
 pub fn roll_write(b: Record, actions: &[u8], count: u64, out: &mut [u8]) -> Answer {

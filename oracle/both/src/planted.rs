@@ -91,6 +91,30 @@ pub fn san_name(b: Record, list: &[u16], number: u64, out: &mut [u8]) -> Answer 
     answer
 }
 
+/// A promotion without `=` is taken; a pawn's `x` without its file is taken.
+pub fn san_read_standard(b: Record, list: &[u16], text: &[u8]) -> Answer {
+    let answer = real::san_read_standard(b, list, text);
+    if planted("san-standard-equals") && answer.number == 4 {
+        if let [front @ .., rank @ (b'1' | b'8'), letter] = text {
+            return real::san_read_standard(b, list, &[front, &[*rank, b'=', *letter]].concat());
+        }
+    }
+    if planted("san-standard-file") && answer.number == 4 && text.starts_with(b"x") {
+        let with_file = |file: u8| real::san_read_standard(b, list, &[&[file], text].concat());
+        return (b'a'..=b'h').map(with_file).find(|read| read.number == 0).unwrap_or(answer);
+    }
+    answer
+}
+
+/// The length needed is one too many for names of eight bytes.
+pub fn san_name_standard(b: Record, list: &[u16], number: u64, out: &mut [u8]) -> Answer {
+    let mut answer = real::san_name_standard(b, list, number, out);
+    if planted("san-standard-name") && answer.number == 7 && answer.value == 8 {
+        answer.value += 1;
+    }
+    answer
+}
+
 /// A black king on h8 is set down as a queen.
 pub fn piece(b: Record, square: u8, code: u8) -> Stepped {
     let code = if planted("steps") && (square, code) == (63, 12) { 11 } else { code };

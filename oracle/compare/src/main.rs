@@ -5,18 +5,19 @@ mod args;
 use args::{Options, Request};
 use compare::part::{self, run, Outcome, Part};
 use compare::rules::RULES;
-use compare::{fen, log, moves, names, rolls, san, steps, tests};
+use compare::{fen, log, moves, names, rolls, san, san_standard, steps, tests};
 use std::process::exit;
 
 /// Runs the part that has this name.
 type Runner = fn(&Options) -> Outcome;
 
-const PARTS: [(&str, Runner); 10] = [
+const PARTS: [(&str, Runner); 11] = [
     (fen::FenRead::NAME, |o| run(fen::FenRead::default(), o.seed, o.budget)),
     (fen::FenWrite::NAME, |o| run(fen::FenWrite::default(), o.seed, o.budget)),
     (moves::Moves::NAME, |o| run(moves::Moves, o.seed, o.budget)),
     (san::SanLegal::NAME, |o| run(san::SanLegal::new(), o.seed, o.budget)),
     (san::SanAny::NAME, |o| run(san::SanAny::new(), o.seed, o.budget)),
+    (san_standard::SanStandard::NAME, |o| run(san_standard::SanStandard::new(), o.seed, o.budget)),
     (names::Names::NAME, |o| run(names::Names::new(), o.seed, o.budget)),
     (log::LogPart::NAME, |o| run(log::LogPart::new(), o.seed, o.budget)),
     (rolls::Rolls::NAME, |o| run(rolls::Rolls::new(), o.seed, o.budget)),

@@ -1,7 +1,10 @@
 //! Plays the games of a PGN file on both sides. Every move's text is read, the move named, its name read back and the move
 //! logged; every position's key is written and read back; each answer, count and lent byte is compared with the crate's.
+//! The PGN standard's reader must read each text as that move too, and its namer's name is laid beside the file's own text
+//! without check marks; where they differ, both are shown.
 //!
 //!     openings FILE.pgn
+//!     openings --random    only writes random games with castling, promotions and en passant, their moves by squares
 
 mod pgn;
 
@@ -14,13 +17,23 @@ use compare::pair::Pair;
 use compare::part::{Part, Tally};
 use compare::rules::en_passant_rank;
 use compare::san::{Place, SanLegal};
+use compare::san_standard::{Given, Input, SanStandard};
 use compare::script::Act;
+use compare::standard;
 use std::process::exit;
 use std::rc::Rc;
+
+const RANDOM_GAMES: usize = 1_000;
 
 struct Player {
     pair: Pair,
     tally: Tally,
+    /// Texts that document 01's form refuses, as `O-O+`, `e8=Q` and `exd6` in passing.
+    only_standard: u64,
+    /// Moves whose name in the standard's form is the file's own text without check marks.
+    as_in_file: u64,
+    /// The file's text and the name, where they differ.
+    otherwise: Vec<String>,
 }
 
 impl Player {
@@ -41,14 +54,42 @@ impl Player {
         place.crate_reads(text)
     }
 
+    /// The move of the file's text: as the crate reads it, or, where the crate refuses, in the standard's form.
+    fn meant(&mut self, place: &Rc<Place>, text: &str) -> Result<u16, String> {
+        if let Some(number) = self.reads(place, text)? {
+            return Ok(number);
+        }
+        self.only_standard += 1;
+        standard::read(&place.record, &place.list, text.as_bytes()).map_err(|_| format!("{:?} is refused by all", text))
+    }
+
+    /// The file's text is read as the move, and the move has a name, in the standard's form.
+    fn standard(&mut self, place: &Rc<Place>, text: &str, number: u16) -> Result<(), String> {
+        let (given, part) = (Given::of(place), SanStandard::new());
+        part.compare(&Input::Read(given.clone(), text.as_bytes().to_vec()), &mut self.tally)?;
+        part.compare(&Input::Name(given, number as u64, 0), &mut self.tally)?;
+        let read = standard::read(&place.record, &place.list, text.as_bytes());
+        if read != Ok(number) {
+            return Err(format!("{:?} is not read as {} in the standard's form: {:?}", text, number, read));
+        }
+        let name = standard::name(&place.record, &place.list, number as u64)
+            .map_err(|n| format!("{:?} has no name in the standard's form: {}", text, n))?;
+        match name == text.trim_end_matches(['+', '#']) {
+            true => self.as_in_file += 1,
+            false => self.otherwise.push(format!("{:?} is named {:?}", text, name)),
+        }
+        Ok(())
+    }
+
     fn play(&mut self, text: &str) -> Result<(), String> {
         let place = Place::legal(self.pair.board());
-        let number = self.reads(&place, text)?.ok_or(format!("{:?} is refused by both", text))?;
+        let number = self.meant(&place, text)?;
         Names::new().compare(&names::Input::new(place.clone(), number as u64), &mut self.tally)?;
         let name = names::owed(&place, number as u64)?.map_err(|n| format!("{:?} has no name: {}", text, n))?;
         if self.reads(&place, &name)? != Some(number) {
             return Err(format!("the name {:?} is not read back", name));
         }
+        self.standard(&place, text, number)?;
         if !self.pair.act(Act::Move(number), &mut self.tally)? {
             return Err(format!("{:?} is not logged", text));
         }
@@ -66,28 +107,43 @@ impl Player {
     }
 }
 
+fn report(player: &Player) {
+    for row in &player.tally.rows {
+        println!("{:<20} {:>9} accepted {:>9} refused", row.label, row.accepted, row.refused);
+    }
+    let named = player.as_in_file + player.otherwise.len() as u64;
+    let rate = 100.0 * player.as_in_file as f64 / named.max(1) as f64;
+    println!("standard's form: of {} moves {} are named as in the file, {:.3} %", named, player.as_in_file, rate);
+    println!("standard's form: {} texts are refused in document 01's form", player.only_standard);
+}
+
 fn main() {
     let words: Vec<String> = std::env::args().skip(1).collect();
     let [path] = &words[..] else {
-        eprintln!("usage: openings FILE.pgn");
+        eprintln!("usage: openings FILE.pgn | --random");
         exit(2);
     };
+    if path == "--random" {
+        return print!("{}", pgn::random_games(RANDOM_GAMES));
+    }
     let text = std::fs::read_to_string(path).unwrap_or_else(|why| {
         eprintln!("openings: {}: {}", path, why);
         exit(2);
     });
     let games = pgn::games(&text);
-    let mut player = Player { pair: Pair::new(), tally: Tally::default() };
+    let mut player = Player { pair: Pair::new(), tally: Tally::default(), only_standard: 0, as_in_file: 0, otherwise: vec![] };
     let mut differ = 0;
     for (line, texts) in &games {
+        let before = player.otherwise.len();
         if let Err(why) = player.game(texts) {
             println!("differs: the game that begins in line {}: {}", line, why);
             differ += 1;
         }
+        for other in &player.otherwise[before..] {
+            println!("named otherwise: the game that begins in line {}: {}", line, other);
+        }
     }
-    for row in &player.tally.rows {
-        println!("{:<20} {:>9} accepted {:>9} refused", row.label, row.accepted, row.refused);
-    }
+    report(&player);
     println!("openings: {} games, {} comparisons, {} games differ", games.len(), player.tally.agreed(), differ);
     if differ > 0 || games.is_empty() {
         exit(1);

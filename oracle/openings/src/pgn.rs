@@ -1,5 +1,9 @@
 //! As much of PGN as the file of openings uses: tags and comments are passed over, moves are words, a result ends a game.
 
+use both::games::{board_of, random_move, STARTS};
+use both::random::Random;
+use chess::Color;
+
 const RESULTS: [&str; 4] = ["*", "1-0", "0-1", "1/2-1/2"];
 
 /// The text with comments as spaces, so that lines keep their numbers.
@@ -33,6 +37,24 @@ pub fn games(text: &str) -> Vec<(usize, Vec<String>)> {
     }
     all.retain(|(_, moves)| !moves.is_empty());
     all
+}
+
+/// The moves of a random game from the initial position, by their squares, which any program that reads PGN takes.
+fn random_game(most: usize, random: &mut Random) -> Vec<String> {
+    let (mut board, mut moves) = (board_of(STARTS[0]), vec![]);
+    while moves.len() < most {
+        let Some(m) = random_move(&board, random) else { break };
+        let promotion = m.get_promotion().map_or(String::new(), |piece| format!("={}", piece.to_string(Color::White)));
+        moves.push(format!("{}{}{}", m.get_source(), m.get_dest(), promotion));
+        board = board.make_move_new(m);
+    }
+    moves
+}
+
+/// A file of so many random games.
+pub fn random_games(count: usize) -> String {
+    let mut random = Random::new(1, "openings");
+    (0..count).map(|_| format!("[Result \"*\"]\n\n{}\n*\n\n", random_game(200, &mut random).join("\n"))).collect()
 }
 
 #[test]

@@ -12,6 +12,7 @@ mod refused;
 mod refused_logs;
 mod rolls;
 mod rulings;
+mod standard;
 mod threads;
 mod typed;
 mod version;
