@@ -1,3 +1,4 @@
+pub mod AtPages
 pub mod AtSmallest
 pub mod Cases
 pub mod Tokens

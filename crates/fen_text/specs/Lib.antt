@@ -7,3 +7,7 @@ pub mod Promises
 pub mod Faults
 pub mod Rows
 pub mod AtSmallest
+pub mod Lines
+pub mod Page
+pub mod PagePromises
+pub mod PagesAtSmallest

@@ -1,0 +1,37 @@
+-- Lines (document 02, order 7): a newline byte ends a line and belongs to none; an unended last line counts if it has a byte in it.
+-- Assumes nothing.
+use Prim.Native.Nat.{ℕ}
+use mathlib.Core.Bool.{Bool, true, false}
+use mathlib.Core.List.{List, [], _∷_, _++_}
+use lib.Dec.{eqb}
+use Rattle.fen_text.specs.Token.{joined}
+
+abbrev pub lineFeed : ℕ
+lineFeed = 10
+
+-- the lines of a text: a newline ends an empty one before those that follow it, any other byte joins the one that it stands before
+unfoldable pub lines : List ℕ → List (List ℕ)
+unfolding joined
+lines [] = []
+lines (x ∷ xs) = joined (eqb x lineFeed) x (lines xs)
+
+-- a byte put before the first line that is ended, if there is one
+unfoldable pub ontoEnded : ℕ → List (List ℕ) → List (List ℕ)
+ontoEnded b [] = []
+ontoEnded b (l ∷ ls) = (b ∷ l) ∷ ls
+
+unfoldable pub endedBy : Bool → ℕ → List (List ℕ) → List (List ℕ)
+unfolding ontoEnded
+endedBy true b ls = [] ∷ ls
+endedBy false b ls = ontoEnded b ls
+
+-- those of them that a newline ends
+unfoldable pub ended : List ℕ → List (List ℕ)
+unfolding endedBy
+ended [] = []
+ended (x ∷ xs) = endedBy (eqb x lineFeed) x (ended xs)
+
+-- what is said of each line, one after the other
+unfoldable pub overLines : (List ℕ → List ℕ) → List (List ℕ) → List ℕ
+overLines f [] = []
+overLines f (l ∷ ls) = f l ++ overLines f ls
