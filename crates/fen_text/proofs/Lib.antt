@@ -9,3 +9,5 @@ pub mod Keys
 pub mod Hollow
 pub mod Faults
 pub mod Rows
+pub mod Lines
+pub mod Pages
