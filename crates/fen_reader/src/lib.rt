@@ -1,4 +1,6 @@
 // The FEN reader, after board_builder.rs: a text of four tokens or more is read into a record.
+pub mod lines;
+pub mod page;
 mod placement;
 mod token;
 

@@ -1,12 +1,12 @@
 -- Order 2: each number is given exactly when its sentence holds, with exactly that offset, and the same texts are refused as before.
 -- Assumes nothing.
 use mathlib.Core.Path.{_≡_, refl, sym, ap, _∙_}
-use mathlib.Core.Bool.{Bool, true, false, not, cond, _&&_, _||_, true≢false, false≢true}
+use mathlib.Core.Bool.{Bool, true, false, not, cond, _&&_, _||_, true≢false}
 use mathlib.Core.List.{List, [], _∷_}
 use Prim.Native.Nat.{ℕ, zero, suc, _+_, _-_, _≤_, _<_}
 use native.Mathlib.Decide.{decLe}
 use native.Mathlib.Omega.{arith}
-use lib.Dec.{T, eqb, leb, ltb, eqb→eq}
+use lib.Dec.{eqb, leb, ltb}
 use lib.ListN.{length, getD, take}
 use lib.Seq.{length-take-le}
 use borrow.Author.Tests.{ne-eqb, eqb-true, lt-leb}
@@ -20,9 +20,9 @@ use Rattle.square.proofs.Numbers.{most-head, most-tail}
 use Rattle.fen_text.specs.declared.Fen.{Fen}
 use Rattle.fen_text.specs.Token.{tokens, placeAfter, placeWhere, placeOf}
 use Rattle.fen_text.specs.Placement.{Placement, start, down, skip, fill, spoil, placeByte, placeAll, signs, firstBad}
-use Rattle.fen_text.specs.Read.{sideByte, sideOf, refusedAt, fenOf, sided, assembled, ofTokens, readFen}
+use Rattle.fen_text.specs.Read.{sideOf, refusedAt, fenOf, sided, assembled, ofTokens, readFen}
 use Rattle.fen_text.specs.Base.{noFen, baseAssembled, baseTokens, baseFen}
-use Rattle.fen_text.specs.Faults.{tokenAt, GoodUpTo, TooFew, BadPlacement, NoSide, BadSide, SaysWhere, EveryTextIsToldWhere, Numbers, accepted, few, placement, side, OneIsNotGiven}
+use Rattle.fen_text.specs.Faults.{tokenAt, GoodUpTo, TooFew, BadPlacement, NoSide, BadSide, EveryTextIsToldWhere, Numbers, accepted, few, placement, side, OneIsNotGiven}
 use Rattle.fen_text.proofs.Tokens.{tokens-last, tokens-next}
 
 -- ---- the bytes of a placement are those that do not spoil it

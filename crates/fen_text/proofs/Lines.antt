@@ -1,17 +1,27 @@
 -- Laws of lines: the first ends at the first newline or with the text, and those past it follow; how many there are; a page and one behind it.
 -- Assumes nothing.
 use mathlib.Core.Path.{_≡_, refl, sym, ap, _∙_}
-use mathlib.Core.Bool.{Bool, true, false, cond}
+use mathlib.Core.Bool.{Bool, true, false, cond, _||_}
 use mathlib.Core.List.{List, [], _∷_, _++_, append-assoc}
-use Prim.Native.Nat.{ℕ, suc, _+_, _*_, _≤_, _<_}
+use Prim.Native.Nat.{ℕ, zero, suc, _+_, _*_, _-_, _≤_, _<_}
 use native.Mathlib.Nat.{mul-suc}
 use native.Mathlib.Numerals.{add-one}
 use native.Mathlib.Omega.{arith}
 use lib.Dec.{eqb}
-use lib.ListN.{length, getD, take, drop, drop-of-length-le, length-append, length-drop}
+use lib.ListN.{length, getD, take, drop, drop-of-length-le, length-append, length-drop, take-append-drop}
 use lib.Seq.{drop-cons, drop-drop}
+use Rattle.square.specs.Numbers.{among}
 use Rattle.fen_text.specs.Token.{placeAfter, placeWhere, placeOf, onto, joined}
+use Rattle.fen_text.proofs.Cases.{cond-both}
 use Rattle.fen_text.specs.Lines.{lineFeed, lines, ontoEnded, endedBy, ended, overLines}
+
+or-left : (a b : Bool) → a || b ≡ false → a ≡ false
+or-left true b e = e
+or-left false b e = refl
+
+or-right : (a b : Bool) → a || b ≡ false → b ≡ false
+or-right true b e = let w : _≡_ {A = ℕ} 0 1 = cc in absurd (omega arith)
+or-right false b e = e
 
 -- ---- the first line, and those past it
 
@@ -78,6 +88,20 @@ pub ended-end : (s : List ℕ) (i : ℕ) → length s ≤ i → length (ended (d
 unfolding ended
 ended-end s i h = rw (drop-of-length-le s h)
 
+-- of two texts one after the other, and of a text taken by parts
+ended-both : (a b : List ℕ) → length (ended (a ++ b)) ≡ length (ended a) + length (ended b)
+unfolding ended
+ended-both [] b = omega arith
+ended-both (x ∷ a) b =
+    length-ended (eqb x lineFeed) x (ended (a ++ b))
+    ∙ omega (arith, ended-both a b, length-ended (eqb x lineFeed) x (ended a))
+
+pub ended-parts : (s : List ℕ) (i n : ℕ) → length (ended (drop i s)) ≡ length (ended (take n (drop i s))) + length (ended (drop (i + n) s))
+ended-parts s i n =
+    ap (λ (l : List ℕ). length (ended l)) (sym (take-append-drop n (drop i s)))
+    ∙ ended-both (take n (drop i s)) (drop n (drop i s))
+    ∙ ap (λ (l : List ℕ). length (ended (take n (drop i s))) + length (ended l)) (drop-drop n i s)
+
 last-one : (t : Bool) (x : ℕ) → length (joined t x []) ≡ length (endedBy t x []) + cond t 0 1
 unfolding joined onto endedBy ontoEnded
 last-one true x = refl
@@ -100,6 +124,58 @@ count-lines x (y ∷ s) =
     joined-more (eqb x lineFeed) x (cond (eqb (getD (y ∷ s) (length s) 0) lineFeed) 0 1) (lines (y ∷ s)) (ended (y ∷ s))
     (some-lines (y ∷ s) (omega arith))
     (count-lines y s)
+
+-- no more than bytes
+at-most-one : (t : Bool) (x n : ℕ) (ls : List (List ℕ)) → length ls ≤ n → length (joined t x ls) ≤ suc n
+unfolding joined onto
+at-most-one true x n ls h = omega arith
+at-most-one false x n [] h = omega arith
+at-most-one false x n (l ∷ ls) h = omega arith
+
+pub lines-at-most : (s : List ℕ) → length (lines s) ≤ length s
+unfolding lines
+lines-at-most [] = omega arith
+lines-at-most (x ∷ s) = at-most-one (eqb x lineFeed) x (length s) (lines s) (lines-at-most s)
+
+-- the same of a text that is not empty, by its last byte
+pub count-by-last : (s : List ℕ) → 0 < length s → length (lines s) ≡ length (ended s) + cond (eqb (getD s (length s - 1) 0) lineFeed) 0 1
+count-by-last [] h = absurd (omega arith)
+count-by-last (x ∷ s) h =
+    let e : length s ≡ suc (length s) - 1 = omega arith in
+    rw (← e) (count-lines x s)
+
+pub ended-at-most : (s : List ℕ) → length (ended s) ≤ length s
+unfolding ended
+ended-at-most [] = omega arith
+ended-at-most (x ∷ s) =
+    let one : cond (eqb x lineFeed) 1 0 ≤ 1 = cond-both (λ (n : ℕ). n ≤ 1) (eqb x lineFeed) (omega arith) (omega arith) in
+    omega (arith, length-ended (eqb x lineFeed) x (ended s), ended-at-most s)
+
+-- ---- the first newline, looked for by blocks
+
+place-step : (t : Bool) (k n : ℕ) → k ≤ n → placeAfter t k ≤ suc n
+unfolding placeAfter
+place-step true k n h = omega arith
+place-step false k n h = omega arith
+
+pub place-at-most : (b : ℕ) (s : List ℕ) → placeOf b s ≤ length s
+unfolding placeWhere
+place-at-most b [] = omega arith
+place-at-most b (x ∷ s) = place-step (eqb x b) (placeOf b s) (length s) (place-at-most b s)
+
+front-step : (t : Bool) (k n left : ℕ) → t ≡ false → k ≡ n + left → placeAfter t k ≡ suc n + left
+unfolding placeAfter
+front-step true k n left e f = let w : _≡_ {A = ℕ} 0 1 = cc in absurd (omega arith)
+front-step false k n left e f = omega arith
+
+-- a block that has none is passed over
+pub none-in-front : (b : ℕ) (s : List ℕ) (n : ℕ) → n ≤ length s → among b (take n s) ≡ false → placeOf b s ≡ n + placeOf b (drop n s)
+unfolding placeWhere among
+none-in-front b s zero h e = omega arith
+none-in-front b [] (suc n) h e = absurd (omega arith)
+none-in-front b (x ∷ s) (suc n) h e =
+    front-step (eqb x b) (placeOf b s) n (placeOf b (drop n s)) (or-left (eqb x b) (among b (take n s)) e)
+    (none-in-front b s n (omega arith) (or-right (eqb x b) (among b (take n s)) e))
 
 -- ---- what is said of each line, all of one length
 

@@ -1,15 +1,15 @@
 -- What order 7 promises of a page: each line has the single reader's answer, rooms are judged by the number of lines, and pages one after the other are
 -- the page of both joined.
 -- Assumes nothing.
-use mathlib.Core.Path.{_≡_, refl, sym, ap, ap₂, subst, _∙_}
+use mathlib.Core.Path.{_≡_, refl, sym, ap, ap₂, _∙_}
 use mathlib.Core.Bool.{Bool, true, false, cond, _&&_, _||_}
 use mathlib.Core.List.{List, [], _∷_, _++_, append-assoc, append-nil}
-use Prim.Native.Nat.{ℕ, zero, suc, _+_, _*_, _-_, _≤_, _<_}
-use native.Mathlib.Nat.{mul-suc, mul-add}
+use Prim.Native.Nat.{ℕ, zero, suc, _+_, _*_, _≤_, _<_}
+use native.Mathlib.Nat.{mul-suc}
 use native.Mathlib.Omega.{arith}
 use lib.Dec.{eqb, leb}
 use lib.ListN.{length, getD, take, drop, length-append, length-drop}
-use lib.Seq.{take-at, drop-at, drop-drop, drop-append-le, take-append-le, getD-take, getD-drop}
+use lib.Seq.{take-at, drop-at, drop-drop, getD-take, getD-drop}
 use borrow.Author.Tests.{eqb-true, eqb-false, leb-true, le-leb, lt-leb}
 use Rattle.square.specs.Answer.{accepted, tooShort, overwrite}
 use Rattle.square.specs.Numbers.{among}
@@ -25,7 +25,7 @@ use Rattle.fen_text.specs.Page.{recordOf, toldOf, toldSize, lineCount, p
 use Rattle.fen_text.specs.PagePromises.{lineAt, AsTheSingleReader, EachLineAsTheSingleReader, PagesAreJudgedSo, RefusedPagesChangeNothing,
   OneLineIsTheSingleCall, Joined, PagesJoin}
 use Rattle.fen_text.proofs.Keys.{reads-in-range, refused-is-zero}
-use Rattle.fen_text.proofs.Lines.{lines-next, length-over, over-append, lines-behind}
+use Rattle.fen_text.proofs.Lines.{length-over, over-append, lines-behind}
 
 -- ---- lengths: 68 bytes and two numbers a line
 
@@ -99,6 +99,19 @@ refused-pages-change-nothing s records told n = go (pageFits s (length records) 
         → (recordsLeft s records (length told) ≡ records) × (toldLeft s (length records) told ≡ told)
     go true e = absurd (n (simp e))
     go false e = (simp e, simp e)
+
+-- what a call answers and leaves that refuses the page, and one that takes it
+pub page-refused : (s records told : List ℕ) → pageFits s (length records) (length told) ≡ false
+    → (tooShort (lineCount s) ≡ pageAnswer s (length records) (length told))
+      × (records ≡ recordsLeft s records (length told)) × (told ≡ toldLeft s (length records) told)
+unfolding pageAnswer recordsLeft toldLeft
+page-refused s records told e = (simp e, simp e, simp e)
+
+pub page-taken : (s records told : List ℕ) → pageFits s (length records) (length told) ≡ true
+    → (accepted (lineCount s) ≡ pageAnswer s (length records) (length told))
+      × (overwrite (pageRecords s) records ≡ recordsLeft s records (length told)) × (overwrite (pageTold s) told ≡ toldLeft s (length records) told)
+unfolding pageAnswer recordsLeft toldLeft
+page-taken s records told e = (simp e, simp e, simp e)
 
 -- ---- each line
 

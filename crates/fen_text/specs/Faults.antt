@@ -1,7 +1,6 @@
 -- Order 2 in sentences: when each of its three numbers is given, and with which offset; and that the same texts are refused as before.
 -- Assumes nothing.
 use Prim.Native.Nat.{ℕ, _+_, _<_, _≤_}
-use Prim.Native.String.{String}
 use mathlib.Core.Path.{_≡_}
 use mathlib.Core.Bool.{true, false}
 use mathlib.Core.List.{List, []}

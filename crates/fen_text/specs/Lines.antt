@@ -1,10 +1,11 @@
 -- Lines (document 02, order 7): a newline byte ends a line and belongs to none; an unended last line counts if it has a byte in it.
 -- Assumes nothing.
-use Prim.Native.Nat.{ℕ}
+use Prim.Native.Nat.{ℕ, _+_}
 use mathlib.Core.Bool.{Bool, true, false}
 use mathlib.Core.List.{List, [], _∷_, _++_}
 use lib.Dec.{eqb}
-use Rattle.fen_text.specs.Token.{joined}
+use lib.ListN.{drop}
+use Rattle.fen_text.specs.Token.{joined, placeOf}
 
 abbrev pub lineFeed : ℕ
 lineFeed = 10
@@ -14,6 +15,10 @@ unfoldable pub lines : List ℕ → List (List ℕ)
 unfolding joined
 lines [] = []
 lines (x ∷ xs) = joined (eqb x lineFeed) x (lines xs)
+
+-- where the line that starts at a place ends: at its newline, or with the text
+abbrev pub lineEnd : List ℕ → ℕ → ℕ
+lineEnd s from = from + placeOf lineFeed (drop from s)
 
 -- a byte put before the first line that is ended, if there is one
 unfoldable pub ontoEnded : ℕ → List (List ℕ) → List (List ℕ)

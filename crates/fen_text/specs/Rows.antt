@@ -4,7 +4,7 @@
 use Prim.Native.Nat.{ℕ}
 use Prim.Native.String.{String}
 use mathlib.Core.Path.{_≡_}
-use Rattle.square.specs.Answer.{tooFewTokens, badPlacement, badSide}
+use Rattle.square.specs.Answer.{tooFewTokens, badPlacement}
 use Rattle.square.specs.Ascii.{ascii}
 use Rattle.board_builder.specs.BoardBuilder.{initialBoard}
 use Rattle.fen_text.specs.Read.{readFen, refusedAt, fenOf}

@@ -25,6 +25,8 @@ use Rattle.menkhodur.proofs.menkhodur_en_passant.Reads as menkhodur-en-
 use Rattle.menkhodur.proofs.menkhodur_en_passant.Kinds as menkhodur-en-passant·k
 use Rattle.menkhodur.proofs.menkhodur_fen_read.Reads as menkhodur-fen-read
 use Rattle.menkhodur.proofs.menkhodur_fen_read.Kinds as menkhodur-fen-read·k
+use Rattle.menkhodur.proofs.menkhodur_fen_page.Reads as menkhodur-fen-page
+use Rattle.menkhodur.proofs.menkhodur_fen_page.Kinds as menkhodur-fen-page·k
 use Rattle.menkhodur.proofs.menkhodur_fen_write.Reads as menkhodur-fen-write
 use Rattle.menkhodur.proofs.menkhodur_fen_write.Kinds as menkhodur-fen-write·k
 use Rattle.menkhodur.proofs.menkhodur_move_read.Reads as menkhodur-move-read
@@ -96,6 +98,15 @@ menkhodur-en-passant-answer κs a x y e f p q = p ∙ sym q
 
 pub menkhodur-fen-read-answer : OneAnswer menkhodur-fen-read·k.ps menkhodur-fen-read·k.r menkhodur-fen-read.Learnt
 menkhodur-fen-read-answer κs a x y e f p q = p ∙ sym q
+
+pub menkhodur-fen-page-answer : OneAnswer menkhodur-fen-page·k.ps menkhodur-fen-page·k.r menkhodur-fen-page.Learnt
+menkhodur-fen-page-answer κs a x y e f p q = p .0 ∙ sym (q .0)
+
+pub menkhodur-fen-page-records : OnePart menkhodur-fen-page·k.ps menkhodur-fen-page·k.r (λ κs x e. now (e .1 .0)) menkhodur-fen-page.Learnt
+menkhodur-fen-page-records κs a x y e f p q = p .1 .0 ∙ sym (q .1 .0)
+
+pub menkhodur-fen-page-numbers : OnePart menkhodur-fen-page·k.ps menkhodur-fen-page·k.r (λ κs x e. now (e .1 .1 .0)) menkhodur-fen-page.Learnt
+menkhodur-fen-page-numbers κs a x y e f p q = p .1 .1 ∙ sym (q .1 .1)
 
 pub menkhodur-fen-write-answer : OneAnswer menkhodur-fen-write·k.ps menkhodur-fen-write·k.r menkhodur-fen-write.Learnt
 menkhodur-fen-write-answer κs a x y e f p q = p .0 ∙ sym (q .0)

@@ -15,6 +15,7 @@ ghost use Rattle.square.specs.Square.{makeSquare};
 ghost use Rattle.castle_rights.specs.CastleRights.{addRights, removeRights, squareRights};
 ghost use Rattle.board_builder.specs.Steps.{setPiece, clearSquare, setSide, setRights, setEnPassant};
 ghost use Rattle.fen_text.specs.Read.{readFen};
+ghost use Rattle.fen_text.specs.Page.{pageAnswer, recordsLeft, toldLeft};
 ghost use Rattle.chess_move.specs.Coordinate.{readMove, moveText, moveCheck};
 ghost use Rattle.san_text.specs.Paper.{fromSan, nameAnswer, nameBytes};
 ghost use Rattle.san_text.specs.Standard.{fromSanStandard, standardNameAnswer, standardNameBytes};
@@ -101,6 +102,15 @@ pub extern "C" fn menkhodur_fen_read(text: &[u8]) -> Fen
     ensures { λ r. ⌜ r ≡ readFen (now (text .entry)) ⌝ }
 {
     fen_reader::read_fen(text)
+}
+
+#[no_mangle]
+pub extern "C" fn menkhodur_fen_page(text: &[u8], records: &mut [u8], numbers: &mut [u64]) -> Answer
+    ensures answer { λ r. ⌜ r ≡ pageAnswer (now (text .entry)) (length (now (records .entry))) (length (now (numbers .entry))) ⌝ }
+    ensures records { λ r. ⌜ now (records .exit) ≡ recordsLeft (now (text .entry)) (now (records .entry)) (length (now (numbers .entry))) ⌝ }
+    ensures numbers { λ r. ⌜ now (numbers .exit) ≡ toldLeft (now (text .entry)) (length (now (records .entry))) (now (numbers .entry)) ⌝ }
+{
+    fen_reader::page::read_page(text, records, numbers)
 }
 
 #[no_mangle]
