@@ -29,7 +29,7 @@ pub record Reached (text records₀ told₀ records told : List ℕ) (at line : 
   pub told-long : length told ≡ length told₀
   pub said : written told (toldSize * line) (pageTold (drop at text)) ≡ overwrite (pageTold text) told₀
 
-from-front : (l x : List ℕ) → written l 0 x ≡ overwrite x l
+pub from-front : (l x : List ℕ) → written l 0 x ≡ overwrite x l
 from-front l x = let e : 0 + length x ≡ length x = omega arith in ap (λ (k : ℕ). x ++ drop k l) e
 
 pub begun : (text records told : List ℕ) → Reached text records told records told 0 0

@@ -1,1 +1,3 @@
 pub mod KeyLine
+pub mod KeyPage
+pub mod Runs

@@ -1,112 +1,75 @@
 use borrow.Author.Needs.{needs}
-use mathlib.Core.Path.{_≡_, sym}
 use native.Mathlib.Omega.{arith}
-use Prim.Native.Nat.{_+_}
-use mathlib.Core.List.{_++_}
-use lib.ListN.{take, set, length-set}
+use mathlib.Core.Path.{_≡_, refl, sym, ap, _∙_}
+use mathlib.Core.List.{List, []}
+use Prim.Native.Nat.{ℕ, _<_, _+_, _≤_}
+use lib.ListN.{length, take, replicate}
 use lib.Seq.{length-take-le}
-use Rattle.fen_text.specs.Promises.{keyOf}
-use Rattle.key_line.specs.KeyLine.{newline}
-use Rattle.key_line.proofs.Lines.{kept, ended, line-accepted, line-refused}
+use Rattle.square.specs.Answer.{writeAnswer, writeBytes}
+use Rattle.square.proofs.Parts.{length-written}
+use Rattle.square.proofs.Written.{used-written}
+use Rattle.key_line.specs.declared.Lined.{Lined}
+use Rattle.key_line.specs.KeyLine.{keyLine}
+use Rattle.square.specs.Parts.{written}
 use Rattle.key_line.proofs.key_line.Statement.{statement}
 use Rattle.key_line.proofs.key_line.Tie as tie
+use Rattle.key_line.proofs.key_line.Reads as reads
+use Rattle.key_line.proofs.key_line.Lts as lts
+use Rattle.key_line.proofs.put_line.Reads as put-line-reads
+use Rattle.square.proofs.write_text.Reads as write-text-reads
 
-read-fen-requires : tie.Need-read-fen-requires
-read-fen-requires c κs = search needs
+-- src/lib.rt:82:30
+slice-aggregate-put-line : tie.Need-slice-aggregate-put-line
+slice-aggregate-put-line c = search needs
 
-write-refusal-requires : tie.Need-write-refusal-requires
-write-refusal-requires c κs = search needs
+-- src/lib.rt:82:9
+put-line-requires : tie.Need-put-line-requires
+put-line-requires c κs = search needs
 
-same-length : tie.Need-same-length
-same-length c = search needs
-
-returns : tie.Need-returns
-returns c =
-    let a = c .before .before .before .before .before .before .before .before .before .args in
-    let at-read-fen = c .before .before .before .before .before .before .read-fen in
-    let at-if1 = c .before .before .before .before .if1 in
-    let at-write-refusal = c .before .before .write-refusal in
-    rw (line-refused (a .line .now) (at-read-fen .result) (at-read-fen .ensures) (at-if1 .taken)) (at-write-refusal .ensures .0, at-write-refusal .ensures .1)
-
-slice-aggregate-write-fen : tie.Need-slice-aggregate-write-fen
-slice-aggregate-write-fen c = search needs
-
-write-fen-requires : tie.Need-write-fen-requires
-write-fen-requires c κs = search needs
-
-array-write-text : tie.Need-array-write-text
-array-write-text c =
-    let a = c .before .before .before .before .before .before .before .before .before .args in
-    let at-read-fen = c .before .before .before .before .before .before .read-fen in
-    let at-if1 = c .before .before .before .before .if1 in
-    let at-write-fen = c .before .write-fen in
-    let k = kept (a .line .now) (at-read-fen .result) (at-write-fen .result) (at-write-fen .last .1 .0) (at-read-fen .ensures) (at-if1 .left)
-    (at-write-fen .ensures .0) (at-write-fen .ensures .1) in
-    omega (arith, k .small)
-
-add-all : tie.Need-add-all
-add-all c =
-    let a = c .before .before .before .before .before .before .before .before .before .args in
-    let at-read-fen = c .before .before .before .before .before .before .read-fen in
-    let at-if1 = c .before .before .before .before .if1 in
-    let at-write-fen = c .before .write-fen in
-    let k = kept (a .line .now) (at-read-fen .result) (at-write-fen .result) (at-write-fen .last .1 .0) (at-read-fen .ensures) (at-if1 .left)
-    (at-write-fen .ensures .0) (at-write-fen .ensures .1) in
-    omega (arith, k .small)
-
+-- src/lib.rt:84:24
 array-share-prefix-text : tie.Need-array-share-prefix-text
-array-share-prefix-text c =
-    let a = c .before .before .before .before .before .before .before .before .before .args in
-    let at-read-fen = c .before .before .before .before .before .before .read-fen in
-    let at-if1 = c .before .before .before .before .if1 in
-    let at-write-fen = c .before .write-fen in
-    let k = kept (a .line .now) (at-read-fen .result) (at-write-fen .result) (at-write-fen .last .1 .0) (at-read-fen .ensures) (at-if1 .left)
-    (at-write-fen .ensures .0) (at-write-fen .ensures .1) in
-    simp length-set (omega (arith, k .small, k .long))
+array-share-prefix-text c = 
+    let n : c .before .put-line .result .ready ≡ 0 + length (keyLine (c .before .before .before .before .before .args .line .now)) = ap (λ (x : Lined). x .ready) (c .before .put-line .ensures .0) in
+    let all : length (c .before .put-line .last .1 .0) ≡ 86 =
+    ap length (c .before .put-line .ensures .1 .0) ∙ length-written (replicate 86 0) 0 (keyLine (c .before .before .before .before .before .args .line .now)) (omega (arith, c .before .put-line .ensures .1 .1)) in
+    omega (arith, c .before .put-line .ensures .1 .1)
 
+-- src/lib.rt:84:24
 slice-aggregate-write-text : tie.Need-slice-aggregate-write-text
-slice-aggregate-write-text c =
-    let a = c .before .before .before .before .before .before .before .before .before .before .args in
-    let at-read-fen = c .before .before .before .before .before .before .before .read-fen in
-    let at-if1 = c .before .before .before .before .before .if1 in
-    let at-write-fen = c .before .before .write-fen in
-    let k = kept (a .line .now) (at-read-fen .result) (at-write-fen .result) (at-write-fen .last .1 .0) (at-read-fen .ensures) (at-if1 .left)
-    (at-write-fen .ensures .0) (at-write-fen .ensures .1) in
-    sym (length-take-le _ _ (simp length-set (omega (arith, k .small, k .long))))
+slice-aggregate-write-text c = 
+    let n : c .before .before .put-line .result .ready ≡ 0 + length (keyLine (c .before .before .before .before .before .before .args .line .now)) = ap (λ (x : Lined). x .ready) (c .before .before .put-line .ensures .0) in
+    let all : length (c .before .before .put-line .last .1 .0) ≡ 86 =
+    ap length (c .before .before .put-line .ensures .1 .0) ∙ length-written (replicate 86 0) 0 (keyLine (c .before .before .before .before .before .before .args .line .now)) (omega (arith, c .before .before .put-line .ensures .1 .1)) in
+    sym (length-take-le _ _ (omega (arith, c .before .before .put-line .ensures .1 .1)))
 
+-- src/lib.rt:84:5
 write-text-requires : tie.Need-write-text-requires
 write-text-requires c κs = search needs
 
-same-length-2 : tie.Need-same-length-2
-same-length-2 c = search needs
+-- src/lib.rt:77:1
+same-length : tie.Need-same-length
+same-length c = search needs
 
-returns-2 : tie.Need-returns-2
-returns-2 c =
-    let a = c .before .before .before .before .before .before .before .before .before .before .before .before .before .before .args in
-    let at-read-fen = c .before .before .before .before .before .before .before .before .before .before .before .read-fen in
-    let at-if1 = c .before .before .before .before .before .before .before .before .before .if1 in
-    let at-write-fen = c .before .before .before .before .before .before .write-fen in
-    let at-write-text = c .before .before .write-text in
-    let k = kept (a .line .now) (at-read-fen .result) (at-write-fen .result) (at-write-fen .last .1 .0) (at-read-fen .ensures) (at-if1 .left)
-    (at-write-fen .ensures .0) (at-write-fen .ensures .1) in
-    let text : keyOf (a .line .now) ++ newline ≡ take (at-write-fen .result .value + 1) (set (at-write-fen .last .1 .0) (at-write-fen .result .value) 10) =
-    sym (ended _ _ _ k) in
-    rw (line-accepted (a .line .now) (at-read-fen .result) (at-read-fen .ensures) (at-if1 .left), text) (at-write-text .ensures .0, at-write-text .ensures .1)
+-- src/lib.rt:77:1
+returns : tie.Need-returns
+returns c = 
+    let s = c .before .before .before .before .before .before .before .before .before .before .args .line .now in
+    let n : c .before .before .before .before .before .before .put-line .result .ready ≡ 0 + length (keyLine s) = ap (λ (x : Lined). x .ready) (c .before .before .before .before .before .before .put-line .ensures .0) in
+    let text : take (c .before .before .before .before .before .before .put-line .result .ready) (c .before .before .before .before .before .before .put-line .last .1 .0) ≡ keyLine s =
+    ap (λ (l : List ℕ). take (c .before .before .before .before .before .before .put-line .result .ready) l) (c .before .before .before .before .before .before .put-line .ensures .1 .0)
+    ∙ ap (λ (k : ℕ). take k (written (replicate 86 0) 0 (keyLine s))) n
+    ∙ used-written (replicate 86 0) (keyLine s) [] 0 refl refl in
+    (c .before .before .write-text .ensures .0 ∙ ap (λ (t : List ℕ). writeAnswer 0 t (length (c .before .before .before .before .before .before .before .before .before .before .args .out .now))) text,
+    c .before .before .write-text .ensures .1 ∙ ap (λ (t : List ℕ). writeBytes 0 t (c .before .before .before .before .before .before .before .before .before .before .args .out .now)) text)
 
 pub key-line-spec : {M : Type 1} → statement M
 key-line-spec =
     tie.close
     (tie.spec
-    read-fen-requires
-    write-refusal-requires
-    same-length
-    returns
-    slice-aggregate-write-fen
-    write-fen-requires
-    array-write-text
-    add-all
+    slice-aggregate-put-line
+    put-line-requires
     array-share-prefix-text
     slice-aggregate-write-text
     write-text-requires
-    same-length-2
-    returns-2)
+    same-length
+    returns)
