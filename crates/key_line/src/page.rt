@@ -2,6 +2,7 @@
 use crate::LONGEST;
 use crate::put_line;
 ghost use mathlib.Core.Path.{_≡_};
+ghost use Prim.Native.Nat.{_≤_};
 ghost use lib.ListN.{length};
 ghost use Rattle.key_line.specs.KeyPage.{keyPage, keyRoom};
 
@@ -17,6 +18,7 @@ pub struct Paged {
 pub fn key_page(text: &[u8], out: &mut [u8]) -> Paged
     ensures answer { λ r. ⌜ r ≡ keyPage (now (text .entry)) (length (now (out .entry))) ⌝ }
     ensures bytes { λ r. ⌜ now (out .exit) ≡ keyRoom (now (text .entry)) (now (out .entry)) ⌝ }
+    ensures within { λ r. ⌜ (r .taken ≤ length (now (text .entry))) × (r .ready ≤ length (now (out .entry))) ⌝ }
 {
     let mut taken: usize = 0;
     let mut ready: usize = 0;

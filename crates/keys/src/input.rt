@@ -1,44 +1,72 @@
 // Inputs, read page by page and split into lines.
-use crate::line::newline_at;
 use crate::output::Run;
+use crate::output::counted;
 use crate::output::flush;
 use crate::output::flush_if;
 use crate::output::put_line;
 use crate::output::put_long;
+use crate::output::with_room;
 use crate::tell;
+use fen_reader::lines::line_end;
+use key_line::page::key_page;
 ghost use Prim.Native.Nat.{_+_, _≤_, _<_};
 ghost use lib.ListN.{length};
 
-fn put(line: &[u8], out: &mut [u8], run: Run) -> Run
-    requires { ⌜ run .ready ≤ length (now out) ⌝ }
-    ensures { λ r. ⌜ r .ready ≤ length (now (out .entry)) ⌝ }
-{
-    if run.long {
-        return put_long(out, run);
-    }
-    put_line(line, out, run)
-}
-
-// Puts every ended line of the input's first `end` bytes. The run's `held` is then where the line that is not ended begins.
-fn put_lines(input: &[u8], end: usize, out: &mut [u8], run: Run) -> Run
+// Puts every ended line of the input's bytes from `from` to `end`. The run's `held` is then where the line that is not ended begins.
+fn put_lines(input: &[u8], from: usize, end: usize, out: &mut [u8], run: Run) -> Run
+    requires { ⌜ from ≤ end ⌝ }
     requires { ⌜ end ≤ length (now input) ⌝ }
     requires { ⌜ run .ready ≤ length (now out) ⌝ }
     ensures ready { λ r. ⌜ r .ready ≤ length (now (out .entry)) ⌝ }
     ensures held { λ r. ⌜ r .held ≤ end ⌝ }
 {
     let mut next = run;
-    let mut at: usize = 0;
+    let mut at = from;
     while at < end {
-        let stop = newline_at(input, at, end);
-        if stop == end {
-            next.held = at;
+        next = with_room(out, next);
+        next.held = at;
+        if next.output_failed {
             return next;
         }
-        next = put(&input[at..stop], out, next);
-        at = stop + 1;
+        let ready = next.ready;
+        let page = key_page(&input[at..end], &mut out[ready..]);
+        if page.taken == 0 {
+            return next;
+        }
+        next = counted(next, page.ready, page.accepted, page.refused, out);
+        at += page.taken;
     }
     next.held = end;
     next
+}
+
+// The rest of a line that did not fit the input's room is passed over, and told once its end is there.
+fn put_after_long(input: &[u8], end: usize, out: &mut [u8], run: Run) -> Run
+    requires { ⌜ end ≤ length (now input) ⌝ }
+    requires { ⌜ run .ready ≤ length (now out) ⌝ }
+    ensures ready { λ r. ⌜ r .ready ≤ length (now (out .entry)) ⌝ }
+    ensures held { λ r. ⌜ r .held ≤ end ⌝ }
+{
+    let stop = line_end(&input[..end], 0);
+    if end <= stop {
+        let mut next = run;
+        next.held = end;
+        return next;
+    }
+    put_lines(input, stop + 1, end, out, put_long(out, run))
+}
+
+// Puts every ended line of the input's first `end` bytes.
+fn put_ended(input: &[u8], end: usize, out: &mut [u8], run: Run) -> Run
+    requires { ⌜ end ≤ length (now input) ⌝ }
+    requires { ⌜ run .ready ≤ length (now out) ⌝ }
+    ensures ready { λ r. ⌜ r .ready ≤ length (now (out .entry)) ⌝ }
+    ensures held { λ r. ⌜ r .held ≤ end ⌝ }
+{
+    if run.long {
+        return put_after_long(input, end, out, run);
+    }
+    put_lines(input, 0, end, out, run)
 }
 
 // Moves the bytes from `from` to `end` to the front.
@@ -62,7 +90,7 @@ fn put_page(input: &mut [u8], more: usize, out: &mut [u8], run: Run) -> Run
     ensures held { λ r. ⌜ r .held < length (now (input .entry)) ⌝ }
 {
     let end = run.held + more;
-    let mut next = put_lines(input, end, out, run);
+    let mut next = put_ended(input, end, out, run);
     let from = next.held;
     let left = end - from;
     next.held = 0;

@@ -2,7 +2,6 @@
 // refusal and where the line is wrong. `--help` says more.
 mod help;
 mod input;
-mod line;
 mod options;
 mod output;
 mod tell;

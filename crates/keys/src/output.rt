@@ -1,13 +1,11 @@
 // The lines that wait for standard output, and what is counted of them.
-use crate::line::newline_at;
 use crate::tell;
+use fen_reader::lines::line_end;
+use key_line::LONGEST;
 use libc::STDOUT_FILENO;
 ghost use mathlib.Core.Path.{_≡_};
 ghost use Prim.Native.Nat.{_+_, _≤_};
 ghost use lib.ListN.{length};
-
-// The longest line that is written: a key of 85 bytes and a newline.
-const LONGEST: usize = 86;
 
 // How often the number of lines is told on standard error.
 const TOLD: u64 = 1_000_000;
@@ -70,7 +68,7 @@ fn without_cut(out: &[u8], done: usize, ready: usize, run: Run) -> Run
     let mut next = run;
     let mut at: usize = 0;
     while at < ready {
-        let stop = newline_at(out, at, ready);
+        let stop = line_end(&out[..ready], at);
         if stop == ready {
             return next;
         }
@@ -118,7 +116,7 @@ pub(crate) fn flush_if(is_short: bool, out: &[u8], run: Run) -> Run
 }
 
 // Makes room for one more line in `out`.
-fn with_room(out: &[u8], run: Run) -> Run
+pub(crate) fn with_room(out: &[u8], run: Run) -> Run
     requires { ⌜ run .ready ≤ length (now out) ⌝ }
     ensures { λ r. ⌜ r .ready ≤ length (now (out .entry)) ⌝ }
 {
@@ -140,21 +138,24 @@ fn taken(answer: square::Answer, room: usize) -> usize
     }
 }
 
-// The run with `n` bytes more in `out`, a line's.
-fn counted(run: Run, n: usize, is_key: bool, out: &[u8]) -> Run
+// The largest multiple of a million that is not over a number of lines.
+fn told(lines: u64) -> u64 {
+    lines - lines % TOLD
+}
+
+// The run with `n` bytes more in `out`, the lines of so many texts accepted and refused.
+pub(crate) fn counted(run: Run, n: usize, accepted: u64, refused: u64, out: &[u8]) -> Run
     requires { ⌜ run .ready + n ≤ length (now out) ⌝ }
     ensures { λ r. ⌜ r .ready ≤ length (now (out .entry)) ⌝ }
 {
     let mut next = run;
     next.ready = run.ready + n;
-    next.lines = std::num::wrapping_add_u64(run.lines, 1);
-    if next.lines % TOLD == 0 {
-        tell::progress(next.lines);
-    }
-    if is_key {
-        next.accepted = std::num::wrapping_add_u64(run.accepted, 1);
-    } else {
-        next.refused = std::num::wrapping_add_u64(run.refused, 1);
+    next.accepted = std::num::wrapping_add_u64(run.accepted, accepted);
+    next.refused = std::num::wrapping_add_u64(run.refused, refused);
+    next.lines = std::num::wrapping_add_u64(run.lines, std::num::wrapping_add_u64(accepted, refused));
+    let reached = told(next.lines);
+    if reached != told(run.lines) {
+        tell::progress(reached);
     }
     next
 }
@@ -167,7 +168,7 @@ fn is_key(out: &[u8], at: usize) -> bool {
     false
 }
 
-// One line of input, one line of output.
+// A last line that no newline ends.
 pub(crate) fn put_line(line: &[u8], out: &mut [u8], run: Run) -> Run
     requires { ⌜ run .ready ≤ length (now out) ⌝ }
     ensures { λ r. ⌜ r .ready ≤ length (now (out .entry)) ⌝ }
@@ -179,7 +180,11 @@ pub(crate) fn put_line(line: &[u8], out: &mut [u8], run: Run) -> Run
     let ready = run.ready;
     let room = out.len() - ready;
     let answer = key_line::key_line(line, &mut out[ready..]);
-    counted(run, taken(answer, room), is_key(out, ready), out)
+    let n = taken(answer, room);
+    if is_key(out, ready) {
+        return counted(run, n, 1, 0, out);
+    }
+    counted(run, n, 0, 1, out)
 }
 
 // A line that did not fit the input's room.
@@ -194,7 +199,7 @@ pub(crate) fn put_long(out: &mut [u8], run: Run) -> Run
     let ready = run.ready;
     let room = out.len() - ready;
     let answer = square::write_text(b"! long\n", &mut out[ready..]);
-    let mut next = counted(run, taken(answer, room), false, out);
+    let mut next = counted(run, taken(answer, room), 0, 1, out);
     next.long = false;
     next
 }

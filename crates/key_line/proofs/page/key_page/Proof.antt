@@ -8,6 +8,7 @@ use Rattle.fen_text.specs.Lines.{lineFeed, lineEnd}
 use Rattle.fen_text.proofs.Lines.{place-at-most}
 use Rattle.key_line.proofs.Going.{Gone, none-yet, none-goes, left-unended, page-answer, page-room, one-at-most, put-key, counts-fit, one-more}
 use Rattle.key_line.proofs.Going.{Gone, none-yet, none-goes, left-unended, page-answer, page-room, one-at-most, put-key, counts-fit, one-more}
+use Rattle.key_line.proofs.Going.{Gone, none-yet, none-goes, left-unended, page-answer, page-room, one-at-most, put-key, counts-fit, one-more}
 use Rattle.key_line.proofs.page.key_page.Statement.{statement}
 use Rattle.key_line.proofs.page.key_page.Tie as tie
 use Rattle.key_line.proofs.page.key_page.Reads as reads
@@ -41,7 +42,7 @@ same-length c = c .before .before .before .loop .inv .long
 returns : tie.Need-returns Inv-loop μ-loop
 returns c = 
     let none = left-unended (c .before .before .before .before .before .before .args .text .now) (c .before .before .before .loop .taken) (c .before .line-end .result) (length (c .before .before .before .before .before .before .args .out .now) - c .before .before .before .loop .ready) (c .before .before .before .loop .inv .inside) (c .before .line-end .ensures) (c .if1 .taken) in
-    (page-answer (c .before .before .before .before .before .before .args .text .now) (c .before .before .before .before .before .before .args .out .now) (c .before .before .before .loop .out) (c .before .before .before .loop .taken) (c .before .before .before .loop .ready) (c .before .before .before .loop .accepted) (c .before .before .before .loop .refused) (c .before .before .before .loop .inv) none, page-room (c .before .before .before .before .before .before .args .text .now) (c .before .before .before .before .before .before .args .out .now) (c .before .before .before .loop .out) (c .before .before .before .loop .taken) (c .before .before .before .loop .ready) (c .before .before .before .loop .accepted) (c .before .before .before .loop .refused) (c .before .before .before .loop .inv) none)
+    (page-answer (c .before .before .before .before .before .before .args .text .now) (c .before .before .before .before .before .before .args .out .now) (c .before .before .before .loop .out) (c .before .before .before .loop .taken) (c .before .before .before .loop .ready) (c .before .before .before .loop .accepted) (c .before .before .before .loop .refused) (c .before .before .before .loop .inv) none, (page-room (c .before .before .before .before .before .before .args .text .now) (c .before .before .before .before .before .before .args .out .now) (c .before .before .before .loop .out) (c .before .before .before .loop .taken) (c .before .before .before .loop .ready) (c .before .before .before .loop .accepted) (c .before .before .before .loop .refused) (c .before .before .before .loop .inv) none, (c .before .before .before .loop .inv .inside, c .before .before .before .loop .inv .within)))
 
 -- src/page.rt:35:28
 sub-put-line : tie.Need-sub-put-line Inv-loop μ-loop
@@ -97,7 +98,7 @@ same-length-2 c = c .before .loop .inv .long
 returns-2 : tie.Need-returns-2 Inv-loop μ-loop
 returns-2 c = 
     let none = none-goes (length (c .before .before .before .before .args .out .now) - c .before .loop .ready) _ (omega (arith, c .loop-test .left, c .before .loop .inv .long)) in
-    (page-answer (c .before .before .before .before .args .text .now) (c .before .before .before .before .args .out .now) (c .before .loop .out) (c .before .loop .taken) (c .before .loop .ready) (c .before .loop .accepted) (c .before .loop .refused) (c .before .loop .inv) none, page-room (c .before .before .before .before .args .text .now) (c .before .before .before .before .args .out .now) (c .before .loop .out) (c .before .loop .taken) (c .before .loop .ready) (c .before .loop .accepted) (c .before .loop .refused) (c .before .loop .inv) none)
+    (page-answer (c .before .before .before .before .args .text .now) (c .before .before .before .before .args .out .now) (c .before .loop .out) (c .before .loop .taken) (c .before .loop .ready) (c .before .loop .accepted) (c .before .loop .refused) (c .before .loop .inv) none, (page-room (c .before .before .before .before .args .text .now) (c .before .before .before .before .args .out .now) (c .before .loop .out) (c .before .loop .taken) (c .before .loop .ready) (c .before .loop .accepted) (c .before .loop .refused) (c .before .loop .inv) none, (c .before .loop .inv .inside, c .before .loop .inv .within)))
 
 pub key-page-spec : {M : Type 1} → statement M
 key-page-spec =
