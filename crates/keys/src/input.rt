@@ -53,7 +53,8 @@ fn put_after_long(input: &[u8], end: usize, out: &mut [u8], run: Run) -> Run
         next.held = end;
         return next;
     }
-    put_lines(input, stop + 1, end, out, put_long(out, run))
+    let next = put_long(out, run);
+    put_lines(input, stop + 1, end, out, next)
 }
 
 // Puts every ended line of the input's first `end` bytes.
