@@ -1,9 +1,9 @@
 /* The host's side of target/staticlib/libmenkhodur.a, for C (from C99) and C++ (from C++11).
  *
  * Numbers, records, moves, logs and texts are those of docs/papers/01-scope.md ("document 01"), rolls, the refusals of FEN texts, the
- * offsets in texts, the ruling of the Laws and the standard's form of SAN those of docs/papers/02-change-requests.md ("document 02"); the
- * names and the order of the parameters are those of docs/papers/HOST-ABI.md. tools/abi compares them, and the constants below, with the
- * crates.
+ * offsets in texts, the ruling of the Laws, the standard's form of SAN and pages of FENs those of docs/papers/02-change-requests.md
+ * ("document 02"); the names and the order of the parameters are those of docs/papers/HOST-ABI.md. tools/abi compares them, and the
+ * constants below, with the crates.
  *
  * What every function does: it answers for every value of its numbers, it ends, it keeps nothing between calls and allocates
  * nothing, and it reads and writes only what it was lent. A refused call (a number other than 0) changes no lent byte.
@@ -15,9 +15,10 @@
  * (docs/SPEED.md has 10 for a query after 1,024 moves).
  *
  * What a caller owes:
- *   - A pointer is valid for its length: readable, and writable where it is not const. `room` and the lengths of parts, texts
- *     and rolls count bytes, `entries` counts moves.
- *   - A `const uint16_t *` list is aligned to 2 bytes. Parts, texts and rolls are bytes and need no alignment.
+ *   - A pointer is valid for its length: readable, and writable where it is not const. `room` and the lengths of parts, texts, rolls
+ *     and records count bytes, `entries` counts moves, `numbers_length` counts numbers.
+ *   - A `const uint16_t *` list is aligned to 2 bytes, a `uint64_t *` room of numbers to 8. Parts, texts, rolls and records are bytes and
+ *     need no alignment.
  *   - What a call only reads (its const pointers) may overlap, or be the same memory. What it may write (a room, a part that is not
  *     const) overlaps nothing else that is lent to it.
  *   - NULL with length 0 is an empty text, list, part, roll or room. This was tried for each of them (host/c/nulls.c): each works, and
@@ -31,7 +32,7 @@
 
 /* Rises by one with each landing that adds or changes a function. CHANGELOG.md tells what a host must change, and a struct that has
  * changed says beside it since which version it is so. */
-#define MENKHODUR_VERSION 6
+#define MENKHODUR_VERSION 7
 
 #ifdef __cplusplus
 extern "C" {
@@ -45,7 +46,7 @@ enum {
     MENKHODUR_INVALID_SAN_MOVE = 4,
     MENKHODUR_OUT_OF_RANGE = 5,     /* a record number, square, rank, file, colour, rights number or in-check byte */
     MENKHODUR_BAD_LIST = 6,         /* list over 255, or an entry (or the coordinate writer's move) over 28,671 */
-    MENKHODUR_OUTPUT_TOO_SHORT = 7, /* the value is the length needed */
+    MENKHODUR_OUTPUT_TOO_SHORT = 7, /* the value is the length needed; of a page, its lines */
     MENKHODUR_NO_NAME = 8,          /* no text names the move */
     MENKHODUR_NOT_GOOD = 9,         /* log not good, or a count over its limit */
     MENKHODUR_GAME_OVER = 10,
@@ -190,6 +191,12 @@ enum {
     MENKHODUR_LONGEST_ROLL = 5190
 };
 
+/* What a page of FENs takes of its two rooms for each line. */
+enum {
+    MENKHODUR_PAGE_RECORD = 68, /* bytes: a record, in the order of menkhodur_board */
+    MENKHODUR_PAGE_NUMBERS = 2  /* the answer's number, then its offset */
+};
+
 /* The board record: 68 numbers in document 01's order. A square is a rank of 0 to 7 times 8 plus a file of 0 to 7, a1 = 0. */
 typedef struct {
     uint8_t pieces[64];          /* men: 0 empty, 1..6 white pawn knight bishop rook queen king, 7..12 black */
@@ -199,7 +206,8 @@ typedef struct {
     uint8_t en_passant;          /* 0 none, 1..8 files a..h */
 } menkhodur_board;
 
-/* `value` is the answer of number 0, the length needed of number 7, and 0 of every other number. */
+/* `value` is the answer of number 0, the length needed of number 7, and 0 of every other number. Of a page it is the number of lines, with
+ * either of its two numbers. */
 typedef struct { uint64_t number; uint64_t value; } menkhodur_answer;
 /* The same of a text; `offset` is the place in it of what is wrong, and 0 of number 0. Since version 4 this is the answer of
  * menkhodur_move_read; until then it was a menkhodur_answer. */
@@ -294,6 +302,17 @@ menkhodur_fen menkhodur_fen_read(const uint8_t *text, size_t length);
  * left alone. Refused, in this order: 5: a record number out of range; 7: `room` is shorter than the text, whose length is the value.
  * A refused call leaves all of `out` alone. */
 menkhodur_answer menkhodur_fen_write(menkhodur_board b, uint8_t *out, size_t room);
+
+/* Reads a page of FEN texts, one a line: each as menkhodur_fen_read reads it by itself. A newline byte (10) ends a line and belongs to none;
+ * a last line without one counts if it has a byte in it, so that an empty text has no line and a newline alone has an empty one. No other
+ * byte ends a line: of a line that ends in CR and LF, the CR is the last byte.
+ * 0: the value is the number of lines. Line i, counted from 0, has its record in the 68 bytes of `records` from 68 * i on, 68 zeros if it is
+ * refused; its own number, 0, 18, 19 or 20, in numbers[2 * i]; and its offset, from the line's start and 0 if it is accepted, in
+ * numbers[2 * i + 1]. A refused line does not refuse the page. The bytes and numbers behind the last line's are left alone.
+ * Refused: 7: `records` has fewer than 68 bytes a line, or `numbers` fewer than two numbers a line; the value is the number of lines, and
+ * both rooms are left alone: so a call with two empty rooms counts. The text is left alone. */
+menkhodur_answer menkhodur_fen_page(const uint8_t *text, size_t length, uint8_t *records, size_t records_length,
+                                    uint64_t *numbers, size_t numbers_length);
 
 /* ---- Move texts --------------------------------------------------------------------------------------------------------------- */
 /* A move is a number as MENKHODUR_MOVE makes it, at most 28,671. */

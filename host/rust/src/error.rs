@@ -41,6 +41,11 @@ pub enum Error {
         /// How many bytes the text or the roll has.
         needed: usize,
     },
+    /// 7 too, of a page of FEN texts: one of its two rooms is too short.
+    PageTooShort {
+        /// How many lines the page has.
+        lines: usize,
+    },
     /// 8: no SAN text is read as this move, given this list.
     NoName,
     /// 9: no sequence of accepted calls makes this log, or a count is over its limit.
@@ -98,7 +103,7 @@ impl Error {
             Error::InvalidSanMove => 4,
             Error::OutOfRange => 5,
             Error::ListOutOfRange => 6,
-            Error::OutputTooShort { .. } => 7,
+            Error::OutputTooShort { .. } | Error::PageTooShort { .. } => 7,
             Error::NoName => 8,
             Error::LogNotGood => 9,
             Error::GameOver => 10,
@@ -181,6 +186,7 @@ impl Error {
             Error::OutOfRange => "a number of the board, a square, rank, file, colour, rights number or in-check byte is out of range",
             Error::ListOutOfRange => "the list has more than 255 moves, or a move's number is over 28,671",
             Error::OutputTooShort { .. } => "the room for the text or the roll is too short",
+            Error::PageTooShort { .. } => "the room for the page's records or that for its numbers is too short",
             Error::NoName => "no text names this move among the listed ones",
             Error::LogNotGood => "no sequence of accepted calls makes this log, or a count is over its limit",
             Error::GameOver => "the game is over",
@@ -204,6 +210,9 @@ impl fmt::Display for Error {
         f.write_str(self.meaning())?;
         if let Error::OutputTooShort { needed } = self {
             write!(f, ", {needed} bytes are needed")?;
+        }
+        if let Error::PageTooShort { lines } = self {
+            write!(f, ", its lines are {lines}")?;
         }
         if let Some(offset) = self.offset() {
             write!(f, ", at byte {offset}")?;
@@ -257,6 +266,13 @@ mod tests {
         assert_eq!(error, Error::OutputTooShort { needed: 85 });
         assert_eq!(error.to_string(), "the room for the text or the roll is too short, 85 bytes are needed (answer 7)");
         assert_eq!(error.offset(), None);
+    }
+
+    #[test]
+    fn the_lines_of_a_page_are_kept_and_told() {
+        let error = Error::PageTooShort { lines: 3 };
+        assert_eq!((error.number(), error.offset()), (7, None));
+        assert_eq!(error.to_string(), "the room for the page's records or that for its numbers is too short, its lines are 3 (answer 7)");
     }
 
     #[test]

@@ -90,6 +90,12 @@ impl Answer {
     pub(crate) fn judged(self) -> Result<u64, Error> {
         Error::judge(self.number, self.value).map(|()| self.value)
     }
+
+    /// Of a page: a refusal tells how many lines there are, not a length.
+    pub(crate) fn judged_page(self) -> Result<u64, Error> {
+        // A text that was lent has at most as many lines as bytes, so nothing is cut here on any target.
+        if self.number == 7 { Err(Error::PageTooShort { lines: self.value as usize }) } else { self.judged() }
+    }
 }
 
 impl Placed {
@@ -147,6 +153,14 @@ unsafe extern "C" {
 
     pub(crate) fn menkhodur_fen_read(text: *const u8, length: usize) -> Fen;
     pub(crate) fn menkhodur_fen_write(board: Board, out: *mut u8, room: usize) -> Answer;
+    pub(crate) fn menkhodur_fen_page(
+        text: *const u8,
+        length: usize,
+        records: *mut u8,
+        records_length: usize,
+        numbers: *mut u64,
+        numbers_length: usize,
+    ) -> Answer;
 
     pub(crate) fn menkhodur_move_read(text: *const u8, length: usize) -> Placed;
     pub(crate) fn menkhodur_move_write(number: u64, out: *mut u8, room: usize) -> Answer;

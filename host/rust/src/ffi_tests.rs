@@ -105,6 +105,23 @@ fn a_refused_fen_is_all_zeros_and_an_accepted_one_has_no_offset() {
 }
 
 #[test]
+fn a_page_has_its_lines_as_value_accepted_or_refused() {
+    let text = b"8/8 w -\nK b - e3\n9 w - -";
+    for (bytes, told, number) in [(204, 6, 0), (205, 7, 0), (203, 6, 7), (204, 5, 7), (0, 0, 7)] {
+        let (mut records, mut numbers) = ([0xA5; 205], [9; 7]);
+        // SAFETY: each pointer and length are those of one slice or of its front, and the two that are written are borrowed mutably.
+        let answer = unsafe { menkhodur_fen_page(text.as_ptr(), text.len(), records.as_mut_ptr(), bytes, numbers.as_mut_ptr(), told) };
+        assert_eq!((answer.number, answer.value), (number, 3));
+        if number == 0 {
+            assert_eq!((numbers[..6].to_vec(), records[68 + 56], records[68 + 67]), (vec![18, 7, 0, 0, 19, 0], 6, 5));
+            assert_eq!((numbers[6], records[204]), (9, 0xA5));
+        } else {
+            assert_eq!((numbers, records), ([9; 7], [0xA5; 205]));
+        }
+    }
+}
+
+#[test]
 fn a_coordinate_text_has_a_value_or_an_offset() {
     let refused = [(&b"z9e4"[..], 2, 0), (b"e9e4", 2, 1), (b"e2z9", 2, 2), (b"e2e9", 2, 3), (b"z", 3, 1), (b"e2e", 3, 3), (b"e2e4k", 3, 4)];
     let accepted = [(&b"a1a1"[..], 0), (b"e2e4", 1_804), (b"e2e4q", 22_284), (b"e2e4kx", 1_804)];

@@ -37,6 +37,10 @@ pub const CLAIM_COUNT: usize = 100;
 pub const ACTIONS_PART: usize = MAX_ACTIONS * ACTION_BYTES;
 /// The length that the part of the positions must have: a start and one after each move.
 pub const POSITIONS_PART: usize = (MAX_MOVES + 1) * POSITION_BYTES;
+/// The bytes of a page's room of records that each line has: a [`Record`].
+pub const PAGE_RECORD: usize = 68;
+/// The numbers of a page's other room that each line has: the answer's number, then its offset.
+pub const PAGE_NUMBERS: usize = 2;
 /// The most bytes that a roll has: the record's, two of the count, one of each action, and three more of each move.
 pub const MAX_ROLL: usize = 68 + 2 + MAX_ACTIONS + 3 * MAX_MOVES;
 
@@ -218,6 +222,28 @@ pub fn fen_read(text: &[u8]) -> Result<Record, Error> {
 pub fn fen_write(record: &Record, out: &mut [u8]) -> Result<usize, Error> {
     // SAFETY: pointer and length are those of one slice, borrowed mutably for the call; nothing else that is passed points into it.
     length(unsafe { ffi::menkhodur_fen_write(ffi::Board::of(record), out.as_mut_ptr(), out.len()) })
+}
+
+/// Reads a page of FEN texts, one a line, and gives the number of lines. Each has the next 68 bytes of `records`, its record, or zeros if
+/// it is refused, and the next two of `numbers`, its answer number and its offset from the line's start, as [`fen_read`] gives them for the
+/// line alone; what lies behind the last line's is left alone. A newline byte ends a line; an unended last line counts if it has a byte in
+/// it. Refused: 7, with the number of lines, if either room is too short. [`Page`](crate::Page) has the same in types.
+///
+/// ```
+/// use menkhodur::{Error, lent};
+///
+/// let (mut records, mut numbers) = ([9; 137], [9; 5]);
+/// assert_eq!(lent::fen_page(b"8/8 w -\nK b - e3", &mut records, &mut numbers), Ok(2));
+/// assert_eq!(numbers, [18, 7, 0, 0, 9]);
+/// assert_eq!((&records[..68], &records[68 + 56..]), (&[0; 68][..], &[6, 0, 0, 0, 0, 0, 0, 0, 1, 0, 0, 5, 9][..]));
+/// assert_eq!(lent::fen_page(b"\n\n", &mut records, &mut numbers[..3]), Err(Error::PageTooShort { lines: 2 }));
+/// ```
+pub fn fen_page(text: &[u8], records: &mut [u8], numbers: &mut [u64]) -> Result<usize, Error> {
+    let (bytes, told) = (records.len(), numbers.len());
+    // SAFETY: each pointer and length are those of one slice, the numbers' of aligned `u64`. Both rooms are borrowed mutably for the call,
+    // so that they overlap neither each other nor the text.
+    let answer = unsafe { ffi::menkhodur_fen_page(text.as_ptr(), text.len(), records.as_mut_ptr(), bytes, numbers.as_mut_ptr(), told) };
+    answer.judged_page().map(|lines| lines as usize)
 }
 
 /// The number of the move that a coordinate text says. Refused: 2, 3, with the place in the text.
@@ -530,7 +556,8 @@ pub fn roll_read(roll: &[u8], actions: &mut [u8]) -> Result<Rolled, Error> {
     unsafe { ffi::menkhodur_roll_read(roll.as_ptr(), roll.len(), actions.as_mut_ptr(), actions.len()) }.judged()
 }
 
-// The contracts bound the values: squares to 63, rights to 3, results to 7, moves to 28,671, lengths to 5,190. The casts cut nothing.
+// The contracts bound the values: squares to 63, rights to 3, results to 7, moves to 28,671, lengths to 5,190,
+// the lines of a page to the bytes of its text. The casts cut nothing.
 
 fn byte(answer: ffi::Answer) -> Result<u8, Error> {
     answer.judged().map(|value| value as u8)

@@ -7,6 +7,7 @@ mod keys;
 mod laws;
 mod load;
 mod must_use;
+mod page;
 mod paper;
 mod refused;
 mod refused_logs;
