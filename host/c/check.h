@@ -69,6 +69,7 @@ uint64_t first_of(unsigned faults, const uint64_t *numbers);
 void check_base(void);
 void check_steps(void);
 void check_fen(const char *positions);
+void check_page(const char *positions);
 void check_coordinates(void);
 void check_san(void);
 void check_standard(void);

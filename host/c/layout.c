@@ -154,6 +154,7 @@ static void check_lengths(void)
     expect("position", MENKHODUR_POSITION_SIZE, MENKHODUR_POSITION_MOVES + 2 * MENKHODUR_LONGEST_LIST);
     expect("actions", MENKHODUR_ACTIONS_LENGTH, MENKHODUR_ACTION_SIZE * MENKHODUR_MAX_ACTIONS);
     expect("positions", MENKHODUR_POSITIONS_LENGTH, MENKHODUR_POSITION_SIZE * (MENKHODUR_MAX_MOVES + 1));
+    expect("record of a line", MENKHODUR_PAGE_RECORD, sizeof(menkhodur_board));
     expect("roll", MENKHODUR_LONGEST_ROLL, sizeof(menkhodur_board) + 2 + 4 * MENKHODUR_MAX_MOVES + (MENKHODUR_MAX_ACTIONS - MENKHODUR_MAX_MOVES));
 }
 

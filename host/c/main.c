@@ -10,7 +10,7 @@
 
 #define N(number) (UINT32_C(1) << (number))
 
-enum { FUNCTIONS = 30 };
+enum { FUNCTIONS = 31 };
 
 /* Document 01, "Order of checks", and document 02: all that each function can answer. The version is no answer. */
 static const uint32_t range = N(0) | N(5);
@@ -32,6 +32,7 @@ static bool report_all(void)
         { "menkhodur_en_passant", range },
         { "menkhodur_fen_read", N(0) | N(18) | N(19) | N(20) },
         { "menkhodur_fen_write", N(0) | N(5) | N(7) },
+        { "menkhodur_fen_page", N(0) | N(7) },
         { "menkhodur_move_read", N(0) | N(2) | N(3) },
         { "menkhodur_move_write", N(0) | N(6) | N(7) },
         { "menkhodur_san_read", N(0) | N(4) | N(5) | N(6) },
@@ -64,6 +65,7 @@ int main(int argc, char **argv)
     check_base();
     check_steps();
     check_fen(argv[1]);
+    check_page(argv[1]);
     check_coordinates();
     check_san();
     check_standard();

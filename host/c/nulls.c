@@ -54,6 +54,26 @@ static void check_lists_of_standard(void)
     give_back(&text);
 }
 
+/* The text of a page and both its rooms. */
+static void check_pages(void)
+{
+    struct part text = lend_text("K w - -\n"), records = lend(68), numbers = lend(16);
+    uint64_t *told = (uint64_t *)(void *)numbers.bytes;
+    about("menkhodur_fen_page", "NULL text");
+    expect_answer(MENKHODUR_ACCEPTED, 0, menkhodur_fen_page(NULL, 0, records.bytes, 68, told, 2));
+    expect_answer(MENKHODUR_ACCEPTED, 0, menkhodur_fen_page(NULL, 0, NULL, 0, NULL, 0));
+    about("menkhodur_fen_page", "NULL rooms");
+    expect_answer(MENKHODUR_OUTPUT_TOO_SHORT, 1, menkhodur_fen_page(text.bytes, text.length, NULL, 0, told, 2));
+    expect_answer(MENKHODUR_OUTPUT_TOO_SHORT, 1, menkhodur_fen_page(text.bytes, text.length, records.bytes, 68, NULL, 0));
+    expect_answer(MENKHODUR_OUTPUT_TOO_SHORT, 1, menkhodur_fen_page(text.bytes, text.length, NULL, 0, NULL, 0));
+    expect_unchanged("text", &text);
+    expect_unchanged("records", &records);
+    expect_unchanged("numbers", &numbers);
+    give_back(&text);
+    give_back(&records);
+    give_back(&numbers);
+}
+
 static void check_rooms(void)
 {
     about("menkhodur_fen_write", "NULL room");
@@ -125,6 +145,7 @@ void check_nulls(void)
     check_texts();
     check_lists();
     check_lists_of_standard();
+    check_pages();
     check_rooms();
     check_rolls_of_null();
     check_empty_lists();

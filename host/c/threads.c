@@ -1,5 +1,5 @@
-/* Every function from several threads at once: on a text, a list, a log and a roll that all of them read, and on rooms and logs of their
- * own. */
+/* Every function from several threads at once: on a text, a page, a list, a log and a roll that all of them read, and on rooms and logs of
+ * their own. */
 #include "game.h"
 
 #include <pthread.h>
@@ -9,11 +9,13 @@
 
 enum { THREADS = 4, ROUNDS = 400, ROUNDS_EXACT = 10, OWN_MOVES = 4 };
 
-static const char key[] = "rnbqkbnr/pppppppp/8/8/8/8/PPPPPPPP/RNBQKBNR w KQkq - 0 1";
+#define KEY "rnbqkbnr/pppppppp/8/8/8/8/PPPPPPPP/RNBQKBNR w KQkq - 0 1"
+
+static const char key[] = KEY, page[] = KEY "\n8/8 w -\n" KEY "\n";
 
 /* What all threads read. */
 static struct game log_of_all;
-static struct part key_of_all, name_of_all, list_of_all, roll_of_all;
+static struct part key_of_all, page_of_all, name_of_all, list_of_all, roll_of_all;
 
 /* A thread's own log, and how often it saw something else than one thread alone would. */
 struct worker {
@@ -78,6 +80,18 @@ static unsigned wrong_standard_texts(void)
     return wrong + (memcmp(room, name_of_all.bytes, 3) != 0);
 }
 
+/* A page of three lines, the middle one refused, read by all. */
+static unsigned wrong_pages(void)
+{
+    static const uint64_t owed[6] = { MENKHODUR_ACCEPTED, 0, MENKHODUR_TOO_FEW_TOKENS, 7, MENKHODUR_ACCEPTED, 0 };
+    menkhodur_board read[3];
+    uint64_t told[6];
+    unsigned wrong = !is(MENKHODUR_OUTPUT_TOO_SHORT, 3, menkhodur_fen_page(page_of_all.bytes, page_of_all.length, NULL, 0, told, 6));
+    wrong += !is(MENKHODUR_ACCEPTED, 3, menkhodur_fen_page(page_of_all.bytes, page_of_all.length, (uint8_t *)read, sizeof read, told, 6));
+    wrong += memcmp(&initial, &read[0], sizeof initial) || memcmp(&no_board, &read[1], sizeof initial) || memcmp(&initial, &read[2], sizeof initial);
+    return wrong + (memcmp(owed, told, sizeof owed) != 0);
+}
+
 /* Of a log of the knights' round alone, of whole rounds: the last position equals each fourth before it, and the first of them is the start. */
 static unsigned wrong_queries(const struct game *g, uint64_t result, uint64_t claim)
 {
@@ -135,7 +149,7 @@ static void *work(void *worker)
     struct worker *w = worker;
     for (unsigned i = 0; i < (exact ? ROUNDS_EXACT : ROUNDS); i++) {
         w->wrong += wrong_numbers() + wrong_texts() + wrong_standard_texts() + wrong_queries(&log_of_all, MENKHODUR_GOES_ON, 1);
-        w->wrong += wrong_rolls() + wrong_own(&w->own);
+        w->wrong += wrong_pages() + wrong_rolls() + wrong_own(&w->own);
     }
     return NULL;
 }
@@ -163,6 +177,7 @@ void check_threads(void)
     struct position p = round_position(0, false);
     log_of_all = lend_game(MENKHODUR_ACTIONS_LENGTH, MENKHODUR_POSITIONS_LENGTH);
     key_of_all = lend_text(key);
+    page_of_all = lend_text(page);
     name_of_all = lend_text("Nf3");
     list_of_all = lend_bytes(p.list, 2 * p.entries);
     start(&log_of_all, &p, MENKHODUR_ACCEPTED);
@@ -173,11 +188,13 @@ void check_threads(void)
     expect_unchanged("actions", &log_of_all.actions);
     expect_unchanged("positions", &log_of_all.positions);
     expect_unchanged("text", &key_of_all);
+    expect_unchanged("page", &page_of_all);
     expect_unchanged("name", &name_of_all);
     expect_unchanged("list", &list_of_all);
     expect_unchanged("roll", &roll_of_all);
     give_back_game(&log_of_all);
     give_back(&key_of_all);
+    give_back(&page_of_all);
     give_back(&name_of_all);
     give_back(&list_of_all);
     give_back(&roll_of_all);
