@@ -29,6 +29,7 @@ TWIN_OF(menkhodur_castle_rights);
 TWIN_OF(menkhodur_en_passant);
 TWIN_OF(menkhodur_fen_read);
 TWIN_OF(menkhodur_fen_write);
+TWIN_OF(menkhodur_fen_page);
 TWIN_OF(menkhodur_move_read);
 TWIN_OF(menkhodur_move_write);
 TWIN_OF(menkhodur_san_read);
@@ -118,7 +119,7 @@ typedef void step(struct input *in);
 
 step call_version, call_make_square, call_rights, call_square_rights, call_board_step;
 step call_fen_read, call_fen_write, call_move_read, call_move_write, call_san_read, call_san_name;
-step call_san_read_standard, call_san_name_standard;
+step call_san_read_standard, call_san_name_standard, call_fen_page;
 step call_start, call_log, call_round, tamper, garbage, long_log, log_to_registers;
 step call_roll_write, call_roll_read, add_actions, roll_of_game, poke_roll, insert_in_roll, cut_roll;
 

@@ -241,7 +241,7 @@ static step *const steps[] = {
     call_version, call_make_square, call_rights, call_square_rights, call_board_step, call_fen_read, call_fen_write, call_move_read,
     call_move_write, call_san_read, call_san_name, call_start, call_log, call_log, call_log, call_round, tamper, garbage, long_log,
     add_row, stretch_text, call_roll_write, call_roll_read, add_actions, roll_of_game, poke_roll, insert_in_roll, cut_roll,
-    call_san_read_standard, call_san_name_standard, standard_text_of_move,
+    call_san_read_standard, call_san_name_standard, standard_text_of_move, call_fen_page,
 };
 
 int LLVMFuzzerTestOneInput(const uint8_t *data, size_t size);

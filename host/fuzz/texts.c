@@ -1,10 +1,12 @@
-/* Squares, rights, board steps and texts: what document 01 says of their answers and of the bytes lent, and document 02 of refused FENs and
- * coordinate texts. */
+/* Squares, rights, board steps and texts: what document 01 says of their answers and of the bytes lent, and document 02 of refused FENs,
+ * coordinate texts and pages. */
 #include "fuzz.h"
 
 #include <string.h>
 
-static struct lent text_part, room_part;
+static struct lent text_part, room_part, records_part, numbers_part;
+
+enum { RECORD = 68, TOLD = 2 }; /* the bytes and the numbers that a line of a page has */
 
 static const char letters[] = " pnbrqk";
 
@@ -12,6 +14,8 @@ void texts_begin(void)
 {
     if (!text_part.low) lent_make(&text_part, MOST_TEXT);
     if (!room_part.low) lent_make(&room_part, MOST_TEXT);
+    if (!records_part.low) lent_make(&records_part, RECORD * (MOST_TEXT + 1));
+    if (!numbers_part.low) lent_make(&numbers_part, 8 * TOLD * (MOST_TEXT + 1));
 }
 
 static menkhodur_answer accepted_if(bool accepted, uint64_t value, uint64_t otherwise)
@@ -300,6 +304,59 @@ void call_fen_read(struct input *in)
     if (want.number) return;
     in->board = want.board;
     expect_round_trip(&want.board);
+}
+
+/* ---- Pages ---- */
+
+/* Document 02, order 7: what each line of the text register is owed. How many lines there are: each newline ends one, and bytes behind the
+ * last newline are one more. */
+static uint8_t records_owed[RECORD * MOST_TEXT];
+static uint64_t numbers_owed[TOLD * MOST_TEXT];
+
+static size_t model_page(const uint8_t *text, size_t length)
+{
+    size_t count = 0;
+    for (size_t at = 0; at < length; count++) {
+        const uint8_t *end = memchr(text + at, '\n', length - at);
+        size_t line = end ? (size_t)(end - text) - at : length - at;
+        menkhodur_fen fen = model_read(text + at, line);
+        memcpy(records_owed + RECORD * count, &fen.board, RECORD);
+        numbers_owed[TOLD * count] = fen.number;
+        numbers_owed[TOLD * count + 1] = fen.offset;
+        at += line + 1;
+    }
+    return count;
+}
+
+/* The room that the input asks for: what the lines need, up to a line more or less, or any of a few lines. */
+static size_t take_lines(struct input *in, size_t count, size_t each)
+{
+    unsigned how = take(in);
+    size_t needed = count * each, less = needed < each ? needed : each;
+    if (how < 64) return needed;
+    if (how < 128) return needed + how % (each + 1);
+    if (how < 192) return needed - how % (less + 1);
+    return how % (3 * each);
+}
+
+void call_fen_page(struct input *in)
+{
+    size_t count = model_page(in->text, in->length), bytes = take_lines(in, count, RECORD), told = take_lines(in, count, TOLD);
+    bool fits = bytes >= RECORD * count && told >= TOLD * count;
+    for (unsigned turn = 0; turn < 2; turn++) {
+        lend_text(in, turn);
+        lend(&records_part, bytes, in->front, turn);
+        lend(&numbers_part, 8 * told, in->front, turn);
+        about("fen_page");
+        expect_answer((menkhodur_answer){ fits ? 0 : 7, count },
+                      CALL(turn, menkhodur_fen_page, in->length ? text_part.bytes : NULL, in->length, bytes ? records_part.bytes : NULL, bytes,
+                           told ? (uint64_t *)(void *)numbers_part.bytes : NULL, told));
+        lent_expect(&records_part, 0, records_owed, fits ? RECORD * count : 0);
+        lent_expect(&numbers_part, 0, numbers_owed, fits ? 8 * TOLD * count : 0);
+        lent_same("text", &text_part);
+        lent_same("records", &records_part);
+        lent_same("numbers", &numbers_part);
+    }
 }
 
 /* ---- Coordinate texts ---- */

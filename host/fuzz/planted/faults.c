@@ -288,4 +288,41 @@ menkhodur_answer menkhodur_san_read_standard(menkhodur_board b, const uint16_t *
         a = real_san_read_standard(b, list, entries, (uint8_t[]){ (uint8_t)('a' + file), 'x', text[1], text[2] }, 4);
     return a;
 }
+#elif FAULT == 35 /* WRAPS fen_page: an empty line behind the last newline is counted */
+menkhodur_answer real_fen_page(const uint8_t *text, size_t length, uint8_t *records, size_t rl, uint64_t *numbers, size_t nl);
+menkhodur_answer menkhodur_fen_page(const uint8_t *text, size_t length, uint8_t *records, size_t rl, uint64_t *numbers, size_t nl)
+{
+    menkhodur_answer a = real_fen_page(text, length, records, rl, numbers, nl);
+    a.value += length && text[length - 1] == '\n';
+    return a;
+}
+#elif FAULT == 36 /* WRAPS fen_page: the offset of a bad side is from the start of the page */
+menkhodur_answer real_fen_page(const uint8_t *text, size_t length, uint8_t *records, size_t rl, uint64_t *numbers, size_t nl);
+menkhodur_answer menkhodur_fen_page(const uint8_t *text, size_t length, uint8_t *records, size_t rl, uint64_t *numbers, size_t nl)
+{
+    menkhodur_answer a = real_fen_page(text, length, records, rl, numbers, nl);
+    size_t start = 0;
+    for (uint64_t i = 0; a.number == 0 && i < a.value; i++) {
+        const uint8_t *end = memchr(text + start, '\n', length - start);
+        if (numbers[2 * i] == 20) numbers[2 * i + 1] += start;
+        start = end ? (size_t)(end - text) + 1 : length;
+    }
+    return a;
+}
+#elif FAULT == 37 /* WRAPS fen_page: a room one line short is written to */
+menkhodur_answer real_fen_page(const uint8_t *text, size_t length, uint8_t *records, size_t rl, uint64_t *numbers, size_t nl);
+menkhodur_answer menkhodur_fen_page(const uint8_t *text, size_t length, uint8_t *records, size_t rl, uint64_t *numbers, size_t nl)
+{
+    menkhodur_answer a = real_fen_page(text, length, records, rl, numbers, nl);
+    if (a.number == 7 && rl + 68 == 68 * a.value && rl && nl >= 2 * a.value) memset(records, 0, rl);
+    return a;
+}
+#elif FAULT == 38 /* WRAPS fen_page: a number behind the last line's is cleared */
+menkhodur_answer real_fen_page(const uint8_t *text, size_t length, uint8_t *records, size_t rl, uint64_t *numbers, size_t nl);
+menkhodur_answer menkhodur_fen_page(const uint8_t *text, size_t length, uint8_t *records, size_t rl, uint64_t *numbers, size_t nl)
+{
+    menkhodur_answer a = real_fen_page(text, length, records, rl, numbers, nl);
+    if (a.number == 0 && nl > 2 * a.value) numbers[2 * a.value] = 0;
+    return a;
+}
 #endif
