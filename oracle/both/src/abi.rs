@@ -91,6 +91,9 @@ extern "C" {
 
     fn menkhodur_fen_read(text: *const u8, length: usize) -> Fen;
     fn menkhodur_fen_write(b: Record, out: *mut u8, room: usize) -> Answer;
+    fn menkhodur_fen_page(
+        text: *const u8, length: usize, records: *mut u8, rl: usize, numbers: *mut u64, nl: usize,
+    ) -> Answer;
 
     fn menkhodur_move_read(text: *const u8, length: usize) -> Placed;
     fn menkhodur_move_write(number: u64, out: *mut u8, room: usize) -> Answer;
@@ -163,6 +166,11 @@ pub fn fen_read(text: &[u8]) -> Fen {
 
 pub fn fen_write(b: Record, out: &mut [u8]) -> Answer {
     unsafe { menkhodur_fen_write(b, out.as_mut_ptr(), out.len()) }
+}
+
+pub fn fen_page(text: &[u8], records: &mut [u8], numbers: &mut [u64]) -> Answer {
+    let (r, n) = (records, numbers);
+    unsafe { menkhodur_fen_page(text.as_ptr(), text.len(), r.as_mut_ptr(), r.len(), n.as_mut_ptr(), n.len()) }
 }
 
 pub fn move_read(text: &[u8]) -> Placed {

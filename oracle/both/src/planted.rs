@@ -50,6 +50,29 @@ pub fn fen_write(b: Record, out: &mut [u8]) -> Answer {
     answer
 }
 
+/// An empty line behind the last newline is counted, if an empty one stands before it too; the offset of a bad side is from the
+/// page's start; a room of records one line short has the lines that fit.
+pub fn fen_page(text: &[u8], records: &mut [u8], numbers: &mut [u64]) -> Answer {
+    let mut answer = real::fen_page(text, records, numbers);
+    let lines = answer.value as usize;
+    if planted("page-last") && text.ends_with(b"\n\n") {
+        answer.value += 1;
+    }
+    if planted("page-offset") && answer.number == 0 {
+        let mut start = 0;
+        for (told, line) in numbers.chunks_exact_mut(2).zip(text.split(|byte| *byte == b'\n')).take(lines) {
+            told[1] += if told[0] == 20 { start } else { 0 };
+            start += line.len() as u64 + 1;
+        }
+    }
+    if planted("page-room") && answer.number == 7 && records.len() + 68 == 68 * lines && numbers.len() >= 2 * lines {
+        let mut all = vec![0; 68 * lines];
+        real::fen_page(text, &mut all, &mut vec![0; 2 * lines]);
+        records.copy_from_slice(&all[..records.len()]);
+    }
+    answer
+}
+
 /// Six bytes that end in a promotion letter promote. Of refused texts: the rank byte is told where both bytes of the second
 /// pair are bad; a second pair of which one byte is there is told at its start; a fifth byte that is a space is told at the
 /// text's end.

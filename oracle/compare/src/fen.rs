@@ -11,7 +11,7 @@ use both::random::Random;
 use chess::{BoardBuilder, Error};
 use std::str::FromStr;
 
-const LETTERS: &[u8] = b"pnbrqkPNBRQK12345678/ wWbB-acegh0139x";
+pub(crate) const LETTERS: &[u8] = b"pnbrqkPNBRQK12345678/ wWbB-acegh0139x";
 /// Token ends, a piece, a digit that is allowed and one that is not, and what each later token looks for.
 const SHORT: &[u8] = b" wBKq/89pa3-";
 const PLACING: &[u8] = b"pnbrqkPNBRQK12345678/09";
@@ -46,7 +46,7 @@ fn long_placements() -> impl Iterator<Item = String> {
     rows.chain(ranks).chain(digits).chain(far)
 }
 
-fn four_tokens(random: &mut Random) -> String {
+pub(crate) fn four_tokens(random: &mut Random) -> String {
     let length = random.below(72);
     let placement = texts::random(length, PLACING, random);
     let side = *random.pick(&["w", "b", "W", "B", "", "wb", "-"]);
@@ -58,7 +58,7 @@ fn four_tokens(random: &mut Random) -> String {
     format!("{} {} {} {}{}", placement, side, rights, square, tail)
 }
 
-fn good_fen(positions: &mut Positions, random: &mut Random) -> String {
+pub(crate) fn good_fen(positions: &mut Positions, random: &mut Random) -> String {
     match random.once_in(2) {
         true => builder_of(&records::random(random)).to_string(),
         false => positions.next(random).to_string(),

@@ -6,6 +6,7 @@ mod lent;
 pub mod log;
 pub mod moves;
 pub mod names;
+pub mod page;
 pub mod pair;
 pub mod part;
 pub mod records;

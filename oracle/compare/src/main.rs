@@ -5,15 +5,16 @@ mod args;
 use args::{Options, Request};
 use compare::part::{self, run, Outcome, Part};
 use compare::rules::RULES;
-use compare::{fen, log, moves, names, rolls, san, san_standard, steps, tests};
+use compare::{fen, log, moves, names, page, rolls, san, san_standard, steps, tests};
 use std::process::exit;
 
 /// Runs the part that has this name.
 type Runner = fn(&Options) -> Outcome;
 
-const PARTS: [(&str, Runner); 11] = [
+const PARTS: [(&str, Runner); 12] = [
     (fen::FenRead::NAME, |o| run(fen::FenRead::default(), o.seed, o.budget)),
     (fen::FenWrite::NAME, |o| run(fen::FenWrite::default(), o.seed, o.budget)),
+    (page::FenPage::NAME, |o| run(page::FenPage::default(), o.seed, o.budget)),
     (moves::Moves::NAME, |o| run(moves::Moves, o.seed, o.budget)),
     (san::SanLegal::NAME, |o| run(san::SanLegal::new(), o.seed, o.budget)),
     (san::SanAny::NAME, |o| run(san::SanAny::new(), o.seed, o.budget)),

@@ -76,11 +76,14 @@ pub fn cuts(text: &str) -> Vec<String> {
     cut_lists(&chars).into_iter().map(|c| c.into_iter().collect()).collect()
 }
 
-/// The list with a stretch left out: halves first, then quarters, down to single entries.
+/// So many entries are in all the cuts of one size at most, so that those of a long list do not fill the memory.
+const MOST_CUT: usize = 1 << 22;
+
+/// The list with a stretch left out: halves first, then quarters, down to single entries, of a long list not so far.
 pub fn cut_lists<T: Clone>(list: &[T]) -> Vec<Vec<T>> {
     let mut out = vec![];
     let mut size = list.len();
-    while size > 0 {
+    while size > 0 && list.len().div_ceil(size) * list.len() <= MOST_CUT {
         for start in (0..list.len()).step_by(size) {
             let end = (start + size).min(list.len());
             out.push([&list[..start], &list[end..]].concat());
