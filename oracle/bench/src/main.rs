@@ -6,6 +6,7 @@
 
 mod keys;
 mod laws;
+mod page;
 mod plain;
 mod rolls;
 
@@ -243,7 +244,7 @@ fn lines(places: &[Place]) {
     }
 }
 
-const PARTS: [&str; 6] = ["fen", "coordinates", "san", "log", "rolls", "keys"];
+const PARTS: [&str; 7] = ["fen", "page", "coordinates", "san", "log", "rolls", "keys"];
 
 /// The parts that were named, or all.
 fn parts() -> Vec<String> {
@@ -267,6 +268,7 @@ fn main() {
     for part in parts {
         match part.as_str() {
             "fen" => fen(&places),
+            "page" => page::pages(),
             "coordinates" => coordinates(&places),
             "san" => san(&places),
             "log" => games(&mut random),

@@ -63,7 +63,9 @@ fn holds<T: PartialEq>(room: &[T], owed: &[T], fill: T) -> bool {
 fn long_pages() -> impl Iterator<Item = Lent> {
     let counts = [15usize, 16, 17, 31, 32, 33, 63, 64, 65, 255, 256, 257, 4_095, 4_096, 4_097, 65_535, 65_536, 65_537];
     counts.into_iter().flat_map(|n| {
-        let texts = ["\n".repeat(n), "8\n".repeat(n), "P".repeat(n), format!("{}\n", "P".repeat(n)), format!("\n{} w - -\n\n x - -", "P".repeat(n))];
+        let long = "P".repeat(n);
+        let among = format!("\n{} w - -\n\n x - -", long);
+        let texts = ["\n".repeat(n), "8\n".repeat(n), format!("{}\n", long), long, among];
         texts.into_iter().flat_map(|text| [lent(text.clone(), 0, 0), lent(text.clone(), -1, 0), lent(text, 5, -1)])
     })
 }
@@ -141,7 +143,8 @@ impl Part for FenPage {
         }
         if !holds(&numbers, &owed_numbers, FILL_NUMBER) {
             let shown = &numbers[GUARD..GUARD + told];
-            return Err(format!("rooms of {} and {}: owed {} and {:?}, the numbers are {:?}", bytes, told, answer.number, owed_numbers, shown));
+            let owed = (answer.number, owed_numbers);
+            return Err(format!("rooms of {} and {}: owed {:?}, the numbers are {:?}", bytes, told, owed, shown));
         }
         if !holds(&records, &owed_records, FILL) || text != given.text {
             return Err(format!("rooms of {} and {}: owed {}, and a byte is not as owed", bytes, told, answer.number));
