@@ -3,7 +3,7 @@
 #![deny(unfulfilled_lint_expectations)]
 
 use crate::common::{Parts, play};
-use menkhodur::{Board, CastleRights, Color, Error, Piece, Square, lent};
+use menkhodur::{Board, CastleRights, Color, Error, PageReader, Piece, Square, lent};
 
 #[test]
 fn steps() {
@@ -48,6 +48,12 @@ fn answers() -> Result<(), Error> {
     Error::GameOver.meaning();
     #[expect(unused_must_use)]
     Error::GameOver.offset();
+
+    let mut reader = PageReader::new();
+    #[expect(unused_must_use)]
+    reader.read(b" w - -\n");
+    #[expect(unused_must_use)]
+    reader.read(b" w - -\n").iter();
 
     // The counts are the new log: the question mark must not be the end of them.
     let mut parts = Parts::of(&log);
