@@ -1,7 +1,7 @@
 //! A page of FENs (document 02, order 7) beside the same lines by single calls, and by the crate, on a million different positions of
 //! games. All of ours store the same: 68 bytes and two numbers a line.
 
-use crate::row;
+use crate::{row, ROUNDS};
 use both::abi::{self, Answer};
 use both::games::random_game;
 use both::numbers::record_of;
@@ -15,7 +15,6 @@ use std::time::Instant;
 const LINES: usize = 1_000_000;
 /// A page that stays in the caches of a small machine.
 const SMALL: usize = 1_000;
-const ROUNDS: usize = 9;
 
 /// The lines of a text, and the rooms that their answers go to.
 struct Page<'a> {
