@@ -1,11 +1,10 @@
 -- A line of the program keys, put behind what a room holds: the key and its newline, or the refusal, with 86 bytes at hand.
 -- Assumes nothing.
-use mathlib.Core.Path.{_≡_, refl, sym, ap, ap₂, _∙_}
+use mathlib.Core.Path.{_≡_, refl, sym, ap, _∙_}
 use mathlib.Core.Bool.{true, cond}
-use mathlib.Core.List.{List, [], _∷_, _++_}
+use mathlib.Core.List.{List, _++_}
 use Prim.Native.Nat.{ℕ, _+_, _-_, _≤_, _<_}
 use native.Mathlib.Omega.{arith}
-use lib.Dec.{eqb}
 use lib.ListN.{length, take, drop, set, length-append}
 use borrow.Author.Tests.{eq-eqb, ne-eqb}
 use Rattle.square.specs.declared.Answer.{Answer}
@@ -14,7 +13,6 @@ use Rattle.square.specs.Parts.{written}
 use Rattle.square.proofs.Parts.{written-next, length-written}
 use Rattle.square.proofs.Puts.{put-text, put-written}
 use Rattle.board_builder.specs.BoardBuilder.{inRange}
-use Rattle.decimal.specs.Decimal.{decimal}
 use Rattle.fen_text.specs.declared.Fen.{Fen}
 use Rattle.fen_text.specs.Read.{readFen}
 use Rattle.fen_text.specs.Write.{fenText, fenCheck}

@@ -9,13 +9,13 @@ use native.Mathlib.Decide.{decLe}
 use lib.Dec.{eqb, leb}
 use lib.ListN.{length, take, drop, getD, length-append, drop-of-length-le, take-append-drop}
 use lib.Seq.{take-all, take-suc, take-add, drop-drop, length-take-le}
-use borrow.Author.Tests.{eqb-true, le-leb, lt-leb}
+use borrow.Author.Tests.{eqb-true, le-leb}
 use Rattle.fen_text.specs.Token.{placeOf, placeWhere, placeAfter, onto, joined}
 use Rattle.fen_text.specs.Lines.{lineFeed, lines, ended, overLines}
-use Rattle.fen_text.proofs.Lines.{lines-next, ended-next, ended-none, lines-behind, over-append, place-at-most}
+use Rattle.fen_text.proofs.Lines.{lines-next, ended-next, ended-none, lines-behind, over-append}
 use Rattle.key_line.specs.KeyLine.{keyLine}
-use Rattle.key_line.specs.KeyPage.{keysText, longestLine, going, bytesOf, keyPage}
-use Rattle.key_line.specs.Runs.{putOut, Run, EveryRunIsTheWhole, TakesAllThatHavePlace, LastLine, WhatIsLeftIsOneLine}
+use Rattle.key_line.specs.KeyPage.{keysText, longestLine, going, bytesOf}
+use Rattle.key_line.specs.Runs.{putOut, Run, EveryRunIsTheWhole, TakesAllThatHavePlace, WhatIsLeftIsOneLine}
 
 -- ---- texts of whole lines
 

@@ -3,7 +3,7 @@
 use Prim.Native.Nat.{ℕ, _≤_, _<_, _+_}
 use mathlib.Core.Path.{_≡_}
 use mathlib.Core.List.{List, [], _++_}
-use lib.ListN.{length, drop, replicate}
+use lib.ListN.{length, drop}
 use Rattle.fen_text.specs.Lines.{ended, overLines}
 use Rattle.key_line.specs.KeyLine.{keyLine}
 use Rattle.key_line.specs.KeyPage.{keysText, longestLine, going, keyPage}

@@ -1,4 +1,5 @@
 // Inputs, read page by page and split into lines.
+use crate::line::newline_at;
 use crate::output::Run;
 use crate::output::counted;
 use crate::output::flush;
@@ -7,7 +8,6 @@ use crate::output::put_line;
 use crate::output::put_long;
 use crate::output::with_room;
 use crate::tell;
-use fen_reader::lines::line_end;
 use key_line::page::key_page;
 ghost use Prim.Native.Nat.{_+_, _≤_, _<_};
 ghost use lib.ListN.{length};
@@ -47,8 +47,8 @@ fn put_after_long(input: &[u8], end: usize, out: &mut [u8], run: Run) -> Run
     ensures ready { λ r. ⌜ r .ready ≤ length (now (out .entry)) ⌝ }
     ensures held { λ r. ⌜ r .held ≤ end ⌝ }
 {
-    let stop = line_end(&input[..end], 0);
-    if end <= stop {
+    let stop = newline_at(input, 0, end);
+    if stop == end {
         let mut next = run;
         next.held = end;
         return next;

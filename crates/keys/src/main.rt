@@ -2,6 +2,7 @@
 // refusal and where the line is wrong. `--help` says more.
 mod help;
 mod input;
+mod line;
 mod options;
 mod output;
 mod tell;

@@ -1,6 +1,6 @@
 // The lines that wait for standard output, and what is counted of them.
+use crate::line::newline_at;
 use crate::tell;
-use fen_reader::lines::line_end;
 use key_line::LONGEST;
 use libc::STDOUT_FILENO;
 ghost use mathlib.Core.Path.{_≡_};
@@ -68,7 +68,7 @@ fn without_cut(out: &[u8], done: usize, ready: usize, run: Run) -> Run
     let mut next = run;
     let mut at: usize = 0;
     while at < ready {
-        let stop = line_end(&out[..ready], at);
+        let stop = newline_at(out, at, ready);
         if stop == ready {
             return next;
         }

@@ -2,7 +2,7 @@ use borrow.Author.Needs.{needs}
 use native.Mathlib.Omega.{arith}
 use mathlib.Core.Path.{_≡_, refl, sym, ap, _∙_}
 use mathlib.Core.List.{List, []}
-use Prim.Native.Nat.{ℕ, _<_, _+_, _≤_}
+use Prim.Native.Nat.{ℕ, _+_}
 use lib.ListN.{length, take, replicate}
 use lib.Seq.{length-take-le}
 use Rattle.square.specs.Answer.{writeAnswer, writeBytes}
@@ -13,20 +13,13 @@ use Rattle.key_line.specs.KeyLine.{keyLine}
 use Rattle.square.specs.Parts.{written}
 use Rattle.key_line.proofs.key_line.Statement.{statement}
 use Rattle.key_line.proofs.key_line.Tie as tie
-use Rattle.key_line.proofs.key_line.Reads as reads
-use Rattle.key_line.proofs.key_line.Lts as lts
-use Rattle.key_line.proofs.put_line.Reads as put-line-reads
-use Rattle.square.proofs.write_text.Reads as write-text-reads
 
--- src/lib.rt:82:30
 slice-aggregate-put-line : tie.Need-slice-aggregate-put-line
 slice-aggregate-put-line c = search needs
 
--- src/lib.rt:82:9
 put-line-requires : tie.Need-put-line-requires
 put-line-requires c κs = search needs
 
--- src/lib.rt:84:24
 array-share-prefix-text : tie.Need-array-share-prefix-text
 array-share-prefix-text c = 
     let n : c .before .put-line .result .ready ≡ 0 + length (keyLine (c .before .before .before .before .before .args .line .now)) = ap (λ (x : Lined). x .ready) (c .before .put-line .ensures .0) in
@@ -34,7 +27,6 @@ array-share-prefix-text c =
     ap length (c .before .put-line .ensures .1 .0) ∙ length-written (replicate 86 0) 0 (keyLine (c .before .before .before .before .before .args .line .now)) (omega (arith, c .before .put-line .ensures .1 .1)) in
     omega (arith, c .before .put-line .ensures .1 .1)
 
--- src/lib.rt:84:24
 slice-aggregate-write-text : tie.Need-slice-aggregate-write-text
 slice-aggregate-write-text c = 
     let n : c .before .before .put-line .result .ready ≡ 0 + length (keyLine (c .before .before .before .before .before .before .args .line .now)) = ap (λ (x : Lined). x .ready) (c .before .before .put-line .ensures .0) in
@@ -42,15 +34,12 @@ slice-aggregate-write-text c =
     ap length (c .before .before .put-line .ensures .1 .0) ∙ length-written (replicate 86 0) 0 (keyLine (c .before .before .before .before .before .before .args .line .now)) (omega (arith, c .before .before .put-line .ensures .1 .1)) in
     sym (length-take-le _ _ (omega (arith, c .before .before .put-line .ensures .1 .1)))
 
--- src/lib.rt:84:5
 write-text-requires : tie.Need-write-text-requires
 write-text-requires c κs = search needs
 
--- src/lib.rt:77:1
 same-length : tie.Need-same-length
 same-length c = search needs
 
--- src/lib.rt:77:1
 returns : tie.Need-returns
 returns c = 
     let s = c .before .before .before .before .before .before .before .before .before .before .args .line .now in
