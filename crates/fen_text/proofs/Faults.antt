@@ -314,9 +314,11 @@ both-refused n at other = record { taken = λ e. absurd (omega arith); not-more 
 
 four-as-before : (a b c d : List ℕ) → AsBefore (assembled a b c d) (baseAssembled (placeAll start a) (sideOf b) c d)
 unfolding assembled sided baseAssembled
-four-as-before a b c d = go (placeAll start a .good) refl (ltb (sideOf b) 2) refl
+four-as-before a b c d =
+    go (placeAll start a .good) refl (ltb (sideOf b) 2) refl
   where
-    go : (t : Bool) → placeAll start a .good ≡ t → (u : Bool) → ltb (sideOf b) 2 ≡ u → AsBefore (assembled a b c d) (baseAssembled (placeAll start a) (sideOf b) c d)
+    go : (t : Bool) → placeAll start a .good ≡ t → (u : Bool) → ltb (sideOf b) 2 ≡ u → AsBefore (assembled a b c d)
+        (baseAssembled (placeAll start a) (sideOf b) c d)
     go true e true f = simp (e, f) (record { taken = λ z. refl; not-more = λ z. refl })
     go true e false f = simp (e, f) (both-refused badSide (length a + 1) (λ z. omega arith))
     go false e u f = simp e (both-refused badPlacement (firstBad a) (λ z. omega arith))

@@ -21,18 +21,22 @@ put-line-requires : tie.Need-put-line-requires
 put-line-requires c κs = search needs
 
 array-share-prefix-text : tie.Need-array-share-prefix-text
-array-share-prefix-text c = 
-    let n : c .before .put-line .result .ready ≡ 0 + length (keyLine (c .before .before .before .before .before .args .line .now)) = ap (λ (x : Lined). x .ready) (c .before .put-line .ensures .0) in
-    let all : length (c .before .put-line .last .1 .0) ≡ 86 =
-    ap length (c .before .put-line .ensures .1 .0) ∙ length-written (replicate 86 0) 0 (keyLine (c .before .before .before .before .before .args .line .now)) (omega (arith, c .before .put-line .ensures .1 .1)) in
-    omega (arith, c .before .put-line .ensures .1 .1)
+array-share-prefix-text c =
+    let a = c .before .before .before .before .before .args in
+    let at-put-line = c .before .put-line in
+    let n : at-put-line .result .ready ≡ 0 + length (keyLine (a .line .now)) = ap (λ (x : Lined). x .ready) (at-put-line .ensures .0) in
+    let all : length (at-put-line .last .1 .0) ≡ 86 =
+    ap length (at-put-line .ensures .1 .0) ∙ length-written (replicate 86 0) 0 (keyLine (a .line .now)) (omega (arith, at-put-line .ensures .1 .1)) in
+    omega (arith, at-put-line .ensures .1 .1)
 
 slice-aggregate-write-text : tie.Need-slice-aggregate-write-text
-slice-aggregate-write-text c = 
-    let n : c .before .before .put-line .result .ready ≡ 0 + length (keyLine (c .before .before .before .before .before .before .args .line .now)) = ap (λ (x : Lined). x .ready) (c .before .before .put-line .ensures .0) in
-    let all : length (c .before .before .put-line .last .1 .0) ≡ 86 =
-    ap length (c .before .before .put-line .ensures .1 .0) ∙ length-written (replicate 86 0) 0 (keyLine (c .before .before .before .before .before .before .args .line .now)) (omega (arith, c .before .before .put-line .ensures .1 .1)) in
-    sym (length-take-le _ _ (omega (arith, c .before .before .put-line .ensures .1 .1)))
+slice-aggregate-write-text c =
+    let a = c .before .before .before .before .before .before .args in
+    let at-put-line = c .before .before .put-line in
+    let n : at-put-line .result .ready ≡ 0 + length (keyLine (a .line .now)) = ap (λ (x : Lined). x .ready) (at-put-line .ensures .0) in
+    let all : length (at-put-line .last .1 .0) ≡ 86 =
+    ap length (at-put-line .ensures .1 .0) ∙ length-written (replicate 86 0) 0 (keyLine (a .line .now)) (omega (arith, at-put-line .ensures .1 .1)) in
+    sym (length-take-le _ _ (omega (arith, at-put-line .ensures .1 .1)))
 
 write-text-requires : tie.Need-write-text-requires
 write-text-requires c κs = search needs
@@ -41,15 +45,18 @@ same-length : tie.Need-same-length
 same-length c = search needs
 
 returns : tie.Need-returns
-returns c = 
-    let s = c .before .before .before .before .before .before .before .before .before .before .args .line .now in
-    let n : c .before .before .before .before .before .before .put-line .result .ready ≡ 0 + length (keyLine s) = ap (λ (x : Lined). x .ready) (c .before .before .before .before .before .before .put-line .ensures .0) in
-    let text : take (c .before .before .before .before .before .before .put-line .result .ready) (c .before .before .before .before .before .before .put-line .last .1 .0) ≡ keyLine s =
-    ap (λ (l : List ℕ). take (c .before .before .before .before .before .before .put-line .result .ready) l) (c .before .before .before .before .before .before .put-line .ensures .1 .0)
+returns c =
+    let a = c .before .before .before .before .before .before .before .before .before .before .args in
+    let at-put-line = c .before .before .before .before .before .before .put-line in
+    let at-write-text = c .before .before .write-text in
+    let s = a .line .now in
+    let n : at-put-line .result .ready ≡ 0 + length (keyLine s) = ap (λ (x : Lined). x .ready) (at-put-line .ensures .0) in
+    let text : take (at-put-line .result .ready) (at-put-line .last .1 .0) ≡ keyLine s =
+    ap (λ (l : List ℕ). take (at-put-line .result .ready) l) (at-put-line .ensures .1 .0)
     ∙ ap (λ (k : ℕ). take k (written (replicate 86 0) 0 (keyLine s))) n
     ∙ used-written (replicate 86 0) (keyLine s) [] 0 refl refl in
-    (c .before .before .write-text .ensures .0 ∙ ap (λ (t : List ℕ). writeAnswer 0 t (length (c .before .before .before .before .before .before .before .before .before .before .args .out .now))) text,
-    c .before .before .write-text .ensures .1 ∙ ap (λ (t : List ℕ). writeBytes 0 t (c .before .before .before .before .before .before .before .before .before .before .args .out .now)) text)
+    (at-write-text .ensures .0 ∙ ap (λ (t : List ℕ). writeAnswer 0 t (length (a .out .now))) text,
+    at-write-text .ensures .1 ∙ ap (λ (t : List ℕ). writeBytes 0 t (a .out .now)) text)
 
 pub key-line-spec : {M : Type 1} → statement M
 key-line-spec =

@@ -2,8 +2,8 @@ use borrow.Author.Needs.{needs}
 use native.Mathlib.Omega.{arith}
 use Prim.Native.Nat.{_<_}
 use lib.ListN.{length}
-use Rattle.key_line.proofs.Lines.{refusal-short, refused-value, refused-line, refused-bytes, refused-short, key-within, newline-place, accepted-line, accepted-bytes, key-short}
-use Rattle.key_line.proofs.Lines.{refusal-short, refused-value, refused-line, refused-bytes, refused-short, key-within, accepted-line, accepted-bytes, key-short}
+use Rattle.key_line.proofs.Lines.{refusal-short, refused-value, refused-line, refused-bytes, refused-short}
+use Rattle.key_line.proofs.Lines.{key-within, newline-place, accepted-line, accepted-bytes, key-short}
 use Rattle.key_line.proofs.put_line.Statement.{statement}
 use Rattle.key_line.proofs.put_line.Tie as tie
 
@@ -23,21 +23,38 @@ write-refusal-requires : tie.Need-write-refusal-requires
 write-refusal-requires c κs = search needs
 
 add-t14 : tie.Need-add-t14
-add-t14 c = 
+add-t14 c =
     let small : c .before .before .before .before .before .before .read-fen .result .number < 18446744073709551616 = search needs in
     let near : c .before .before .before .before .before .before .read-fen .result .offset < 18446744073709551616 = search needs in
     let long : length (c .before .before .before .before .before .before .before .before .before .args .out .now) < 18446744073709551616 = search needs in
-    omega (arith, refused-value (c .before .before .before .before .before .before .before .before .before .args .line .now) (c .before .before .before .before .before .before .before .before .before .args .out .now) (c .before .before .write-refusal .last .1 .1 .0) (c .before .before .before .before .before .before .read-fen .result) (c .before .before .before .before .before .before .before .before .before .args .at) _ (c .before .before .write-refusal .result) (c .before .before .before .before .before .before .read-fen .ensures) (c .before .before .before .before .if1 .taken) small near (c .before .before .before .before .before .before .before .before .before .pre) (c .before .before .write-refusal .ensures .0) (c .before .before .write-refusal .ensures .1), refusal-short (c .before .before .before .before .before .before .read-fen .result .number) (c .before .before .before .before .before .before .read-fen .result .offset) small near, c .before .before .before .before .before .before .before .before .before .pre)
+    let a = c .before .before .before .before .before .before .before .before .before .args in
+    let at-pre = c .before .before .before .before .before .before .before .before .before .pre in
+    let at-read-fen = c .before .before .before .before .before .before .read-fen in
+    let at-if1 = c .before .before .before .before .if1 in
+    let at-write-refusal = c .before .before .write-refusal in
+    omega (arith, refused-value (a .line .now) (a .out .now) (at-write-refusal .last .1 .1 .0) (at-read-fen .result) (a .at) _ (at-write-refusal .result)
+    (at-read-fen .ensures) (at-if1 .taken) small near (at-pre) (at-write-refusal .ensures .0) (at-write-refusal .ensures .1), refusal-short
+    (at-read-fen .result .number) (at-read-fen .result .offset) small near, at-pre)
 
 same-length : tie.Need-same-length
 same-length c = search needs
 
 returns : tie.Need-returns
-returns c = 
+returns c =
     let small : c .before .before .before .before .before .before .read-fen .result .number < 18446744073709551616 = search needs in
     let near : c .before .before .before .before .before .before .read-fen .result .offset < 18446744073709551616 = search needs in
     let long : length (c .before .before .before .before .before .before .before .before .before .args .out .now) < 18446744073709551616 = search needs in
-    (refused-line (c .before .before .before .before .before .before .before .before .before .args .line .now) (c .before .before .before .before .before .before .before .before .before .args .out .now) (c .before .before .write-refusal .last .1 .1 .0) (c .before .before .before .before .before .before .read-fen .result) (c .before .before .before .before .before .before .before .before .before .args .at) _ (c .before .before .write-refusal .result) (c .before .before .before .before .before .before .read-fen .ensures) (c .before .before .before .before .if1 .taken) small near (c .before .before .before .before .before .before .before .before .before .pre) (c .before .before .write-refusal .ensures .0) (c .before .before .write-refusal .ensures .1), (refused-bytes (c .before .before .before .before .before .before .before .before .before .args .line .now) (c .before .before .before .before .before .before .before .before .before .args .out .now) (c .before .before .write-refusal .last .1 .1 .0) (c .before .before .before .before .before .before .read-fen .result) (c .before .before .before .before .before .before .before .before .before .args .at) _ (c .before .before .write-refusal .result) (c .before .before .before .before .before .before .read-fen .ensures) (c .before .before .before .before .if1 .taken) small near (c .before .before .before .before .before .before .before .before .before .pre) (c .before .before .write-refusal .ensures .0) (c .before .before .write-refusal .ensures .1), refused-short (c .before .before .before .before .before .before .before .before .before .args .line .now) (c .before .before .before .before .before .before .before .before .before .args .out .now) (c .before .before .write-refusal .last .1 .1 .0) (c .before .before .before .before .before .before .read-fen .result) (c .before .before .before .before .before .before .before .before .before .args .at) _ (c .before .before .write-refusal .result) (c .before .before .before .before .before .before .read-fen .ensures) (c .before .before .before .before .if1 .taken) small near (c .before .before .before .before .before .before .before .before .before .pre) (c .before .before .write-refusal .ensures .0) (c .before .before .write-refusal .ensures .1)))
+    let a = c .before .before .before .before .before .before .before .before .before .args in
+    let at-pre = c .before .before .before .before .before .before .before .before .before .pre in
+    let at-read-fen = c .before .before .before .before .before .before .read-fen in
+    let at-if1 = c .before .before .before .before .if1 in
+    let at-write-refusal = c .before .before .write-refusal in
+    (refused-line (a .line .now) (a .out .now) (at-write-refusal .last .1 .1 .0) (at-read-fen .result) (a .at) _ (at-write-refusal .result)
+    (at-read-fen .ensures) (at-if1 .taken) small near (at-pre) (at-write-refusal .ensures .0) (at-write-refusal .ensures .1),
+    (refused-bytes (a .line .now) (a .out .now) (at-write-refusal .last .1 .1 .0) (at-read-fen .result) (a .at) _ (at-write-refusal .result)
+    (at-read-fen .ensures) (at-if1 .taken) small near (at-pre) (at-write-refusal .ensures .0) (at-write-refusal .ensures .1), refused-short (a .line .now)
+    (a .out .now) (at-write-refusal .last .1 .1 .0) (at-read-fen .result) (a .at) _ (at-write-refusal .result) (at-read-fen .ensures) (at-if1 .taken) small
+    near (at-pre) (at-write-refusal .ensures .0) (at-write-refusal .ensures .1)))
 
 sub-write-fen : tie.Need-sub-write-fen
 sub-write-fen c = search needs
@@ -52,23 +69,53 @@ write-fen-requires : tie.Need-write-fen-requires
 write-fen-requires c κs = search needs
 
 add-end : tie.Need-add-end
-add-end c = 
+add-end c =
     let long : length (c .before .before .before .before .before .before .before .before .before .before .args .out .now) < 18446744073709551616 = search needs in
-    omega (arith, key-within (c .before .before .before .before .before .before .before .before .before .before .args .line .now) (c .before .before .before .before .before .before .before .before .before .before .args .out .now) (c .before .before .write-fen .last .1 .0) (c .before .before .before .before .before .before .before .read-fen .result) (c .before .before .before .before .before .before .before .before .before .before .args .at) _ (c .before .before .write-fen .result) (c .before .before .before .before .before .before .before .read-fen .ensures) (c .before .before .before .before .before .if1 .left) (c .before .before .before .before .before .before .before .before .before .before .pre) (c .before .before .write-fen .ensures .0) (c .before .before .write-fen .ensures .1), c .before .before .before .before .before .before .before .before .before .before .pre)
+    let a = c .before .before .before .before .before .before .before .before .before .before .args in
+    let at-pre = c .before .before .before .before .before .before .before .before .before .before .pre in
+    let at-read-fen = c .before .before .before .before .before .before .before .read-fen in
+    let at-if1 = c .before .before .before .before .before .if1 in
+    let at-write-fen = c .before .before .write-fen in
+    omega (arith, key-within (a .line .now) (a .out .now) (at-write-fen .last .1 .0) (at-read-fen .result) (a .at) _ (at-write-fen .result)
+    (at-read-fen .ensures) (at-if1 .left) (at-pre) (at-write-fen .ensures .0) (at-write-fen .ensures .1), at-pre)
 
 slice-write-out : tie.Need-slice-write-out
-slice-write-out c = newline-place (c .before .before .before .before .before .before .before .before .before .before .args .line .now) (c .before .before .before .before .before .before .before .before .before .before .args .out .now) (c .before .before .write-fen .last .1 .0) (c .before .before .before .before .before .before .before .read-fen .result) (c .before .before .before .before .before .before .before .before .before .before .args .at) _ (c .before .before .write-fen .result) (c .before .before .before .before .before .before .before .read-fen .ensures) (c .before .before .before .before .before .if1 .left) (c .before .before .before .before .before .before .before .before .before .before .pre) (c .before .before .write-fen .ensures .0) (c .before .before .write-fen .ensures .1)
+slice-write-out c =
+    let a = c .before .before .before .before .before .before .before .before .before .before .args in
+    let at-pre = c .before .before .before .before .before .before .before .before .before .before .pre in
+    let at-read-fen = c .before .before .before .before .before .before .before .read-fen in
+    let at-if1 = c .before .before .before .before .before .if1 in
+    let at-write-fen = c .before .before .write-fen in
+    newline-place (a .line .now) (a .out .now) (at-write-fen .last .1 .0) (at-read-fen .result) (a .at) _ (at-write-fen .result) (at-read-fen .ensures)
+    (at-if1 .left) (at-pre) (at-write-fen .ensures .0) (at-write-fen .ensures .1)
 
 add-t16 : tie.Need-add-t16
-add-t16 c = 
+add-t16 c =
     let long : length (c .before .before .before .before .before .before .before .before .before .before .args .out .now) < 18446744073709551616 = search needs in
-    omega (arith, key-within (c .before .before .before .before .before .before .before .before .before .before .args .line .now) (c .before .before .before .before .before .before .before .before .before .before .args .out .now) (c .before .before .write-fen .last .1 .0) (c .before .before .before .before .before .before .before .read-fen .result) (c .before .before .before .before .before .before .before .before .before .before .args .at) _ (c .before .before .write-fen .result) (c .before .before .before .before .before .before .before .read-fen .ensures) (c .before .before .before .before .before .if1 .left) (c .before .before .before .before .before .before .before .before .before .before .pre) (c .before .before .write-fen .ensures .0) (c .before .before .write-fen .ensures .1), c .before .before .before .before .before .before .before .before .before .before .pre)
+    let a = c .before .before .before .before .before .before .before .before .before .before .args in
+    let at-pre = c .before .before .before .before .before .before .before .before .before .before .pre in
+    let at-read-fen = c .before .before .before .before .before .before .before .read-fen in
+    let at-if1 = c .before .before .before .before .before .if1 in
+    let at-write-fen = c .before .before .write-fen in
+    omega (arith, key-within (a .line .now) (a .out .now) (at-write-fen .last .1 .0) (at-read-fen .result) (a .at) _ (at-write-fen .result)
+    (at-read-fen .ensures) (at-if1 .left) (at-pre) (at-write-fen .ensures .0) (at-write-fen .ensures .1), at-pre)
 
 same-length-2 : tie.Need-same-length-2
 same-length-2 c = search needs
 
 returns-2 : tie.Need-returns-2
-returns-2 c = (accepted-line (c .before .before .before .before .before .before .before .before .before .before .args .line .now) (c .before .before .before .before .before .before .before .before .before .before .args .out .now) (c .before .before .write-fen .last .1 .0) (c .before .before .before .before .before .before .before .read-fen .result) (c .before .before .before .before .before .before .before .before .before .before .args .at) _ (c .before .before .write-fen .result) (c .before .before .before .before .before .before .before .read-fen .ensures) (c .before .before .before .before .before .if1 .left) (c .before .before .before .before .before .before .before .before .before .before .pre) (c .before .before .write-fen .ensures .0) (c .before .before .write-fen .ensures .1), (accepted-bytes (c .before .before .before .before .before .before .before .before .before .before .args .line .now) (c .before .before .before .before .before .before .before .before .before .before .args .out .now) (c .before .before .write-fen .last .1 .0) (c .before .before .before .before .before .before .before .read-fen .result) (c .before .before .before .before .before .before .before .before .before .before .args .at) _ (c .before .before .write-fen .result) (c .before .before .before .before .before .before .before .read-fen .ensures) (c .before .before .before .before .before .if1 .left) (c .before .before .before .before .before .before .before .before .before .before .pre) (c .before .before .write-fen .ensures .0) (c .before .before .write-fen .ensures .1), key-short (c .before .before .before .before .before .before .before .before .before .before .args .line .now) (c .before .before .before .before .before .before .before .before .before .before .args .out .now) (c .before .before .write-fen .last .1 .0) (c .before .before .before .before .before .before .before .read-fen .result) (c .before .before .before .before .before .before .before .before .before .before .args .at) _ (c .before .before .write-fen .result) (c .before .before .before .before .before .before .before .read-fen .ensures) (c .before .before .before .before .before .if1 .left) (c .before .before .before .before .before .before .before .before .before .before .pre) (c .before .before .write-fen .ensures .0) (c .before .before .write-fen .ensures .1)))
+returns-2 c =
+    let a = c .before .before .before .before .before .before .before .before .before .before .args in
+    let at-pre = c .before .before .before .before .before .before .before .before .before .before .pre in
+    let at-read-fen = c .before .before .before .before .before .before .before .read-fen in
+    let at-if1 = c .before .before .before .before .before .if1 in
+    let at-write-fen = c .before .before .write-fen in
+    (accepted-line (a .line .now) (a .out .now) (at-write-fen .last .1 .0) (at-read-fen .result) (a .at) _ (at-write-fen .result) (at-read-fen .ensures)
+    (at-if1 .left) (at-pre) (at-write-fen .ensures .0) (at-write-fen .ensures .1),
+    (accepted-bytes (a .line .now) (a .out .now) (at-write-fen .last .1 .0) (at-read-fen .result) (a .at) _ (at-write-fen .result) (at-read-fen .ensures)
+    (at-if1 .left) (at-pre) (at-write-fen .ensures .0) (at-write-fen .ensures .1), key-short (a .line .now) (a .out .now) (at-write-fen .last .1 .0)
+    (at-read-fen .result) (a .at) _ (at-write-fen .result) (at-read-fen .ensures) (at-if1 .left) (at-pre) (at-write-fen .ensures .0)
+    (at-write-fen .ensures .1)))
 
 pub put-line-spec : {M : Type 1} → statement M
 put-line-spec =

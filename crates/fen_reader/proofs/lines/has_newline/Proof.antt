@@ -42,7 +42,10 @@ loop-again c =
     ∙ c .before .before .before .loop .inv .1)
 
 returns : tie.Need-returns Inv-loop μ-loop
-returns c = sym (found-end lineFeed (c .before .before .before .args .block .now) (c .before .loop .hit) (c .before .loop .i) (c .loop-test .left)) ∙ c .before .loop .inv .1
+returns c =
+    let a = c .before .before .before .args in
+    let at-loop = c .before .loop in
+    sym (found-end lineFeed (a .block .now) (at-loop .hit) (at-loop .i) (c .loop-test .left)) ∙ at-loop .inv .1
 
 pub has-newline-spec : {M : Type 1} → statement M
 has-newline-spec =

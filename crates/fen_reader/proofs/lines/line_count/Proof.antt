@@ -13,7 +13,10 @@ newlines-requires : tie.Need-newlines-requires
 newlines-requires c κs = search needs
 
 returns : tie.Need-returns
-returns c = omega (arith, c .before .newlines .ensures, lines-at-most (c .before .before .before .args .text .now), ended-at-most (c .before .before .before .args .text .now), c .if1 .taken)
+returns c =
+    let a = c .before .before .before .args in
+    let at-newlines = c .before .newlines in
+    omega (arith, at-newlines .ensures, lines-at-most (a .text .now), ended-at-most (a .text .now), c .if1 .taken)
 
 sub-if2 : tie.Need-sub-if2
 sub-if2 c = search needs

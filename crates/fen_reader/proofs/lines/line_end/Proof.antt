@@ -53,24 +53,34 @@ find-requires : tie.Need-find-requires Inv-loop μ-loop
 find-requires c κs = search needs
 
 add-result : tie.Need-add-result Inv-loop μ-loop
-add-result c = 
-    let s = c .before .before .before .before .before .before .before .before .before .args .text .now in
-    let end = looked-for s (c .before .before .before .before .before .before .before .before .before .args .from) (c .before .before .before .before .before .before .loop .at) (length s - c .before .before .before .before .before .before .loop .at) (c .find .result) (omega arith) (c .find .ensures) (c .before .before .before .before .before .before .loop .inv .1) in
+add-result c =
+    let a = c .before .before .before .before .before .before .before .before .before .args in
+    let at-loop = c .before .before .before .before .before .before .loop in
+    let s = a .text .now in
+    let end = looked-for s (a .from) (at-loop .at) (length s - at-loop .at) (c .find .result) (omega arith) (c .find .ensures) (at-loop .inv .1) in
     let long : length s < 18446744073709551616 = search needs in
-    omega (arith, end, end-within s (c .before .before .before .before .before .before .loop .at) (c .before .before .before .before .before .before .loop .inv .0), c .before .before .before .before .before .before .loop .inv .1)
+    omega (arith, end, end-within s (at-loop .at) (at-loop .inv .0), at-loop .inv .1)
 
 returns-2 : tie.Need-returns-2 Inv-loop μ-loop
-returns-2 c = looked-for (c .before .before .before .before .before .before .before .before .before .args .text .now) (c .before .before .before .before .before .before .before .before .before .args .from) (c .before .before .before .before .before .before .loop .at) (length (c .before .before .before .before .before .before .before .before .before .args .text .now) - c .before .before .before .before .before .before .loop .at) (c .find .result) (omega arith) (c .find .ensures) (c .before .before .before .before .before .before .loop .inv .1)
+returns-2 c =
+    let a = c .before .before .before .before .before .before .before .before .before .args in
+    let at-loop = c .before .before .before .before .before .before .loop in
+    looked-for (a .text .now) (a .from) (at-loop .at) (length (a .text .now) - at-loop .at) (c .find .result) (omega arith) (c .find .ensures) (at-loop .inv .1)
 
 loop-less : tie.Need-loop-less Inv-loop μ-loop
 loop-less c = search needs
 
 loop-again : tie.Need-loop-again Inv-loop μ-loop
-loop-again c = 
-    let s = c .before .before .before .before .before .before .before .args .text .now in
-    let within : c .before .before .before .before .loop .at + 16 ≤ length s = omega (arith, c .before .before .before .loop-test .taken) in
+loop-again c =
+    let a = c .before .before .before .before .before .before .before .args in
+    let at-loop = c .before .before .before .before .loop in
+    let at-loop-test = c .before .before .before .loop-test in
+    let at-has-newline = c .before .has-newline in
+    let s = a .text .now in
+    let within : at-loop .at + 16 ≤ length s = omega (arith, at-loop-test .taken) in
     (within,
-    passed-over s (c .before .before .before .before .before .before .before .args .from) (c .before .before .before .before .loop .at) 16 (c .before .before .before .before .loop .at + 16 - c .before .before .before .before .loop .at) (c .before .has-newline .result) within (omega arith) (c .before .has-newline .ensures) (c .if2 .left) (c .before .before .before .before .loop .inv .1))
+    passed-over s (a .from) (at-loop .at) 16 (at-loop .at + 16 - at-loop .at) (at-has-newline .result) within (omega arith) (at-has-newline .ensures)
+    (c .if2 .left) (at-loop .inv .1))
 
 sub-find-2 : tie.Need-sub-find-2 Inv-loop μ-loop
 sub-find-2 c = search needs
@@ -85,14 +95,20 @@ find-requires-2 : tie.Need-find-requires-2 Inv-loop μ-loop
 find-requires-2 c κs = search needs
 
 add-result-2 : tie.Need-add-result-2 Inv-loop μ-loop
-add-result-2 c = 
-    let s = c .before .before .before .before .before .before .args .text .now in
-    let end = looked-for s (c .before .before .before .before .before .before .args .from) (c .before .before .before .loop .at) (length s - c .before .before .before .loop .at) (c .find2 .result) (omega arith) (c .find2 .ensures) (c .before .before .before .loop .inv .1) in
+add-result-2 c =
+    let a = c .before .before .before .before .before .before .args in
+    let at-loop = c .before .before .before .loop in
+    let s = a .text .now in
+    let end = looked-for s (a .from) (at-loop .at) (length s - at-loop .at) (c .find2 .result) (omega arith) (c .find2 .ensures) (at-loop .inv .1) in
     let long : length s < 18446744073709551616 = search needs in
-    omega (arith, end, end-within s (c .before .before .before .loop .at) (c .before .before .before .loop .inv .0), c .before .before .before .loop .inv .1)
+    omega (arith, end, end-within s (at-loop .at) (at-loop .inv .0), at-loop .inv .1)
 
 returns-3 : tie.Need-returns-3 Inv-loop μ-loop
-returns-3 c = looked-for (c .before .before .before .before .before .before .args .text .now) (c .before .before .before .before .before .before .args .from) (c .before .before .before .loop .at) (length (c .before .before .before .before .before .before .args .text .now) - c .before .before .before .loop .at) (c .find2 .result) (omega arith) (c .find2 .ensures) (c .before .before .before .loop .inv .1)
+returns-3 c =
+    let a = c .before .before .before .before .before .before .args in
+    let at-loop = c .before .before .before .loop in
+    looked-for (a .text .now) (a .from) (at-loop .at) (length (a .text .now) - at-loop .at) (c .find2 .result) (omega arith) (c .find2 .ensures)
+    (at-loop .inv .1)
 
 pub line-end-spec : {M : Type 1} → statement M
 line-end-spec =

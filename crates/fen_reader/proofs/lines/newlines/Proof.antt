@@ -41,9 +41,12 @@ cast-n : tie.Need-cast-n Inv-loop μ-loop
 cast-n c = search needs
 
 add-n : tie.Need-add-n Inv-loop μ-loop
-add-n c = 
-    let s = c .before .before .before .before .before .args .text .now in
-    let turn = counted-turn s (c .before .before .before .loop .at) 128 (c .before .before .before .loop .at + 128 - c .before .before .before .loop .at) (c .before .before .before .loop .n) (c .newlines-in .result) (omega arith) (c .newlines-in .ensures) (c .before .before .before .loop .inv .1) in
+add-n c =
+    let a = c .before .before .before .before .before .args in
+    let at-loop = c .before .before .before .loop in
+    let s = a .text .now in
+    let turn = counted-turn s (at-loop .at) 128 (at-loop .at + 128 - at-loop .at) (at-loop .n) (c .newlines-in .result) (omega arith)
+    (c .newlines-in .ensures) (at-loop .inv .1) in
     let long : length s < 18446744073709551616 = search needs in
     omega (arith, turn, ended-at-most s)
 
@@ -51,10 +54,14 @@ loop-less : tie.Need-loop-less Inv-loop μ-loop
 loop-less c = search needs
 
 loop-again : tie.Need-loop-again Inv-loop μ-loop
-loop-again c = 
-    let s = c .before .before .before .before .before .args .text .now in
-    (omega (arith, c .before .before .loop-test .taken),
-    counted-turn s (c .before .before .before .loop .at) 128 (c .before .before .before .loop .at + 128 - c .before .before .before .loop .at) (c .before .before .before .loop .n) (c .newlines-in .result) (omega arith) (c .newlines-in .ensures) (c .before .before .before .loop .inv .1))
+loop-again c =
+    let a = c .before .before .before .before .before .args in
+    let at-loop = c .before .before .before .loop in
+    let at-loop-test = c .before .before .loop-test in
+    let s = a .text .now in
+    (omega (arith, at-loop-test .taken),
+    counted-turn s (at-loop .at) 128 (at-loop .at + 128 - at-loop .at) (at-loop .n) (c .newlines-in .result) (omega arith) (c .newlines-in .ensures)
+    (at-loop .inv .1))
 
 sub-newlines-in-2 : tie.Need-sub-newlines-in-2 Inv-loop μ-loop
 sub-newlines-in-2 c = search needs
@@ -72,14 +79,21 @@ cast-result : tie.Need-cast-result Inv-loop μ-loop
 cast-result c = search needs
 
 add-result : tie.Need-add-result Inv-loop μ-loop
-add-result c = 
-    let s = c .before .before .before .before .before .args .text .now in
-    let end = counted-end s (c .before .before .before .loop .at) (length s - c .before .before .before .loop .at) (c .before .before .before .loop .n) (c .newlines-in2 .result) (omega arith) (c .newlines-in2 .ensures) (c .before .before .before .loop .inv .1) in
+add-result c =
+    let a = c .before .before .before .before .before .args in
+    let at-loop = c .before .before .before .loop in
+    let s = a .text .now in
+    let end = counted-end s (at-loop .at) (length s - at-loop .at) (at-loop .n) (c .newlines-in2 .result) (omega arith) (c .newlines-in2 .ensures)
+    (at-loop .inv .1) in
     let long : length s < 18446744073709551616 = search needs in
     omega (arith, end, ended-at-most s)
 
 returns : tie.Need-returns Inv-loop μ-loop
-returns c = counted-end (c .before .before .before .before .before .args .text .now) (c .before .before .before .loop .at) (length (c .before .before .before .before .before .args .text .now) - c .before .before .before .loop .at) (c .before .before .before .loop .n) (c .newlines-in2 .result) (omega arith) (c .newlines-in2 .ensures) (c .before .before .before .loop .inv .1)
+returns c =
+    let a = c .before .before .before .before .before .args in
+    let at-loop = c .before .before .before .loop in
+    counted-end (a .text .now) (at-loop .at) (length (a .text .now) - at-loop .at) (at-loop .n) (c .newlines-in2 .result) (omega arith)
+    (c .newlines-in2 .ensures) (at-loop .inv .1)
 
 pub newlines-spec : {M : Type 1} → statement M
 newlines-spec =

@@ -21,7 +21,11 @@ same-length : tie.Need-same-length
 same-length c = search needs
 
 returns : tie.Need-returns
-returns c = put-written (c .before .before .before .before .before .args .at) 0 (c .before .before .before .before .before .args .records .now) (numbers (c .before .before .before .before .before .args .board)) (c .before .before .to-bytes .last .1 .0) refl (c .before .before .before .before .before .pre) (c .before .before .to-bytes .ensures .1)
+returns c =
+    let a = c .before .before .before .before .before .args in
+    let at-pre = c .before .before .before .before .before .pre in
+    let at-to-bytes = c .before .before .to-bytes in
+    put-written (a .at) 0 (a .records .now) (numbers (a .board)) (at-to-bytes .last .1 .0) refl (at-pre) (at-to-bytes .ensures .1)
 
 pub put-record-spec : {M : Type 1} → statement M
 put-record-spec =

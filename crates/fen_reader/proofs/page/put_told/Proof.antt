@@ -27,8 +27,10 @@ same-length : tie.Need-same-length
 same-length c = search needs
 
 returns : tie.Need-returns
-returns c = ap (λ (l : List ℕ). set l (c .args .at + 1) (c .args .offset)) (set-written (c .args .told .now) (c .args .at) (c .args .number) (omega (arith, c .pre)))
-    ∙ written-next (c .args .told .now) (c .args .at) (c .args .number ∷ []) (omega (arith, c .pre)) (c .args .at + 1) (c .args .offset) refl (omega (arith, c .pre))
+returns c =
+    ap (λ (l : List ℕ). set l (c .args .at + 1) (c .args .offset)) (set-written (c .args .told .now) (c .args .at) (c .args .number) (omega (arith, c .pre)))
+    ∙ written-next (c .args .told .now) (c .args .at) (c .args .number ∷ []) (omega (arith, c .pre)) (c .args .at + 1) (c .args .offset) refl
+    (omega (arith, c .pre))
 
 pub put-told-spec : {M : Type 1} → statement M
 put-told-spec =

@@ -27,45 +27,95 @@ part-read-fen-start : tie.Need-part-read-fen-start Inv-loop μ-loop
 part-read-fen-start c = omega (arith, c .line-end .ensures)
 
 part-read-fen-end : tie.Need-part-read-fen-end Inv-loop μ-loop
-part-read-fen-end c = omega (arith, c .line-end .ensures, end-within (c .before .before .before .before .before .before .args .text .now) (c .before .before .loop .at) (c .before .before .loop .inv .within))
+part-read-fen-end c =
+    let a = c .before .before .before .before .before .before .args in
+    let at-loop = c .before .before .loop in
+    omega (arith, c .line-end .ensures, end-within (a .text .now) (at-loop .at) (at-loop .inv .within))
 
 read-fen-requires : tie.Need-read-fen-requires Inv-loop μ-loop
 read-fen-requires c κs = search needs
 
 mul-put-record : tie.Need-mul-put-record Inv-loop μ-loop
-mul-put-record c = 
-    let b = bounds _ _ _ _ _ (c .before .before .before .before .before .before .loop .at) (c .before .before .before .before .before .before .loop .line) (c .before .before .before .before .line-end .result) (c .before .before .read-fen .result) (c .before .before .before .before .before .before .before .before .before .before .pre .0) (c .before .before .before .before .before .before .before .before .before .before .pre .1) (c .before .before .before .before .before .before .loop .inv) (c .before .before .before .before .before .loop-test .taken) (c .before .before .before .before .line-end .ensures) (c .before .before .read-fen .ensures) .0 in
+mul-put-record c =
     let long : length (c .before .before .before .before .before .before .loop .records) < 18446744073709551616 = search needs in
+    let at-pre = c .before .before .before .before .before .before .before .before .before .before .pre in
+    let at-loop = c .before .before .before .before .before .before .loop in
+    let at-loop-test = c .before .before .before .before .before .loop-test in
+    let at-line-end = c .before .before .before .before .line-end in
+    let at-read-fen = c .before .before .read-fen in
+    let b = bounds _ _ _ _ _ (at-loop .at) (at-loop .line) (at-line-end .result) (at-read-fen .result) (at-pre .0) (at-pre .1) (at-loop .inv)
+    (at-loop-test .taken) (at-line-end .ensures) (at-read-fen .ensures) .0 in
     omega (arith, b)
 
 put-record-requires : tie.Need-put-record-requires Inv-loop μ-loop
-put-record-requires c κs = bounds _ _ _ _ _ (c .before .before .before .before .before .before .loop .at) (c .before .before .before .before .before .before .loop .line) (c .before .before .before .before .line-end .result) (c .before .before .read-fen .result) (c .before .before .before .before .before .before .before .before .before .before .pre .0) (c .before .before .before .before .before .before .before .before .before .before .pre .1) (c .before .before .before .before .before .before .loop .inv) (c .before .before .before .before .before .loop-test .taken) (c .before .before .before .before .line-end .ensures) (c .before .before .read-fen .ensures) .0
+put-record-requires c κs =
+    let at-pre = c .before .before .before .before .before .before .before .before .before .before .pre in
+    let at-loop = c .before .before .before .before .before .before .loop in
+    let at-loop-test = c .before .before .before .before .before .loop-test in
+    let at-line-end = c .before .before .before .before .line-end in
+    let at-read-fen = c .before .before .read-fen in
+    bounds _ _ _ _ _ (at-loop .at) (at-loop .line) (at-line-end .result) (at-read-fen .result) (at-pre .0) (at-pre .1) (at-loop .inv) (at-loop-test .taken)
+    (at-line-end .ensures) (at-read-fen .ensures) .0
 
 mul-put-told : tie.Need-mul-put-told Inv-loop μ-loop
-mul-put-told c = 
-    let b = bounds _ _ _ _ _ (c .before .before .before .before .before .before .before .before .before .before .loop .at) (c .before .before .before .before .before .before .before .before .before .before .loop .line) (c .before .before .before .before .before .before .before .before .line-end .result) (c .before .before .before .before .before .before .read-fen .result) (c .before .before .before .before .before .before .before .before .before .before .before .before .before .before .pre .0) (c .before .before .before .before .before .before .before .before .before .before .before .before .before .before .pre .1) (c .before .before .before .before .before .before .before .before .before .before .loop .inv) (c .before .before .before .before .before .before .before .before .before .loop-test .taken) (c .before .before .before .before .before .before .before .before .line-end .ensures) (c .before .before .before .before .before .before .read-fen .ensures) .1 in
+mul-put-told c =
     let long : length (c .before .before .before .before .before .before .before .before .before .before .loop .told) < 18446744073709551616 = search needs in
+    let at-pre = c .before .before .before .before .before .before .before .before .before .before .before .before .before .before .pre in
+    let at-loop = c .before .before .before .before .before .before .before .before .before .before .loop in
+    let at-loop-test = c .before .before .before .before .before .before .before .before .before .loop-test in
+    let at-line-end = c .before .before .before .before .before .before .before .before .line-end in
+    let at-read-fen = c .before .before .before .before .before .before .read-fen in
+    let b = bounds _ _ _ _ _ (at-loop .at) (at-loop .line) (at-line-end .result) (at-read-fen .result) (at-pre .0) (at-pre .1) (at-loop .inv)
+    (at-loop-test .taken) (at-line-end .ensures) (at-read-fen .ensures) .1 in
     omega (arith, b)
 
 put-told-requires : tie.Need-put-told-requires Inv-loop μ-loop
-put-told-requires c κs = bounds _ _ _ _ _ (c .before .before .before .before .before .before .before .before .before .before .loop .at) (c .before .before .before .before .before .before .before .before .before .before .loop .line) (c .before .before .before .before .before .before .before .before .line-end .result) (c .before .before .before .before .before .before .read-fen .result) (c .before .before .before .before .before .before .before .before .before .before .before .before .before .before .pre .0) (c .before .before .before .before .before .before .before .before .before .before .before .before .before .before .pre .1) (c .before .before .before .before .before .before .before .before .before .before .loop .inv) (c .before .before .before .before .before .before .before .before .before .loop-test .taken) (c .before .before .before .before .before .before .before .before .line-end .ensures) (c .before .before .before .before .before .before .read-fen .ensures) .1
+put-told-requires c κs =
+    let at-pre = c .before .before .before .before .before .before .before .before .before .before .before .before .before .before .pre in
+    let at-loop = c .before .before .before .before .before .before .before .before .before .before .loop in
+    let at-loop-test = c .before .before .before .before .before .before .before .before .before .loop-test in
+    let at-line-end = c .before .before .before .before .before .before .before .before .line-end in
+    let at-read-fen = c .before .before .before .before .before .before .read-fen in
+    bounds _ _ _ _ _ (at-loop .at) (at-loop .line) (at-line-end .result) (at-read-fen .result) (at-pre .0) (at-pre .1) (at-loop .inv) (at-loop-test .taken)
+    (at-line-end .ensures) (at-read-fen .ensures) .1
 
 add-line : tie.Need-add-line Inv-loop μ-loop
-add-line c = 
-    let b = bounds _ _ _ _ _ (c .before .before .before .before .before .before .before .before .before .before .before .before .before .loop .at) (c .before .before .before .before .before .before .before .before .before .before .before .before .before .loop .line) (c .before .before .before .before .before .before .before .before .before .before .before .line-end .result) (c .before .before .before .before .before .before .before .before .before .read-fen .result) (c .before .before .before .before .before .before .before .before .before .before .before .before .before .before .before .before .before .pre .0) (c .before .before .before .before .before .before .before .before .before .before .before .before .before .before .before .before .before .pre .1) (c .before .before .before .before .before .before .before .before .before .before .before .before .before .loop .inv) (c .before .before .before .before .before .before .before .before .before .before .before .before .loop-test .taken) (c .before .before .before .before .before .before .before .before .before .before .before .line-end .ensures) (c .before .before .before .before .before .before .before .before .before .read-fen .ensures) .1 in
-    let long : length (c .before .before .before .before .before .before .before .before .before .before .before .before .before .loop .told) < 18446744073709551616 = search needs in
+add-line c =
+    let early = c .before .before .before .before .before .before .before .before .before .before .before .before in
+    let long : length (early .before .loop .told) < 18446744073709551616 = search needs in
+    let at-pre = early .before .before .before .before .before .pre in
+    let at-loop = early .before .loop in
+    let at-loop-test = early .loop-test in
+    let at-line-end = c .before .before .before .before .before .before .before .before .before .before .before .line-end in
+    let at-read-fen = c .before .before .before .before .before .before .before .before .before .read-fen in
+    let b = bounds _ _ _ _ _ (at-loop .at) (at-loop .line) (at-line-end .result) (at-read-fen .result) (at-pre .0) (at-pre .1) (at-loop .inv)
+    (at-loop-test .taken) (at-line-end .ensures) (at-read-fen .ensures) .1 in
     omega (arith, b)
 
 past-requires : tie.Need-past-requires Inv-loop μ-loop
 past-requires c κs = search needs
 
 loop-less : tie.Need-loop-less Inv-loop μ-loop
-loop-less c = further (c .before .before .before .before .before .before .before .before .before .before .before .before .before .before .before .before .before .before .args .text .now) (c .before .before .before .before .before .before .before .before .before .before .before .before .before .before .loop .at) (c .before .before .before .before .before .before .before .before .before .before .before .before .line-end .result) (c .past .result) (c .before .before .before .before .before .before .before .before .before .before .before .before .before .loop-test .taken) (c .before .before .before .before .before .before .before .before .before .before .before .before .line-end .ensures) (c .past .ensures)
+loop-less c =
+    let early = c .before .before .before .before .before .before .before .before .before .before .before .before in
+    let a = early .before .before .before .before .before .before .args in
+    let at-loop = early .before .before .loop in
+    let at-loop-test = early .before .loop-test in
+    let at-line-end = early .line-end in
+    further (a .text .now) (at-loop .at) (at-line-end .result) (c .past .result) (at-loop-test .taken) (at-line-end .ensures) (c .past .ensures)
 
 loop-again : tie.Need-loop-again Inv-loop μ-loop
-loop-again c = 
-    turned _ _ _ _ _ (c .before .before .before .before .before .before .before .before .before .before .before .before .before .before .loop .at) (c .before .before .before .before .before .before .before .before .before .before .before .before .before .before .loop .line) (c .before .before .before .before .before .before .before .before .before .before .before .before .line-end .result) (c .before .before .before .before .before .before .before .before .before .before .read-fen .result) (c .before .before .before .before .before .before .before .before .before .before .before .before .before .before .before .before .before .before .pre .0) (c .before .before .before .before .before .before .before .before .before .before .before .before .before .before .before .before .before .before .pre .1) (c .before .before .before .before .before .before .before .before .before .before .before .before .before .before .loop .inv) (c .before .before .before .before .before .before .before .before .before .before .before .before .before .loop-test .taken)
-    (c .before .before .before .before .before .before .before .before .before .before .before .before .line-end .ensures) (c .before .before .before .before .before .before .before .before .before .before .read-fen .ensures) (c .past .result) _ _ (c .before .before .before .before .before .before .before .put-record .ensures) (c .before .before .before .put-told .ensures) (c .past .ensures)
+loop-again c =
+    let early = c .before .before .before .before .before .before .before .before .before .before .before .before in
+    let at-pre = early .before .before .before .before .before .before .pre in
+    let at-loop = early .before .before .loop in
+    let at-loop-test = early .before .loop-test in
+    let at-line-end = early .line-end in
+    let at-read-fen = c .before .before .before .before .before .before .before .before .before .before .read-fen in
+    let at-put-record = c .before .before .before .before .before .before .before .put-record in
+    let at-put-told = c .before .before .before .put-told in
+    turned _ _ _ _ _ (at-loop .at) (at-loop .line) (at-line-end .result) (at-read-fen .result) (at-pre .0) (at-pre .1) (at-loop .inv) (at-loop-test .taken)
+    (at-line-end .ensures) (at-read-fen .ensures) (c .past .result) _ _ (at-put-record .ensures) (at-put-told .ensures) (c .past .ensures)
 
 same-length : tie.Need-same-length Inv-loop μ-loop
 same-length c = c .before .loop .inv .records-long

@@ -55,15 +55,20 @@ same-length-2 : tie.Need-same-length-2
 same-length-2 c = search needs
 
 returns-3 : tie.Need-returns-3
-returns-3 c = 
-    let s = c .before .before .before .before .before .before .before .before .before .before .before .before .before .before .args .text .now in
-    let records = c .before .before .before .before .before .before .before .before .before .before .before .before .before .before .args .records .now in
-    let told = c .before .before .before .before .before .before .before .before .before .before .before .before .before .before .args .told .now in
-    let n : c .before .before .before .before .before .before .before .before .before .before .line-count .result ≡ lineCount s = c .before .before .before .before .before .before .before .before .before .before .line-count .ensures in
-    let a : recordSize * lineCount s ≤ length records = omega (arith, c .before .before .before .before .before .before .before .before .before .if1 .left) in
-    let b : toldSize * lineCount s ≤ length told = omega (arith, c .before .before .before .before .before .before .before .before .if2 .left) in
+returns-3 c =
+    let at-args = c .before .before .before .before .before .before .before .before .before .before .before .before .before .before .args in
+    let at-line-count = c .before .before .before .before .before .before .before .before .before .before .line-count in
+    let at-if1 = c .before .before .before .before .before .before .before .before .before .if1 in
+    let at-if2 = c .before .before .before .before .before .before .before .before .if2 in
+    let at-read-lines = c .before .before .before .before .before .read-lines in
+    let s = at-args .text .now in
+    let records = at-args .records .now in
+    let told = at-args .told .now in
+    let n : at-line-count .result ≡ lineCount s = at-line-count .ensures in
+    let a : recordSize * lineCount s ≤ length records = omega (arith, at-if1 .left) in
+    let b : toldSize * lineCount s ≤ length told = omega (arith, at-if2 .left) in
     let all = page-taken s records told (both-fit s (length records) (length told) a b) in
-    (c .accepted .ensures ∙ ap accepted n ∙ all .0, (c .before .before .before .before .before .read-lines .ensures .0 ∙ all .1, c .before .before .before .before .before .read-lines .ensures .1 ∙ all .2))
+    (c .accepted .ensures ∙ ap accepted n ∙ all .0, (at-read-lines .ensures .0 ∙ all .1, at-read-lines .ensures .1 ∙ all .2))
 
 pub read-page-spec : {M : Type 1} → statement M
 read-page-spec =

@@ -27,9 +27,15 @@ same-length : tie.Need-same-length Inv-loop μ-loop
 same-length c = c .before .before .before .loop .inv .long
 
 returns : tie.Need-returns Inv-loop μ-loop
-returns c = 
-    let none = left-unended (c .before .before .before .before .before .before .args .text .now) (c .before .before .before .loop .taken) (c .before .line-end .result) (length (c .before .before .before .before .before .before .args .out .now) - c .before .before .before .loop .ready) (c .before .before .before .loop .inv .inside) (c .before .line-end .ensures) (c .if1 .taken) in
-    (page-answer (c .before .before .before .before .before .before .args .text .now) (c .before .before .before .before .before .before .args .out .now) (c .before .before .before .loop .out) (c .before .before .before .loop .taken) (c .before .before .before .loop .ready) (c .before .before .before .loop .accepted) (c .before .before .before .loop .refused) (c .before .before .before .loop .inv) none, (page-room (c .before .before .before .before .before .before .args .text .now) (c .before .before .before .before .before .before .args .out .now) (c .before .before .before .loop .out) (c .before .before .before .loop .taken) (c .before .before .before .loop .ready) (c .before .before .before .loop .accepted) (c .before .before .before .loop .refused) (c .before .before .before .loop .inv) none, (c .before .before .before .loop .inv .inside, c .before .before .before .loop .inv .within)))
+returns c =
+    let a = c .before .before .before .before .before .before .args in
+    let at-loop = c .before .before .before .loop in
+    let at-line-end = c .before .line-end in
+    let none = left-unended (a .text .now) (at-loop .taken) (at-line-end .result) (length (a .out .now) - at-loop .ready) (at-loop .inv .inside)
+    (at-line-end .ensures) (c .if1 .taken) in
+    (page-answer (a .text .now) (a .out .now) (at-loop .out) (at-loop .taken) (at-loop .ready) (at-loop .accepted) (at-loop .refused) (at-loop .inv) none,
+    (page-room (a .text .now) (a .out .now) (at-loop .out) (at-loop .taken) (at-loop .ready) (at-loop .accepted) (at-loop .refused) (at-loop .inv) none,
+    (at-loop .inv .inside, at-loop .inv .within)))
 
 sub-put-line : tie.Need-sub-put-line Inv-loop μ-loop
 sub-put-line c = omega (arith, c .before .line-end .ensures)
@@ -41,39 +47,90 @@ part-put-line-end : tie.Need-part-put-line-end Inv-loop μ-loop
 part-put-line-end c = omega (arith, c .if1 .left)
 
 put-line-requires : tie.Need-put-line-requires Inv-loop μ-loop
-put-line-requires c κs = omega (arith, c .before .before .before .before .loop-test .taken, c .before .before .before .before .before .loop .inv .within, c .before .before .before .before .before .loop .inv .long)
+put-line-requires c κs =
+    let at-loop = c .before .before .before .before .before .loop in
+    let at-loop-test = c .before .before .before .before .loop-test in
+    omega (arith, at-loop-test .taken, at-loop .inv .within, at-loop .inv .long)
 
 add-accepted : tie.Need-add-accepted Inv-loop μ-loop
-add-accepted c = 
+add-accepted c =
     let long : length (c .before .before .before .before .before .before .before .before .before .before .before .before .args .text .now) < 18446744073709551616 = search needs in
-    omega (arith, counts-fit (c .before .before .before .before .before .before .before .before .before .before .before .before .args .text .now) (c .before .before .before .before .before .before .before .before .before .before .before .before .args .out .now) (c .before .before .before .before .before .before .before .before .before .loop .out) (c .before .before .before .before .before .before .before .before .before .loop .taken) (c .before .before .before .before .before .before .before .before .before .loop .ready) (c .before .before .before .before .before .before .before .before .before .loop .accepted) (c .before .before .before .before .before .before .before .before .before .loop .refused) (c .before .before .before .before .before .before .before .line-end .result) (c .before .before .before .put-line .result) (c .before .before .before .put-line .last .1 .0) (c .before .before .before .before .before .before .before .before .before .loop .inv) (c .before .before .before .before .before .before .before .before .loop-test .taken) (c .before .before .before .before .before .before .before .line-end .ensures) (omega (arith, c .before .before .before .before .before .before .if1 .left)) (c .before .before .before .put-line .ensures .0) (c .before .before .before .put-line .ensures .1 .1) (c .before .before .before .put-line .ensures .1 .0) .0, put-key (c .before .before .before .before .before .before .before .before .before .before .before .before .args .text .now) (c .before .before .before .before .before .before .before .before .before .before .before .before .args .out .now) (c .before .before .before .before .before .before .before .before .before .loop .out) (c .before .before .before .before .before .before .before .before .before .loop .taken) (c .before .before .before .before .before .before .before .before .before .loop .ready) (c .before .before .before .before .before .before .before .before .before .loop .accepted) (c .before .before .before .before .before .before .before .before .before .loop .refused) (c .before .before .before .before .before .before .before .line-end .result) (c .before .before .before .put-line .result) (c .before .before .before .put-line .last .1 .0) (c .before .before .before .before .before .before .before .before .before .loop .inv) (c .before .before .before .before .before .before .before .before .loop-test .taken) (c .before .before .before .before .before .before .before .line-end .ensures) (omega (arith, c .before .before .before .before .before .before .if1 .left)) (c .before .before .before .put-line .ensures .0) (c .before .before .before .put-line .ensures .1 .1) (c .before .before .before .put-line .ensures .1 .0), one-at-most (take (c .before .before .before .before .before .before .before .line-end .result - c .before .before .before .before .before .before .before .before .before .loop .taken) (drop (c .before .before .before .before .before .before .before .before .before .loop .taken) (c .before .before .before .before .before .before .before .before .before .before .before .before .args .text .now))))
+    let a = c .before .before .before .before .before .before .before .before .before .before .before .before .args in
+    let at-loop = c .before .before .before .before .before .before .before .before .before .loop in
+    let at-loop-test = c .before .before .before .before .before .before .before .before .loop-test in
+    let at-line-end = c .before .before .before .before .before .before .before .line-end in
+    let at-if1 = c .before .before .before .before .before .before .if1 in
+    let at-put-line = c .before .before .before .put-line in
+    omega (arith, counts-fit (a .text .now) (a .out .now) (at-loop .out) (at-loop .taken) (at-loop .ready) (at-loop .accepted) (at-loop .refused)
+    (at-line-end .result) (at-put-line .result) (at-put-line .last .1 .0) (at-loop .inv) (at-loop-test .taken) (at-line-end .ensures)
+    (omega (arith, at-if1 .left)) (at-put-line .ensures .0) (at-put-line .ensures .1 .1) (at-put-line .ensures .1 .0) .0, put-key (a .text .now) (a .out .now)
+    (at-loop .out) (at-loop .taken) (at-loop .ready) (at-loop .accepted) (at-loop .refused) (at-line-end .result) (at-put-line .result)
+    (at-put-line .last .1 .0) (at-loop .inv) (at-loop-test .taken) (at-line-end .ensures) (omega (arith, at-if1 .left)) (at-put-line .ensures .0)
+    (at-put-line .ensures .1 .1) (at-put-line .ensures .1 .0), one-at-most
+    (take (at-line-end .result - at-loop .taken) (drop (at-loop .taken) (a .text .now))))
 
 sub-refused : tie.Need-sub-refused Inv-loop μ-loop
-sub-refused c = omega (arith, put-key (c .before .before .before .before .before .before .before .before .before .before .before .before .before .args .text .now) (c .before .before .before .before .before .before .before .before .before .before .before .before .before .args .out .now) (c .before .before .before .before .before .before .before .before .before .before .loop .out) (c .before .before .before .before .before .before .before .before .before .before .loop .taken) (c .before .before .before .before .before .before .before .before .before .before .loop .ready) (c .before .before .before .before .before .before .before .before .before .before .loop .accepted) (c .before .before .before .before .before .before .before .before .before .before .loop .refused) (c .before .before .before .before .before .before .before .before .line-end .result) (c .before .before .before .before .put-line .result) (c .before .before .before .before .put-line .last .1 .0) (c .before .before .before .before .before .before .before .before .before .before .loop .inv) (c .before .before .before .before .before .before .before .before .before .loop-test .taken) (c .before .before .before .before .before .before .before .before .line-end .ensures) (omega (arith, c .before .before .before .before .before .before .before .if1 .left)) (c .before .before .before .before .put-line .ensures .0) (c .before .before .before .before .put-line .ensures .1 .1) (c .before .before .before .before .put-line .ensures .1 .0), one-at-most (take (c .before .before .before .before .before .before .before .before .line-end .result - c .before .before .before .before .before .before .before .before .before .before .loop .taken) (drop (c .before .before .before .before .before .before .before .before .before .before .loop .taken) (c .before .before .before .before .before .before .before .before .before .before .before .before .before .args .text .now))))
+sub-refused c =
+    let a = c .before .before .before .before .before .before .before .before .before .before .before .before .before .args in
+    let at-loop = c .before .before .before .before .before .before .before .before .before .before .loop in
+    let at-loop-test = c .before .before .before .before .before .before .before .before .before .loop-test in
+    let at-line-end = c .before .before .before .before .before .before .before .before .line-end in
+    let at-if1 = c .before .before .before .before .before .before .before .if1 in
+    let at-put-line = c .before .before .before .before .put-line in
+    omega (arith, put-key (a .text .now) (a .out .now) (at-loop .out) (at-loop .taken) (at-loop .ready) (at-loop .accepted) (at-loop .refused)
+    (at-line-end .result) (at-put-line .result) (at-put-line .last .1 .0) (at-loop .inv) (at-loop-test .taken) (at-line-end .ensures)
+    (omega (arith, at-if1 .left)) (at-put-line .ensures .0) (at-put-line .ensures .1 .1) (at-put-line .ensures .1 .0), one-at-most
+    (take (at-line-end .result - at-loop .taken) (drop (at-loop .taken) (a .text .now))))
 
 add-refused : tie.Need-add-refused Inv-loop μ-loop
-add-refused c = 
+add-refused c =
     let long : length (c .before .before .before .before .before .before .before .before .before .before .before .before .before .args .text .now) < 18446744073709551616 = search needs in
-    omega (arith, counts-fit (c .before .before .before .before .before .before .before .before .before .before .before .before .before .args .text .now) (c .before .before .before .before .before .before .before .before .before .before .before .before .before .args .out .now) (c .before .before .before .before .before .before .before .before .before .before .loop .out) (c .before .before .before .before .before .before .before .before .before .before .loop .taken) (c .before .before .before .before .before .before .before .before .before .before .loop .ready) (c .before .before .before .before .before .before .before .before .before .before .loop .accepted) (c .before .before .before .before .before .before .before .before .before .before .loop .refused) (c .before .before .before .before .before .before .before .before .line-end .result) (c .before .before .before .before .put-line .result) (c .before .before .before .before .put-line .last .1 .0) (c .before .before .before .before .before .before .before .before .before .before .loop .inv) (c .before .before .before .before .before .before .before .before .before .loop-test .taken) (c .before .before .before .before .before .before .before .before .line-end .ensures) (omega (arith, c .before .before .before .before .before .before .before .if1 .left)) (c .before .before .before .before .put-line .ensures .0) (c .before .before .before .before .put-line .ensures .1 .1) (c .before .before .before .before .put-line .ensures .1 .0) .1)
+    let a = c .before .before .before .before .before .before .before .before .before .before .before .before .before .args in
+    let at-loop = c .before .before .before .before .before .before .before .before .before .before .loop in
+    let at-loop-test = c .before .before .before .before .before .before .before .before .before .loop-test in
+    let at-line-end = c .before .before .before .before .before .before .before .before .line-end in
+    let at-if1 = c .before .before .before .before .before .before .before .if1 in
+    let at-put-line = c .before .before .before .before .put-line in
+    omega (arith, counts-fit (a .text .now) (a .out .now) (at-loop .out) (at-loop .taken) (at-loop .ready) (at-loop .accepted) (at-loop .refused)
+    (at-line-end .result) (at-put-line .result) (at-put-line .last .1 .0) (at-loop .inv) (at-loop-test .taken) (at-line-end .ensures)
+    (omega (arith, at-if1 .left)) (at-put-line .ensures .0) (at-put-line .ensures .1 .1) (at-put-line .ensures .1 .0) .1)
 
 add-taken : tie.Need-add-taken Inv-loop μ-loop
-add-taken c = 
+add-taken c =
     let long : length (c .before .before .before .before .before .before .before .before .before .before .before .before .before .args .text .now) < 18446744073709551616 = search needs in
-    omega (arith, c .before .before .before .before .before .before .before .if1 .left)
+    let a = c .before .before .before .before .before .before .before .before .before .before .before .before .before .args in
+    let at-if1 = c .before .before .before .before .before .before .before .if1 in
+    omega (arith, at-if1 .left)
 
 loop-less : tie.Need-loop-less Inv-loop μ-loop
-loop-less c = omega (arith, c .before .before .before .before .before .before .before .before .line-end .ensures, c .before .before .before .before .before .before .before .if1 .left)
+loop-less c =
+    let at-line-end = c .before .before .before .before .before .before .before .before .line-end in
+    let at-if1 = c .before .before .before .before .before .before .before .if1 in
+    omega (arith, at-line-end .ensures, at-if1 .left)
 
 loop-again : tie.Need-loop-again Inv-loop μ-loop
-loop-again c = one-more (c .before .before .before .before .before .before .before .before .before .before .before .before .before .args .text .now) (c .before .before .before .before .before .before .before .before .before .before .before .before .before .args .out .now) (c .before .before .before .before .before .before .before .before .before .before .loop .out) (c .before .before .before .before .before .before .before .before .before .before .loop .taken) (c .before .before .before .before .before .before .before .before .before .before .loop .ready) (c .before .before .before .before .before .before .before .before .before .before .loop .accepted) (c .before .before .before .before .before .before .before .before .before .before .loop .refused) (c .before .before .before .before .before .before .before .before .line-end .result) (c .before .before .before .before .put-line .result) (c .before .before .before .before .put-line .last .1 .0) (c .before .before .before .before .before .before .before .before .before .before .loop .inv) (c .before .before .before .before .before .before .before .before .before .loop-test .taken) (c .before .before .before .before .before .before .before .before .line-end .ensures) (omega (arith, c .before .before .before .before .before .before .before .if1 .left)) (c .before .before .before .before .put-line .ensures .0) (c .before .before .before .before .put-line .ensures .1 .1) (c .before .before .before .before .put-line .ensures .1 .0)
+loop-again c =
+    let a = c .before .before .before .before .before .before .before .before .before .before .before .before .before .args in
+    let at-loop = c .before .before .before .before .before .before .before .before .before .before .loop in
+    let at-loop-test = c .before .before .before .before .before .before .before .before .before .loop-test in
+    let at-line-end = c .before .before .before .before .before .before .before .before .line-end in
+    let at-if1 = c .before .before .before .before .before .before .before .if1 in
+    let at-put-line = c .before .before .before .before .put-line in
+    one-more (a .text .now) (a .out .now) (at-loop .out) (at-loop .taken) (at-loop .ready) (at-loop .accepted) (at-loop .refused) (at-line-end .result)
+    (at-put-line .result) (at-put-line .last .1 .0) (at-loop .inv) (at-loop-test .taken) (at-line-end .ensures) (omega (arith, at-if1 .left))
+    (at-put-line .ensures .0) (at-put-line .ensures .1 .1) (at-put-line .ensures .1 .0)
 
 same-length-2 : tie.Need-same-length-2 Inv-loop μ-loop
 same-length-2 c = c .before .loop .inv .long
 
 returns-2 : tie.Need-returns-2 Inv-loop μ-loop
-returns-2 c = 
-    let none = none-goes (length (c .before .before .before .before .args .out .now) - c .before .loop .ready) _ (omega (arith, c .loop-test .left, c .before .loop .inv .long)) in
-    (page-answer (c .before .before .before .before .args .text .now) (c .before .before .before .before .args .out .now) (c .before .loop .out) (c .before .loop .taken) (c .before .loop .ready) (c .before .loop .accepted) (c .before .loop .refused) (c .before .loop .inv) none, (page-room (c .before .before .before .before .args .text .now) (c .before .before .before .before .args .out .now) (c .before .loop .out) (c .before .loop .taken) (c .before .loop .ready) (c .before .loop .accepted) (c .before .loop .refused) (c .before .loop .inv) none, (c .before .loop .inv .inside, c .before .loop .inv .within)))
+returns-2 c =
+    let a = c .before .before .before .before .args in
+    let at-loop = c .before .loop in
+    let none = none-goes (length (a .out .now) - at-loop .ready) _ (omega (arith, c .loop-test .left, at-loop .inv .long)) in
+    (page-answer (a .text .now) (a .out .now) (at-loop .out) (at-loop .taken) (at-loop .ready) (at-loop .accepted) (at-loop .refused) (at-loop .inv) none,
+    (page-room (a .text .now) (a .out .now) (at-loop .out) (at-loop .taken) (at-loop .ready) (at-loop .accepted) (at-loop .refused) (at-loop .inv) none,
+    (at-loop .inv .inside, at-loop .inv .within)))
 
 pub key-page-spec : {M : Type 1} → statement M
 key-page-spec =

@@ -57,12 +57,16 @@ counted-requires : tie.Need-counted-requires Inv-loop μ-loop
 counted-requires c κs = search needs
 
 add-at : tie.Need-add-at Inv-loop μ-loop
-add-at c = 
-    let part : length (take (c .before .before .before .before .before .before .before .before .before .before .before .before .before .before .before .before .before .args .end - c .before .before .before .before .before .before .before .before .before .before .before .before .before .before .loop .at) (drop (c .before .before .before .before .before .before .before .before .before .before .before .before .before .before .loop .at) (c .before .before .before .before .before .before .before .before .before .before .before .before .before .before .before .before .before .args .input .now))) ≡ c .before .before .before .before .before .before .before .before .before .before .before .before .before .before .before .before .before .args .end - c .before .before .before .before .before .before .before .before .before .before .before .before .before .before .loop .at =
-    length-take-le (c .before .before .before .before .before .before .before .before .before .before .before .before .before .before .before .before .before .args .end - c .before .before .before .before .before .before .before .before .before .before .before .before .before .before .loop .at) (drop (c .before .before .before .before .before .before .before .before .before .before .before .before .before .before .loop .at) (c .before .before .before .before .before .before .before .before .before .before .before .before .before .before .before .before .before .args .input .now)) (rw (length-drop (c .before .before .before .before .before .before .before .before .before .before .before .before .before .before .loop .at) (c .before .before .before .before .before .before .before .before .before .before .before .before .before .before .before .before .before .args .input .now)) (omega (arith, c .before .before .before .before .before .before .before .before .before .before .before .before .before .before .before .before .before .pre .1 .0))) in
-    let small = c .before .before .before .before .before .before .before .before .before .before .before .before .before .before .before .before .before .fits in
-    let at-start = c .before .before .before .before .before .before .before .before .before .before .before .before .before .before .before .before .before .args in
-    omega (arith, c .before .before .before .before .before .before .before .key-page .ensures .1 .1 .0, c .before .before .before .before .before .before .before .before .before .before .before .before .before .before .loop .inv .0)
+add-at c =
+    let early = c .before .before .before .before .before .before .before .before .before .before .before .before in
+    let a = early .before .before .before .before .before .args in
+    let at-fits = early .before .before .before .before .before .fits in
+    let at-pre = early .before .before .before .before .before .pre in
+    let at-loop = early .before .before .loop in
+    let at-key-page = c .before .before .before .before .before .before .before .key-page in
+    let part : length (take (a .end - at-loop .at) (drop (at-loop .at) (a .input .now))) ≡ a .end - at-loop .at =
+    length-take-le (a .end - at-loop .at) (drop (at-loop .at) (a .input .now)) (rw (length-drop (at-loop .at) (a .input .now)) (omega (arith, at-pre .1 .0))) in
+    omega (arith, at-key-page .ensures .1 .1 .0, at-loop .inv .0)
 
 loop-less : tie.Need-loop-less Inv-loop μ-loop
 loop-less c = search needs

@@ -15,10 +15,12 @@ line-end-requires : tie.Need-line-end-requires
 line-end-requires c κs = search needs
 
 returns : tie.Need-returns
-returns c = 
-    let long : length (take (c .before .before .before .args .to) (c .before .before .before .args .text .now)) ≡ c .before .before .before .args .to = length-take-le (c .before .before .before .args .to) (c .before .before .before .args .text .now) (c .before .before .before .pre .1) in
-    let within : c .before .before .before .args .from ≤ length (take (c .before .before .before .args .to) (c .before .before .before .args .text .now)) = omega (arith, c .before .before .before .pre .0) in
-    (omega (arith, c .line-end .ensures), omega (arith, c .line-end .ensures, end-within (take (c .before .before .before .args .to) (c .before .before .before .args .text .now)) (c .before .before .before .args .from) within))
+returns c =
+    let a = c .before .before .before .args in
+    let at-pre = c .before .before .before .pre in
+    let long : length (take (a .to) (a .text .now)) ≡ a .to = length-take-le (a .to) (a .text .now) (at-pre .1) in
+    let within : a .from ≤ length (take (a .to) (a .text .now)) = omega (arith, at-pre .0) in
+    (omega (arith, c .line-end .ensures), omega (arith, c .line-end .ensures, end-within (take (a .to) (a .text .now)) (a .from) within))
 
 pub newline-at-spec : {M : Type 1} → statement M
 newline-at-spec = tie.close (tie.spec slice-aggregate-line-end line-end-requires returns)
