@@ -12,6 +12,7 @@ pub mod ReadBack
 pub mod Seven
 pub mod Hollow
 pub mod Blind
+pub mod AtRows
 pub mod AtSmallest
 pub mod Standards
 pub mod ReadIn

@@ -1,0 +1,52 @@
+-- The standard's form at its smallest positions (document 02, order 6), as rows: each a text and what it resolves to, or a move and its name.
+-- Assumes nothing.
+use Prim.Native.Nat.{ℕ}
+use Prim.Native.String.{String}
+use mathlib.Core.Path.{_≡_}
+use mathlib.Core.List.{List, [], _∷_}
+use lib.ListN.{length, replicate, take}
+use Rattle.square.specs.Answer.{accepted, refused, invalidSanMove, noName}
+use Rattle.square.specs.Ascii.{ascii}
+use Rattle.board_builder.specs.declared.BoardBuilder.{BoardBuilder}
+use Rattle.board_builder.specs.Steps.{withPiece}
+use Rattle.san_text.specs.Standard.{fromSanStandard, standardNameAnswer, standardNameBytes}
+use Rattle.san_text.specs.Slips.{knight, taken, rook, blackKing, pawn, promoting}
+
+-- a text is read as the move, or refused with 4; a move is named so
+abbrev pub Reads : BoardBuilder → List ℕ → String → ℕ → Type 0
+Reads b moves text m = fromSanStandard b moves (ascii text) ≡ accepted m
+
+abbrev pub Refuses : BoardBuilder → List ℕ → String → Type 0
+Refuses b moves text = fromSanStandard b moves (ascii text) ≡ refused invalidSanMove
+
+pub record Named (b : BoardBuilder) (moves : List ℕ) (m : ℕ) (name : String) : Type 0 where
+  pub answer : standardNameAnswer b moves m 8 ≡ accepted (length (ascii name))
+  pub text : take (length (ascii name)) (standardNameBytes b moves m (replicate 8 0)) ≡ ascii name
+
+-- white pawns on e5 and d5, to d6: with a man on d6 the straight one needs `x` and its file as well
+abbrev pub straight : BoardBuilder
+straight = withPiece (withPiece pawn 35 1) 43 7
+
+pub record StandardRows : Type 0 where
+  -- promotion needs `=`
+  pub equals : Reads promoting (24372 ∷ []) "e8=Q#" 24372
+  pub no-equals : Refuses promoting (24372 ∷ []) "e8Q"
+  pub named-equals : Named promoting (24372 ∷ []) 24372 "e8=Q"
+  -- the destination is the last square, no tail is dropped, one mark at most
+  pub takes-behind : Refuses taken (1153 ∷ []) "Nc3x"
+  pub tail : Refuses knight (1153 ∷ []) "Nc3+?!"
+  pub two-marks : Refuses knight (1153 ∷ []) "Nc3+#"
+  -- an en passant capture has `x` and the file, and no mark
+  pub en-passant : Reads pawn (2788 ∷ []) "exd6" 2788
+  pub without : Refuses pawn (2788 ∷ []) "d6"
+  pub marked : Refuses pawn (2788 ∷ []) "exd6 e.p."
+  pub named-en-passant : Named pawn (2788 ∷ []) 2788 "exd6"
+  -- a pawn's `x` needs its file, also straight on
+  pub fileless : Refuses straight (2788 ∷ []) "xd6"
+  pub straight-on : Named straight (2787 ∷ []) 2787 "dxd6"
+  -- castling takes a check mark, and needs a king, of either colour; a listed pair twice is still taken
+  pub castling : Reads blackKing (388 ∷ 388 ∷ []) "O-O+" 388
+  pub rook-on-e : Refuses rook (388 ∷ []) "O-O"
+  pub rook-named : Named rook (388 ∷ []) 388 "Rg1"
+  -- and no last resort: document 01's namer says `O-O` here
+  pub no-resort : standardNameAnswer rook (388 ∷ 388 ∷ []) 388 8 ≡ refused noName
