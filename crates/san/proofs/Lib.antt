@@ -1,5 +1,6 @@
 pub mod Said
 pub mod Arrivals
+pub mod Captures
 pub mod Counts
 pub mod OnePass
 pub mod Picks

@@ -14,10 +14,18 @@ same-length : tie.Need-same-length
 same-length c = search needs
 
 returns : tie.Need-returns
-returns c = rw (sym (c .before .before .before .before .before .is-king-on-source .ensures) ∙ c .before .before .before .before .if1 .taken) (c .before .before .castling-text .ensures)
+returns c =
+    let at-is-king-on-source = c .before .before .before .before .before .is-king-on-source in
+    let at-if1 = c .before .before .before .before .if1 in
+    let at-castling-text = c .before .before .castling-text in
+    rw (sym (at-is-king-on-source .ensures) ∙ at-if1 .taken) (at-castling-text .ensures)
 
 returns-2 : tie.Need-returns-2
-returns-2 c = rw (sym (c .before .is-king-on-source .ensures) ∙ c .if1 .left) (found-none (c .before .before .before .before .before .args .bytes .now) (c .before .before .before .before .before .pre))
+returns-2 c =
+    let a = c .before .before .before .args in
+    let at-pre = c .before .before .before .pre in
+    let at-is-king-on-source = c .before .is-king-on-source in
+    rw (sym (at-is-king-on-source .ensures) ∙ c .if1 .left) (found-none (a .bytes .now) (at-pre))
 
 pub king-name-spec : {M : Type 1} → statement M
 king-name-spec =

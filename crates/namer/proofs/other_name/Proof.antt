@@ -13,7 +13,11 @@ same-length : tie.Need-same-length
 same-length c = search needs
 
 returns : tie.Need-returns
-returns c = rw (sym (c .before .before .before .before .before .is-pawn-changing-files .ensures) ∙ c .before .before .before .before .if1 .taken) (c .before .before .pawn-name .ensures)
+returns c =
+    let at-is-pawn-changing-files = c .before .before .before .before .before .is-pawn-changing-files in
+    let at-if1 = c .before .before .before .before .if1 in
+    let at-pawn-name = c .before .before .pawn-name in
+    rw (sym (at-is-pawn-changing-files .ensures) ∙ at-if1 .taken) (at-pawn-name .ensures)
 
 man-name-requires : tie.Need-man-name-requires
 man-name-requires c κs = search needs
@@ -22,7 +26,11 @@ same-length-2 : tie.Need-same-length-2
 same-length-2 c = search needs
 
 returns-2 : tie.Need-returns-2
-returns-2 c = rw (sym (c .before .before .before .before .before .is-pawn-changing-files .ensures) ∙ c .before .before .before .before .if1 .left) (c .before .before .man-name .ensures)
+returns-2 c =
+    let at-is-pawn-changing-files = c .before .before .before .before .before .is-pawn-changing-files in
+    let at-if1 = c .before .before .before .before .if1 in
+    let at-man-name = c .before .before .man-name in
+    rw (sym (at-is-pawn-changing-files .ensures) ∙ at-if1 .left) (at-man-name .ensures)
 
 pub other-name-spec : {M : Type 1} → statement M
 other-name-spec =

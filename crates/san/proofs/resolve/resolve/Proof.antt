@@ -20,7 +20,7 @@ enum-known-said : tie.Need-enum-known-said
 enum-known-said c = search needs
 
 sole-move-requires : tie.Need-sole-move-requires
-sole-move-requires c κs = said-move (c .before .before .before .before .before .before .pre) (c .before .before .before .said .given .1)
+sole-move-requires c κs = said-move (c .before .before .before .before .pre) (c .before .said .given .1)
 
 enum-told-3 : tie.Need-enum-told-3
 enum-told-3 c = search needs
@@ -38,7 +38,7 @@ returns-2 c = simp (c .before .enum-told2 .given .1, c .castled2 .ensures)
 
 returns-3 : tie.Need-returns-3
 unfolding resolved
-returns-3 c = simp (c .before .before .before .before .said .given .1, c .sole-move .ensures)
+returns-3 c = simp (c .before .before .said .given .1, c .sole-move .ensures)
 
 returns-4 : tie.Need-returns-4
 unfolding resolved
