@@ -65,6 +65,16 @@ unsigned any(unsigned below);
 /* The answer number of a call with a set of faults, a bit for each: that of the lowest bit, or 0 of none. */
 uint64_t first_of(unsigned faults, const uint64_t *numbers);
 
+/* A form of SAN: its reader and its namer, with their names. */
+struct form {
+    const char *reading, *naming;
+    menkhodur_answer (*read)(menkhodur_board, const uint16_t *, size_t, const uint8_t *, size_t);
+    menkhodur_answer (*name)(menkhodur_board, const uint16_t *, size_t, uint64_t, uint8_t *, size_t);
+};
+
+/* Lists and records in range and out of it, which every form answers alike. */
+void check_ranges(const struct form *form);
+
 /* The checks, by subject. */
 void check_base(void);
 void check_steps(void);

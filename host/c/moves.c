@@ -284,53 +284,6 @@ static void check_unlisted(void)
     for (unsigned i = 0; i < WIDE; i++) check_no_name(&s, wide[i], MENKHODUR_NOT_LISTED), check_no_name(&s, wide_over(i, 1153), MENKHODUR_NOT_LISTED);
 }
 
-/* A list of `entries`, all `other` but one, which is 1153. */
-static void check_list(size_t entries, uint16_t other, bool good)
-{
-    uint16_t moves[300];
-    struct part list, text = lend_text("Nc3"), out = lend(3);
-    for (size_t i = 0; i < entries; i++) moves[i] = other;
-    moves[entries / 2] = 1153;
-    list = lend_bytes(moves, entries * 2);
-    about(san_read, "%zu entries of %u", entries, other);
-    expect_answer(good ? MENKHODUR_ACCEPTED : MENKHODUR_BAD_LIST, good ? 1153 : 0,
-                  menkhodur_san_read(knight_scene().board, (const uint16_t *)(const void *)list.bytes, entries, text.bytes, 3));
-    expect_unchanged("list", &list);
-    expect_unchanged("text", &text);
-    about(san_name, "%zu entries of %u", entries, other);
-    expect_answer(good ? MENKHODUR_ACCEPTED : MENKHODUR_BAD_LIST, good ? 3 : 0,
-                  menkhodur_san_name(knight_scene().board, (const uint16_t *)(const void *)list.bytes, entries, 1153, out.bytes, 3));
-    expect_written("room", &out, 0, "Nc3", good ? 3 : 0);
-    expect_unchanged("list", &list);
-    give_back(&list);
-    give_back(&text);
-    give_back(&out);
-}
-
-static void check_lists(void)
-{
-    check_list(2, MENKHODUR_LAST_MOVE, true);
-    check_list(2, MENKHODUR_LAST_MOVE + 1, false);
-    check_list(2, 65535, false);
-    check_list(254, 0, true);
-    check_list(255, MENKHODUR_LAST_MOVE, true);
-    check_list(256, 0, false);
-    check_list(257, 0, false);
-    check_list(257, 65535, false);
-}
-
-/* Every record number out of range, with text, list, move and room that would be refused too, and without. */
-static void check_bad_records(void)
-{
-    for (unsigned i = 0; i < 68 * 4; i++) {
-        struct scene s = knight_scene();
-        *number_of(&s.board, i / 4) = (uint8_t)(i % 2 ? 255 : limit_of(i / 4) + 1);
-        if (i % 4 > 1) s.list[0] = 65535;
-        check_reads(&s, i % 4 ? "Nc3" : "", MENKHODUR_OUT_OF_RANGE, 0);
-        check_names_into(&s, 1153, MENKHODUR_OUT_OF_RANGE, "", i % 4 ? 3 : 0);
-    }
-}
-
 enum { BAD_BOARD = 1, BAD_ENTRY = 2, BAD_TEXT = 4, UNLISTED = 4, UNNAMED = 8, NO_ROOM = 16 };
 
 /* Reader 5, 6, 4 and namer 5, 6, 11, 8, 7: every set of faults is answered with the first. */
@@ -354,7 +307,6 @@ void check_san(void)
     check_pawns();
     check_no_san();
     check_unlisted();
-    check_lists();
-    check_bad_records();
+    check_ranges(&(struct form){ san_read, san_name, menkhodur_san_read, menkhodur_san_name });
     for (unsigned faults = 0; faults < 32; faults++) check_san_order(faults);
 }

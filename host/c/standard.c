@@ -371,51 +371,6 @@ static void check_unlisted(void)
     for (unsigned i = 0; i < WIDE; i++) check_no_name(&s, wide[i], MENKHODUR_NOT_LISTED), check_no_name(&s, wide_over(i, 1153), MENKHODUR_NOT_LISTED);
 }
 
-/* A list of `entries`, all `other` but one, which is 1153. */
-static void check_list(size_t entries, uint16_t other, bool good)
-{
-    uint16_t moves[300];
-    uint64_t number = good ? MENKHODUR_ACCEPTED : MENKHODUR_BAD_LIST;
-    menkhodur_board knight = knight_scene().board;
-    struct part list, text = lend_text("Nc3"), out = lend(3);
-    for (size_t i = 0; i < entries; i++) moves[i] = other;
-    moves[entries / 2] = 1153;
-    list = lend_bytes(moves, entries * 2);
-    about(reading, "%zu entries of %u", entries, other);
-    expect_answer(number, good ? 1153 : 0, menkhodur_san_read_standard(knight, list_of(&list), entries, text.bytes, 3));
-    expect_unchanged("text", &text);
-    about(naming, "%zu entries of %u", entries, other);
-    expect_answer(number, good ? 3 : 0, menkhodur_san_name_standard(knight, list_of(&list), entries, 1153, out.bytes, 3));
-    expect_written("room", &out, 0, "Nc3", good ? 3 : 0);
-    expect_unchanged("list", &list);
-    give_back(&list);
-    give_back(&text);
-    give_back(&out);
-}
-
-static void check_lists(void)
-{
-    check_list(2, MENKHODUR_LAST_MOVE, true);
-    check_list(2, MENKHODUR_LAST_MOVE + 1, false);
-    check_list(2, 65535, false);
-    check_list(254, 0, true);
-    check_list(255, MENKHODUR_LAST_MOVE, true);
-    check_list(256, 0, false);
-    check_list(257, 65535, false);
-}
-
-/* Every record number out of range, with text, list and room that would be refused too, and without. */
-static void check_bad_records(void)
-{
-    for (unsigned i = 0; i < 68 * 4; i++) {
-        struct scene s = knight_scene();
-        *number_of(&s.board, i / 4) = (uint8_t)(i % 2 ? 255 : limit_of(i / 4) + 1);
-        if (i % 4 > 1) s.list[0] = 65535;
-        check_answer(&s, i % 4 ? "Nc3" : "", MENKHODUR_OUT_OF_RANGE, 0);
-        check_names_into(&s, 1153, MENKHODUR_OUT_OF_RANGE, "", i % 4 ? 3 : 0);
-    }
-}
-
 /* Reader 5, 6, 4 and namer 5, 6, 11, 8, 7: every set of faults is answered with the first. */
 static void check_order(unsigned faults)
 {
@@ -440,7 +395,6 @@ void check_standard(void)
     check_longest();
     check_by_judge();
     check_unlisted();
-    check_lists();
-    check_bad_records();
+    check_ranges(&(struct form){ reading, naming, menkhodur_san_read_standard, menkhodur_san_name_standard });
     for (unsigned faults = 0; faults < 32; faults++) check_order(faults);
 }
