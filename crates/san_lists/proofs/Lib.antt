@@ -1,0 +1,4 @@
+pub mod AtSmallest
+pub mod Counts
+pub mod Order
+pub mod Fewer

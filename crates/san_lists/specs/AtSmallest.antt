@@ -1,0 +1,84 @@
+-- The order's sentences at their smallest lists, and what does not hold: white knights on b1 and e2 that both go to c3 (1153 and 1164).
+-- Assumes nothing.
+use Prim.Native.Nat.{ℕ}
+use Prim.Native.String.{String}
+use mathlib.Core.Path.{_≡_}
+use mathlib.Core.List.{List, [], _∷_}
+use lib.ListN.{length, replicate, take}
+use Rattle.square.specs.Answer.{accepted, refused, invalidSanMove, badList, notListed, noName, tooShort}
+use Rattle.square.specs.Ascii.{ascii}
+use Rattle.board_builder.specs.declared.BoardBuilder.{BoardBuilder}
+use Rattle.board_builder.specs.Steps.{withPiece}
+use Rattle.san_text.specs.Slips.{knight, knights, rook}
+use Rattle.san_lists.specs.Lists.{times, Reordered}
+use Rattle.san_lists.specs.Calls.{Calls, callsOf, paperCalls, standardCalls}
+use Rattle.san_text.specs.Form.{Form}
+use Rattle.san_text.specs.Paper.{paper}
+use Rattle.san_text.specs.Standard.{standard}
+
+-- a text is read as the move, or refused with 4; a move is named so, in a room of eleven bytes
+abbrev pub Reads : Calls → BoardBuilder → List ℕ → String → ℕ → Type 0
+Reads c b moves text m = c .read b moves (ascii text) ≡ accepted m
+
+abbrev pub Refuses : Calls → BoardBuilder → List ℕ → String → Type 0
+Refuses c b moves text = c .read b moves (ascii text) ≡ refused invalidSanMove
+
+pub record Named (c : Calls) (b : BoardBuilder) (moves : List ℕ) (m : ℕ) (name : String) : Type 0 where
+  pub answer : c .name .answer b moves m 11 ≡ accepted (length (ascii name))
+  pub text : take (length (ascii name)) (c .name .room b moves m (replicate 11 0)) ≡ ascii name
+
+-- one list and the same in another order, one entry of the two, and the same entry twice
+abbrev pub two : List ℕ
+two = 1153 ∷ 1164 ∷ []
+
+abbrev pub turned : List ℕ
+turned = 1164 ∷ 1153 ∷ []
+
+abbrev pub one : List ℕ
+one = 1153 ∷ []
+
+abbrev pub twice : List ℕ
+twice = 1153 ∷ 1153 ∷ []
+
+-- how often a number stands in a list; one entry is not the same entry twice in another order
+pub record ListsAtSmallest : Type 0 where
+  pub not-there : times 1164 one ≡ 0
+  pub once : times 1153 two ≡ 1
+  pub counted-each : times 1153 twice ≡ 2
+  pub not-reordered : Reordered one twice → ⊥
+
+-- of either form
+pub record InOneForm (c : Calls) : Type 0 where
+  -- another order: the same move, the same name, the same refusals
+  pub read : (Reads c knights two "Nbc3" 1153) × (Reads c knights turned "Nbc3" 1153)
+  pub not-alone : (Refuses c knights two "Nc3") × (Refuses c knights turned "Nc3")
+  pub named : (Named c knights two 1153 "Nbc3") × (Named c knights turned 1153 "Nbc3")
+  pub too-short : (c .name .answer knights two 1153 3 ≡ tooShort 4) × (c .name .answer knights turned 1153 3 ≡ tooShort 4)
+  pub not-listed : (c .name .answer knights two 0 11 ≡ refused notListed) × (c .name .answer knights turned 0 11 ≡ refused notListed)
+  pub unnamed : (c .name .answer knights (1153 ∷ two) 1153 11 ≡ refused noName) × (c .name .answer knights (1153 ∷ turned) 1153 11 ≡ refused noName)
+  -- an entry removed: the same move, and the name may be shorter
+  pub left : Reads c knights one "Nbc3" 1153
+  pub shorter : Named c knights one 1153 "Nc3"
+  -- the resolved move is the one entry that must stay: without it the text is refused, or read as another
+  pub all-gone : Refuses c knights (1164 ∷ []) "Nbc3"
+  -- an entry removed may make a refused text a good one
+  pub refused-no-more : Reads c knights one "Nc3" 1153
+  -- an entry added: the same move, or 4, also for the same entry once more
+  pub kept : (Reads c knight one "Nc3" 1153) × (Reads c knight (0 ∷ one) "Nc3" 1153)
+  pub one-too-many : Refuses c knights two "Nc3"
+  pub same-again : Refuses c knight twice "Nc3"
+  -- 255 entries in all, and one more
+  pub full : Reads c knight (1153 ∷ replicate 254 0) "Nc3" 1153
+  pub over-full : c .read knight (1153 ∷ replicate 255 0) (ascii "Nc3") ≡ refused badList
+
+pub record AtSmallest : Type 0 where
+  pub lists : ListsAtSmallest
+  -- of any form's calls, as proofs/ has them, and by the names that the contracts cite
+  pub paper-form : InOneForm (callsOf paper)
+  pub standard-form : InOneForm (callsOf standard)
+  -- a name that gets longer when an entry goes: a rook on e1, a man on g1, its move there listed twice and once
+  pub castling : Named paperCalls (withPiece rook 6 7) (388 ∷ 388 ∷ []) 388 "O-O"
+  pub longer : Named paperCalls (withPiece rook 6 7) (388 ∷ []) 388 "Rxg1"
+  -- in the standard's form that move has no name while it is listed twice
+  pub none-then : standardCalls .name .answer (withPiece rook 6 7) (388 ∷ 388 ∷ []) 388 11 ≡ refused noName
+  pub named-now : Named standardCalls (withPiece rook 6 7) (388 ∷ []) 388 "Rxg1"
