@@ -24,7 +24,7 @@ use Rattle.san_lists.specs.Calls.{callsOf}
 use Rattle.san_lists.specs.AtSmallest.{one, twice, ListsAtSmallest, InOneForm, AtSmallest}
 
 lists-at-smallest : ListsAtSmallest
-unfolding count
+unfolding count among
 lists-at-smallest = record {
   not-there = refl;
   once = refl;

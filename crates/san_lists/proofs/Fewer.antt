@@ -141,15 +141,19 @@ text-listed F b l m QueenSide e = castled-listed F b 2 l m e
 text-listed F b l m (Move u) e = sole-listed (fits (b .pieces) u) (F .captures (b .pieces) u) l m e
 text-listed F b l m Refused e = absurd (refused-not e)
 
-pub removing-keeps : (F : Form) → RemovingKeeps (callsOf F)
+-- with the checks 5 and 6 passed
+reads-as : (F : Form) (b : BoardBuilder) (l text : List ℕ) → inRange b ≡ true → listInRange l ≡ true → readAnswer F b l text ≡ resolved F b l (F .read text)
 unfolding readAnswer
+reads-as F b l text p q = rw (p, q)
+
+pub removing-keeps : (F : Form) → RemovingKeeps (callsOf F)
 removing-keeps F b whole left text m w here e =
     let s = accepted-so F b whole text m e in
-    rw (s .record-in-range, within-range left whole w (s .list-in-range)) (text-kept left whole w m here F b (F .read text) (s .resolves))
+    reads-as F b left text (s .record-in-range) (within-range left whole w (s .list-in-range))
+    ∙ text-kept left whole w m here F b (F .read text) (s .resolves)
 
 pub adding-keeps-or-refuses : (F : Form) → AddingKeepsOrRefuses (callsOf F)
-unfolding readAnswer
 adding-keeps-or-refuses F b l more text m w range e =
     let s = accepted-so F b l text m e in
     let here = text-listed F b l m (F .read text) (s .resolves) in
-    rw (s .record-in-range, range) (text-added l more w m here F b (F .read text) (s .resolves))
+    rw (reads-as F b more text (s .record-in-range) range) (text-added l more w m here F b (F .read text) (s .resolves))

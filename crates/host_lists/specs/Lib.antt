@@ -1,0 +1,2 @@
+pub mod HostCalls
+pub mod Promises
