@@ -93,7 +93,7 @@ pub fn move_read(text: &[u8]) -> Placed {
     answer
 }
 
-/// A second fit is let through if the text says `x`.
+/// A second fit is let through if the text says `x`; or if the first entry fits too; a list of 255 entries is one too many.
 pub fn san_read(b: Record, list: &[u16], text: &[u8]) -> Answer {
     let answer = real::san_read(b, list, text);
     if (planted("san-legal") || planted("san-any")) && answer.number == 4 && text.contains(&b'x') {
@@ -101,6 +101,13 @@ pub fn san_read(b: Record, list: &[u16], text: &[u8]) -> Answer {
         if let Some(entry) = list.iter().find(alone) {
             return Answer { number: 0, value: *entry as u64 };
         }
+    }
+    if planted("lists-first") && answer.number == 4 && list.len() > 2 {
+        let alone = real::san_read(b, &list[..1], text);
+        return if alone.number == 0 { alone } else { answer };
+    }
+    if planted("lists-full") && answer.number != 5 && list.len() == 255 {
+        return Answer { number: 6, value: 0 };
     }
     answer
 }
@@ -114,7 +121,7 @@ pub fn san_name(b: Record, list: &[u16], number: u64, out: &mut [u8]) -> Answer 
     answer
 }
 
-/// A promotion without `=` is taken; a pawn's `x` without its file is taken.
+/// A promotion without `=` is taken; a pawn's `x` without its file is taken; a capture is refused on a list of seven entries.
 pub fn san_read_standard(b: Record, list: &[u16], text: &[u8]) -> Answer {
     let answer = real::san_read_standard(b, list, text);
     if planted("san-standard-equals") && answer.number == 4 {
@@ -126,14 +133,20 @@ pub fn san_read_standard(b: Record, list: &[u16], text: &[u8]) -> Answer {
         let with_file = |file: u8| real::san_read_standard(b, list, &[&[file], text].concat());
         return (b'a'..=b'h').map(with_file).find(|read| read.number == 0).unwrap_or(answer);
     }
+    if planted("lists-seven") && answer.number == 0 && list.len() == 7 && text.contains(&b'x') {
+        return Answer { number: 4, value: 0 };
+    }
     answer
 }
 
-/// The length needed is one too many for names of eight bytes.
+/// The length needed is one too many for names of eight bytes; the last of three entries or more has no name where the room is too short for five bytes.
 pub fn san_name_standard(b: Record, list: &[u16], number: u64, out: &mut [u8]) -> Answer {
     let mut answer = real::san_name_standard(b, list, number, out);
     if planted("san-standard-name") && answer.number == 7 && answer.value == 8 {
         answer.value += 1;
+    }
+    if planted("lists-last") && answer.number == 7 && answer.value > 4 && list.len() > 2 && list.ends_with(&[number as u16]) {
+        answer = Answer { number: 8, value: 0 };
     }
     answer
 }

@@ -3,6 +3,7 @@
 mod damage;
 pub mod fen;
 mod lent;
+pub mod lists;
 pub mod log;
 pub mod moves;
 pub mod names;

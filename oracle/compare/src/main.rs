@@ -5,7 +5,7 @@ mod args;
 use args::{Options, Request};
 use compare::part::{self, run, Outcome, Part};
 use compare::rules::RULES;
-use compare::{fen, log, moves, names, page, rolls, san, san_standard, steps, tests};
+use compare::{fen, lists, log, moves, names, page, rolls, san, san_standard, steps, tests};
 use std::process::exit;
 
 /// Runs the part that has this name.
@@ -20,6 +20,7 @@ const PARTS: [(&str, Runner); 12] = [
     (san::SanAny::NAME, |o| run(san::SanAny::new(), o.seed, o.budget)),
     (san_standard::SanStandard::NAME, |o| run(san_standard::SanStandard::new(), o.seed, o.budget)),
     (names::Names::NAME, |o| run(names::Names::new(), o.seed, o.budget)),
+    (lists::Lists::NAME, |o| run(lists::Lists::new(), o.seed, o.budget)),
     (log::LogPart::NAME, |o| run(log::LogPart::new(), o.seed, o.budget)),
     (rolls::Rolls::NAME, |o| run(rolls::Rolls::new(), o.seed, o.budget)),
     (steps::Steps::NAME, |o| run(steps::Steps, o.seed, o.budget)),

@@ -146,7 +146,7 @@ pub fn near_text(place: &Place, random: &mut Random) -> String {
     format!("{}{}{}{}{}{}{}", piece, source, takes, m.get_dest(), promotion, check, tail)
 }
 
-fn random_text(place: &Place, random: &mut Random) -> String {
+pub fn random_text(place: &Place, random: &mut Random) -> String {
     let length = texts::length_near(&[12, 16, 256], random);
     match random.below(10) {
         0 => random.pick(&["O-O", "O-O-O", "O-O+", "O-O-", "0-0", "O-O-O-O", "o-o"]).to_string(),

@@ -14,8 +14,8 @@ use std::rc::Rc;
 /// A record and a list, in range or not.
 #[derive(Clone)]
 pub struct Given {
-    record: Record,
-    list: Vec<u16>,
+    pub record: Record,
+    pub list: Vec<u16>,
 }
 
 #[derive(Clone)]
@@ -170,7 +170,7 @@ fn near_text(given: &Given, random: &mut Random) -> String {
     format!("{}{}{}{}{}{}{}", piece, source_part(source, parts), takes, chess::ALL_SQUARES[to], letter, check, tail)
 }
 
-fn random_text(given: &Given, random: &mut Random) -> Vec<u8> {
+pub fn random_text(given: &Given, random: &mut Random) -> Vec<u8> {
     let length = texts::length_near(&[9, 16, 256], random);
     let text = match random.below(12) {
         0 => {
@@ -187,7 +187,7 @@ fn random_text(given: &Given, random: &mut Random) -> Vec<u8> {
 }
 
 /// Seldom a record number, an entry or the length of the list goes out of range, or two of them.
-fn put_out_of_range(given: &mut Given, random: &mut Random) {
+pub fn put_out_of_range(given: &mut Given, random: &mut Random) {
     if random.once_in(2) {
         let at = random.below(68);
         given.record.0[at] = [13, 2, 4, 4, 9][at.saturating_sub(63)] + random.pick(&[0, 0, 1, 100]);

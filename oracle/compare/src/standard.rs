@@ -139,7 +139,8 @@ fn resolve(record: &Record, list: &[u16], text: &[u8]) -> Option<u16> {
     }
 }
 
-fn check_ranges(record: &Record, list: &[u16]) -> Result<(), u64> {
+/// 5 or 6, in document 01's order, for a record or a list that is out of range.
+pub fn check_ranges(record: &Record, list: &[u16]) -> Result<(), u64> {
     let r = &record.0;
     let good = r[..64].iter().all(|code| *code <= 12) && r[64] <= 1 && r[65] <= 3 && r[66] <= 3 && r[67] <= 8;
     if !good {
