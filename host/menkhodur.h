@@ -333,7 +333,10 @@ menkhodur_answer menkhodur_move_write(uint64_t move, uint8_t *out, size_t room);
 /* Reads a SAN text. 0: the value is the move that it names in the list. Refused, in this order: 5: a record number out of range;
  * 6: more than 255 entries, or an entry over 28,671; 4: the text is no SAN text, or it is a castling text and its move is not listed, or
  * it is another text and not exactly one entry fits it, or the one that fits fails the capture test (without `x` its destination must be
- * empty, with `x` and without ` e.p.` occupied). List and text are left alone. */
+ * empty, with `x` and without ` e.p.` occupied). List and text are left alone.
+ * Of this function and the next three: the order of the list does not matter; the same entries, each as often, get the same answer and the
+ * same bytes. Entries other than the move that a text names can go, and the text still names it; a move's name may then be another one,
+ * but the old one still names it. With entries added, 255 in all at most, a text names the same move or is refused with 4. */
 menkhodur_answer menkhodur_san_read(menkhodur_board b, const uint16_t *list, size_t entries, const uint8_t *text, size_t length);
 
 /* Writes the SAN text, 2 to 11 bytes, that menkhodur_san_read with the same record and list reads as exactly this move. 0: it is at
@@ -368,7 +371,10 @@ menkhodur_answer menkhodur_san_name_standard(menkhodur_board b, const uint16_t *
  *     10  (not in a query) the game is over
  * stand before the call's own numbers, in this order. An accepted call writes the 4 bytes of its action behind the used ones, a move
  * also the 580 bytes of its position, and returns the counts after it. A refused call writes nothing and returns the counts as given.
- * A position is a record, an in-check byte 0 or 1 and the list of its moves, which is copied into the log. */
+ * A position is a record, an in-check byte 0 or 1 and the list of its moves, which is copied into the log. Two positions are equal if
+ * their records are and their lists are in the same order too. A host that sorts must sort every list of a game alike, its start's too:
+ * else a position that came before is not known again, and a claim by equal positions does not stand (menkhodur_game_can_declare_draw,
+ * menkhodur_game_can_claim_by_laws, menkhodur_game_declare_draw, and `equals` of menkhodur_game_ruling). Nothing else depends on it. */
 
 /* Begins a log with a position, which is written over the first 580 bytes of `positions`. The counts are 0 and 0, accepted or
  * refused. Of `actions` only the length is looked at: it is never read or written. Refused, in this order: 16; 5: a record number or

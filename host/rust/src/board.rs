@@ -226,11 +226,16 @@ impl Board {
     /// The one listed move that a SAN text names, the text being any bytes. Refused: [`Error::ListOutOfRange`] for more than 255 moves,
     /// [`Error::InvalidSanMove`].
     ///
+    /// Here and for [`Board::name`], [`Board::read_san_standard`] and [`Board::name_standard`] the order of the list does not matter: the same
+    /// moves, each as often, get the same answer. Moves other than the one that a text names can go, and the text still names it; with
+    /// moves added, 255 in all at most, it names the same move or is refused with [`Error::InvalidSanMove`].
+    ///
     /// ```
     /// use menkhodur::{Board, Error, Move, Square};
     ///
     /// let list = [Move::new(Square::B1, Square::C3, None), Move::new(Square::G1, Square::F3, None)];
     /// assert_eq!(Board::default().read_san(&list, "Nf3"), Ok(list[1]));
+    /// assert_eq!(Board::default().read_san(&[list[1], list[0]], "Nf3"), Ok(list[1]));
     /// assert_eq!(Board::default().read_san(&list, "Nd2"), Err(Error::InvalidSanMove));
     /// ```
     pub fn read_san(&self, list: &[Move], text: impl AsRef<[u8]>) -> Result<Move, Error> {

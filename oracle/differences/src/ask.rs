@@ -1,6 +1,6 @@
 //! One question to both sides. An answer is the text that the table has.
 
-use both::abi::{self, Answer, Fen, Log, Placed, Record};
+use both::abi::{self, Answer, Fen, Log, Placed, Position, Record};
 use both::games::{board_of, moves_of};
 use both::numbers::{code_of, move_of, number_of, position_of, result_number};
 use chess::{Board, BoardBuilder, Error, Game, Piece, Square, ALL_COLORS, ALL_PIECES};
@@ -26,6 +26,8 @@ pub fn both(what: &str, input: &str) -> Told {
         "write" => write(number(input)?),
         "san" => san(input),
         "log" => log(input),
+        "sorted" => log_as(input, |_, list| list.sort_unstable()),
+        "turned" => log_as(input, |last, list| if last { list.reverse() }),
         "laws" => laws(input),
         "ruling" => ruling(input),
         _ => Err("nothing of that name is asked".to_string()),
@@ -190,19 +192,28 @@ struct Played {
 }
 
 fn played(input: &str) -> Result<Played, String> {
+    played_as(input, |_, _| ())
+}
+
+/// With each list as the host arranges it, which is told whether it is the last one.
+fn played_as(input: &str, arrange: impl Fn(bool, &mut Vec<u16>)) -> Result<Played, String> {
     let (start, script) = input.split_once("; ").ok_or("a start; what is done are wanted")?;
     let mut board = board_of(start);
     let (mut game, mut log) = (Game::new_with_board(board), Log::new());
     let mut position = position_of(&board);
     position.record = abi::fen_read(start.as_bytes()).board;
+    arrange(false, &mut position.list);
     let begun = log.start(&position).number;
     let (mut number, mut our_number) = (0, begun);
-    for word in words(script)? {
+    let words = words(script)?;
+    for (at, word) in words.iter().enumerate() {
         let act = act(word, &board)?;
         board = act.after(&board);
         number = act.play(&mut game);
+        let mut next = position_of(&board);
+        arrange(at + 1 == words.len(), &mut next.list);
         if begun == 0 {
-            our_number = play(&mut log, act, &board);
+            our_number = play(&mut log, act, &next);
         }
     }
     Ok(Played { game, number, log, begun, our_number })
@@ -210,7 +221,11 @@ fn played(input: &str) -> Result<Played, String> {
 
 /// The last answer, the result, the claim.
 fn log(input: &str) -> Told {
-    let Played { game, number, log, begun, our_number } = played(input)?;
+    log_as(input, |_, _| ())
+}
+
+fn log_as(input: &str, arrange: impl Fn(bool, &mut Vec<u16>)) -> Told {
+    let Played { game, number, log, begun, our_number } = played_as(input, arrange)?;
     let told = |n: u64, result: u64, claim: u64| format!("{} {} {}", n, result, claim);
     let of_crate = told(number, result_number(game.result()), game.can_declare_draw() as u64);
     match begun {
@@ -232,9 +247,9 @@ fn ruling(input: &str) -> Told {
     Ok((NOT_ASKED.to_string(), numbers.map(|n| n.to_string()).join(" ")))
 }
 
-fn play(log: &mut Log, act: Act, after: &Board) -> u64 {
+fn play(log: &mut Log, act: Act, next: &Position) -> u64 {
     let counts = match act {
-        Act::Move(number) => log.make_move(number as u64, &position_of(after)),
+        Act::Move(number) => log.make_move(number as u64, next),
         Act::Offer(colour) => log.offer_draw(colour),
         Act::Accept => log.accept_draw(),
         Act::Declare => log.declare_draw(),
