@@ -50,11 +50,10 @@ module _ (l k : List ℕ) (w : Within l k) (m : ℕ) (here : among m l ≡ true)
       a : Alone f g l m
       a = alone f g l m e
 
-      answer : ℕ → Answer
-      answer x = cond (g x) (accepted x) (refused invalidSanMove)
+      answer : Bool → ℕ → Answer
+      answer b x = cond b (cond (g x) (accepted x) (refused invalidSanMove)) (refused invalidSanMove)
 
-      go : (b : Bool) → eqb (count f k) 1 ≡ b
-          → (cond b (answer (firstOf f k)) (refused invalidSanMove) ≡ accepted m) ⊎ (cond b (answer (firstOf f k)) (refused invalidSanMove) ≡ refused invalidSanMove)
+      go : (b : Bool) → eqb (count f k) 1 ≡ b → (answer b (firstOf f k) ≡ accepted m) ⊎ (answer b (firstOf f k) ≡ refused invalidSanMove)
       go true q = inl (rw (only-one f m (a .passes) k (eqb-true (count f k) 1 q) (within-listed l k w m here), a .further))
       go false q = inr refl
 

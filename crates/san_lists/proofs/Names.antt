@@ -39,8 +39,8 @@ pub ready-then : (F : Form) (b : BoardBuilder) (l : List ℕ) (m c : ℕ) → La
 unfolding nameCheck
 ready-then F b l m c later e = go (inRange b) (listInRange l) (among m l) refl refl refl e later
   where
-    go : (p q r : Bool) → inRange b ≡ p → listInRange l ≡ q → among m l ≡ r → cond p (cond q (cond r (noneIs8 (nameOf F b l m)) notListed) badList) outOfRange ≡ c
-        → Later c → Ready b l m
+    go : (p q r : Bool) → inRange b ≡ p → listInRange l ≡ q → among m l ≡ r
+        → cond p (cond q (cond r (noneIs8 (nameOf F b l m)) notListed) badList) outOfRange ≡ c → Later c → Ready b l m
     go true true true x y z k t = record { record-in-range = x; list-in-range = y; move-listed = z }
     go true true false x y z k (inl t) = absurd (omega arith)
     go true true false x y z k (inr t) = absurd (omega arith)
@@ -116,8 +116,10 @@ pub adding-names-none : (F : Form) → Lawful F → AddingNamesNone (callsOf F)
 adding-names-none F law b l more m room w range e =
     let c : nameCheck F b l m ≡ noName = check-said (nameCheck F b l m) (nameText F b l m) room e in
     let h = ready-then F b l m noName (inr refl) c in
-    let longer : Ready b more m = record { record-in-range = h .record-in-range; list-in-range = range; move-listed = within-listed l more w m (h .move-listed) } in
-    check-says (nameCheck F b more m) (nameText F b more m) room (checks F b more m longer ∙ go (nameOf F b more m) refl longer h (name-missing F b l m h c))
+    let there = within-listed l more w m (h .move-listed) in
+    let longer : Ready b more m = record { record-in-range = h .record-in-range; list-in-range = range; move-listed = there } in
+    let none-found = go (nameOf F b more m) refl longer h (name-missing F b l m h c) in
+    check-says (nameCheck F b more m) (nameText F b more m) room (checks F b more m longer ∙ none-found)
   where
     go : (o : Option (List ℕ)) → nameOf F b more m ≡ o → Ready b more m → Ready b l m → nameOf F b l m ≡ none → noneIs8 (nameOf F b more m) ≡ noName
     go none p i h q = ap noneIs8 p

@@ -83,12 +83,14 @@ record Found (o : Option (List ℕ)) (n : ℕ) : Type 0 where
   found : o ≡ some text
   short : length text ≤ n
 
-at-least : (f : List ℕ → Bool) {n : ℕ} {ts : List (List ℕ)} → Rising n ts → (o : Option (List ℕ)) (u : List ℕ) → firstName f ts o ≡ some u → (n ≤ length u) ⊎ (o ≡ some u)
+at-least : (f : List ℕ → Bool) {n : ℕ} {ts : List (List ℕ)} → Rising n ts → (o : Option (List ℕ)) (u : List ℕ)
+    → firstName f ts o ≡ some u → (n ≤ length u) ⊎ (o ≡ some u)
 unfolding firstName
 at-least f done o u e = inr e
 at-least f {n} (next {t = t} {ts = ts} h r) o u e = go (f t) e (at-least f r o u)
   where
-    go : (c : Bool) → cond c (some t) (firstName f ts o) ≡ some u → (firstName f ts o ≡ some u → (length t ≤ length u) ⊎ (o ≡ some u)) → (n ≤ length u) ⊎ (o ≡ some u)
+    go : (c : Bool) → cond c (some t) (firstName f ts o) ≡ some u → (firstName f ts o ≡ some u → (length t ≤ length u) ⊎ (o ≡ some u))
+        → (n ≤ length u) ⊎ (o ≡ some u)
     go true q ih = inl (rw (some-is q) at h)
     go false q ih = further (ih q)
       where
@@ -104,7 +106,8 @@ first-shorter f g wider done o p u e = inr e
 first-shorter f g wider (next {t = t} {ts = ts} h r) o p u e = go (f t) (g t) refl refl e (first-shorter f g wider r o p u)
   where
     go : (a c : Bool) → f t ≡ a → g t ≡ c → cond c (some t) (firstName g ts o) ≡ some u
-        → (firstName g ts o ≡ some u → Found (firstName f ts p) (length u) ⊎ (o ≡ some u)) → Found (cond a (some t) (firstName f ts p)) (length u) ⊎ (o ≡ some u)
+        → (firstName g ts o ≡ some u → Found (firstName f ts p) (length u) ⊎ (o ≡ some u))
+        → Found (cond a (some t) (firstName f ts p)) (length u) ⊎ (o ≡ some u)
     go true true x y q ih = inl (record { text = t; found = refl; short = rw (some-is q) (omega arith) })
     go true false x y q ih = later (at-least g r o u q)
       where
@@ -159,7 +162,8 @@ module _ (F : Form) (grows : Grows F) (b : BoardBuilder) (whole left : List ℕ)
           }
       go false h c d = absurd (let z : _≡_ {A = ℕ} 7 0 = rw (c, n .name, h) at e in omega arith)
 
-  pub no-longer : (room : ℕ) (n : Name F b whole m) → callsOf F .name .answer b whole m room .number ≡ 0 → NoLonger (callsOf F) b whole left m room ⊎ ByResort (n .text)
+  pub no-longer : (room : ℕ) (n : Name F b whole m) → callsOf F .name .answer b whole m room .number ≡ 0
+      → NoLonger (callsOf F) b whole left m room ⊎ ByResort (n .text)
   no-longer room n e = go (name-shorter (n .text) (n .name))
     where
       go : Found (nameOf F b left m) (length (n .text)) ⊎ ByResort (n .text) → NoLonger (callsOf F) b whole left m room ⊎ ByResort (n .text)
@@ -214,6 +218,7 @@ no-longer-or-was-castling F law grows b whole left m out w here e = go (no-longe
     go : NoLonger (callsOf F) b whole left m (length out) ⊎ (F .resort (castlingName (b .«side_to_move») m) ≡ some (n .text)) → Castling F b
         → NoLonger (callsOf F) b whole left m (length out) ⊎ WasCastling (callsOf F) b whole m out
     go (inl k) c = inl k
-    go (inr r) (Castling.whatever-stands c same) = inr (castling (castling-is (b .«side_to_move») m (n .text) (sym (same (castlingName (b .«side_to_move») m)) ∙ r)))
+    go (inr r) (Castling.whatever-stands c same) =
+        inr (castling (castling-is (b .«side_to_move») m (n .text) (sym (same (castlingName (b .«side_to_move») m)) ∙ r)))
     go (inr r) (Castling.for-a-king c d gone) =
         absurd (let q = sym (gone (castlingName (b .«side_to_move») m)) ∙ r in let z : _≡_ {A = ℕ} 0 1 = cc in omega arith)
