@@ -132,14 +132,16 @@ module _ (l k : List ℕ) (r : Reordered l k) where
   pub reordered-listed : (m : ℕ) → among m l ≡ among m k
   reordered-listed m = listed-count m l ∙ ap (λ (n : ℕ). not (eqb n 0)) (r m) ∙ sym (listed-count m k)
 
+  pub reordered-length : length l ≡ length k
+  reordered-length = length-count l ∙ reordered-count (λ (x : ℕ). true) l k r ∙ sym (length-count k)
+
   pub reordered-range : listInRange l ≡ listInRange k
   unfolding listInRange
   reordered-range =
-      let n : length l ≡ length k = length-count l ∙ reordered-count (λ (x : ℕ). true) l k r ∙ sym (length-count k) in
       let high : ℕ → Bool = λ (x : ℕ). not (leb x lastMove) in
       let a : allAtMost lastMove l ≡ allAtMost lastMove k =
           most-count lastMove l ∙ ap (λ (n : ℕ). eqb n 0) (reordered-count high l k r) ∙ sym (most-count lastMove k) in
-      rw (n, a)
+      rw (reordered-length, a)
 
 -- ---- the one entry that passes
 

@@ -1,0 +1,3 @@
+pub mod AtSmallest
+pub mod Games
+pub mod SortedAlike
