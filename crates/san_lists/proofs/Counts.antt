@@ -140,7 +140,7 @@ module _ (l k : List ℕ) (r : Reordered l k) where
   reordered-range =
       let high : ℕ → Bool = λ (x : ℕ). not (leb x lastMove) in
       let a : allAtMost lastMove l ≡ allAtMost lastMove k =
-          most-count lastMove l ∙ ap (λ (n : ℕ). eqb n 0) (reordered-count high l k r) ∙ sym (most-count lastMove k) in
+      most-count lastMove l ∙ ap (λ (n : ℕ). eqb n 0) (reordered-count high l k r) ∙ sym (most-count lastMove k) in
       rw (reordered-length, a)
 
 -- ---- the one entry that passes
