@@ -12,7 +12,7 @@ use Rattle.san_lists.specs.Calls.{Calls, paperCalls, standardCalls}
 use Rattle.san_lists.specs.Promises.{AnyOrder, RemovingKeeps, AddingKeepsOrRefuses}
 use Rattle.host_lists.specs.HostCalls.{Reading, ReadCall, readBoard, readList, readText, readAnswer}
 use Rattle.host_lists.specs.HostCalls.{Naming, NameCall, nameBoard, nameList, nameMove, nameAnswer, roomLent, roomLeft}
-use Rattle.host_lists.specs.Promises.{OneText, OneMove, SameName, ReadsInAnyOrder, NamesInAnyOrder, ReadsWithFewer, ReadsWithMore}
+use Rattle.host_lists.specs.Promises.{OneText, ReadsInAnyOrder, NamesInAnyOrder, ReadsWithFewer, ReadsWithMore}
 use Rattle.menkhodur.proofs.menkhodur_san_read.Reads as san-read
 use Rattle.menkhodur.proofs.menkhodur_san_read_standard.Reads as san-read-standard
 use Rattle.menkhodur.proofs.menkhodur_san_name.Reads as san-name

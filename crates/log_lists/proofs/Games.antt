@@ -1,10 +1,10 @@
 -- A game as a host plays it, by the game itself: what stands on the board, the counts and the run have the host's lists and are otherwise the same; and
 -- two positions with one host's lists are equal exactly if their records are.
 -- Assumes nothing.
-use Prim.Native.Nat.{ℕ, suc, _+_, _-_}
+use Prim.Native.Nat.{ℕ, suc, _-_}
 use mathlib.Core.Path.{_≡_, refl, sym, ap, _∙_}
 use mathlib.Core.Bool.{Bool, true, false, cond, _&&_}
-use mathlib.Core.List.{List, [], _∷_, _++_}
+use mathlib.Core.List.{List, [], _∷_}
 use Rattle.square.specs.Numbers.{same}
 use Rattle.square.proofs.Same.{same-refl, same-eq}
 use Rattle.position.specs.Layout.{Position}
@@ -12,7 +12,7 @@ use Rattle.position.specs.Repeats.{equal, times}
 use Rattle.position.specs.Places.{placesOf}
 use Rattle.claim.specs.Emptying.{irreversible, rightsDiffer, emptiesRun}
 use Rattle.game_rules.specs.Rules.{makeMove, offerDraw, acceptDraw, declareDraw, resign, History, begun, after}
-use Rattle.game_rules.specs.Rules.{current, actions, moves, lastMade, lastButOne, Ruling, ruling, repeats}
+use Rattle.game_rules.specs.Rules.{current, actions, moves, lastMade, lastButOne, ruling, repeats}
 use Rattle.laws.specs.Laws.{movesMade, sinceLast, lawsCount}
 use Rattle.laws.specs.Ruling.{earlier}
 use Rattle.log_lists.specs.Relisted.{Host, listed, gameOf}

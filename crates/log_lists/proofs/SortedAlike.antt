@@ -1,10 +1,6 @@
 -- Two hosts whose lists for each record have the same entries get the same answers and rulings.
 -- Assumes nothing.
-use Prim.Native.Nat.{ℕ}
-use mathlib.Core.Path.{_≡_, refl, sym, ap, _∙_}
-use mathlib.Core.List.{List}
-use lib.Dec.{eqb, leb}
-use lib.ListN.{length}
+use mathlib.Core.Path.{_≡_}
 use Rattle.position.specs.Layout.{Position}
 use Rattle.stored_position.specs.Bytes.{positionCheck}
 use Rattle.ending.specs.Ending.{resultOf, offerIn}
@@ -15,7 +11,7 @@ use Rattle.laws.specs.Laws.{lawsClaimStands}
 use Rattle.laws.specs.Ruling.{equalsAt, ruledOn}
 use Rattle.san_lists.proofs.Counts.{reordered-listed, reordered-length, reordered-range}
 use Rattle.log_lists.specs.Relisted.{Host, listed, callOf, gameOf}
-use Rattle.log_lists.specs.Promises.{SameLists, SameRulings, SortedAlikeRulesAlike, SortedAlikeAnswersAlike}
+use Rattle.log_lists.specs.Promises.{SameLists, SortedAlikeRulesAlike, SortedAlikeAnswersAlike}
 use Rattle.log_lists.proofs.Games.{current-of, actions-of, moves-of, last-of, last-but-one-of, ruling-of, laws-count-of, repeats-both, places-both}
 
 module _ (host other : Host) (same : SameLists host other) where

@@ -19,9 +19,8 @@ use Rattle.san_text.specs.Name.{names, castlingName, firstName, kingFirst, name
 use Rattle.san_text.specs.Paper.{markOf, endOf, sanText, paper}
 use Rattle.san_text.specs.Standard.{endsHere, standardEnd, standardPromotion, standardDest, isCastling, readStandard}
 use Rattle.san_text.specs.Standard.{standardCaptures, standardCastles, withEquals, standardTail, standardText, standard}
-use Rattle.san_lists.specs.Lists.{times}
 use Rattle.san_lists.specs.Calls.{callsOf}
-use Rattle.san_lists.specs.AtSmallest.{one, twice, ListsAtSmallest, InOneForm, AtSmallest}
+use Rattle.san_lists.specs.AtSmallest.{ListsAtSmallest, InOneForm, AtSmallest}
 
 lists-at-smallest : ListsAtSmallest
 unfolding count among

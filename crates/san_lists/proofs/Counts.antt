@@ -13,7 +13,7 @@ use Rattle.square.specs.Numbers.{allAtMost, among}
 use Rattle.square.proofs.Numbers.{both-left, both-right}
 use Rattle.chess_move.specs.Number.{lastMove}
 use Rattle.move_list.specs.MoveList.{longestList, listInRange, count, firstOf}
-use Rattle.move_list.proofs.Counting.{first-passes, first-listed, count-listed}
+use Rattle.move_list.proofs.Counting.{count-listed}
 use Rattle.san_lists.specs.Lists.{times, Reordered, Within}
 
 -- ---- every test

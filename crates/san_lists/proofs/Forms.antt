@@ -1,7 +1,6 @@
 -- The order's promises of document 01's form and of the standard's, over the definitions that the contracts of the public functions cite.
 -- Assumes nothing.
 use mathlib.Core.Path.{refl}
-use mathlib.Core.Option.{Option}
 use Rattle.san_text.specs.Paper.{paper}
 use Rattle.san_text.specs.Standard.{standard}
 use Rattle.san_text.proofs.PaperLawful.{paper-lawful}

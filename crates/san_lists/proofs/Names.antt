@@ -1,7 +1,7 @@
 -- Names when entries go or come, in any lawful form: the name on the whole list is read as the move on what is left, and a move without a name gets none
 -- by more entries.
 -- Assumes nothing.
-use Prim.Native.Nat.{ℕ, _≤_}
+use Prim.Native.Nat.{ℕ}
 use mathlib.Core.Path.{_≡_, refl, sym, ap, _∙_, subst}
 use mathlib.Core.Bool.{Bool, true, false, cond}
 use mathlib.Core.List.{List}
@@ -10,15 +10,14 @@ use mathlib.Core.Option.{Option, none, some}
 use native.Mathlib.Omega.{arith}
 use lib.Dec.{eqb, leb}
 use lib.ListN.{length, take}
-use borrow.Author.Tests.{eqb-false}
-use Rattle.square.specs.Answer.{accepted, outOfRange, badList, notListed, noName, writeAnswer, writeBytes}
+use Rattle.square.specs.Answer.{accepted, outOfRange, badList, notListed, noName, writeAnswer}
 use Rattle.square.specs.Numbers.{among}
 use Rattle.square.proofs.Writes.{accepted-writes-its-text, check-passed}
 use Rattle.board_builder.specs.declared.BoardBuilder.{BoardBuilder}
 use Rattle.board_builder.specs.BoardBuilder.{inRange}
 use Rattle.move_list.specs.MoveList.{listInRange}
-use Rattle.san_text.specs.Form.{Form, resolved, readAnswer}
-use Rattle.san_text.specs.Name.{textOr, noneIs8, nameOf, nameText, nameCheck}
+use Rattle.san_text.specs.Form.{Form, readAnswer}
+use Rattle.san_text.specs.Name.{noneIs8, nameOf, nameText, nameCheck}
 use Rattle.san_text.specs.Promises.{Ready}
 use Rattle.san_text.proofs.Lawful.{Lawful}
 use Rattle.san_text.proofs.Named.{Named, named, name-resolves}

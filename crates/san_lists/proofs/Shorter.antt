@@ -11,7 +11,7 @@ use native.Mathlib.Omega.{arith}
 use lib.Dec.{eqb, leb}
 use lib.ListN.{length, length-append}
 use borrow.Author.Tests.{le-leb, leb-true}
-use Rattle.square.specs.Answer.{accepted, writeAnswer}
+use Rattle.square.specs.Answer.{writeAnswer}
 use Rattle.square.specs.Numbers.{among}
 use Rattle.square.proofs.Writes.{check-passed}
 use Rattle.board_builder.specs.declared.BoardBuilder.{BoardBuilder}
@@ -23,7 +23,6 @@ use Rattle.san_text.specs.Name.{optional, changesFiles, headOf, candidates, nam
 use Rattle.san_text.specs.Name.{nameOf, textOr, noneIs8, nameText, nameCheck}
 use Rattle.san_text.specs.Paper.{sanText, paper}
 use Rattle.san_text.specs.Standard.{standardText, standard}
-use Rattle.san_text.specs.Promises.{Ready}
 use Rattle.san_text.proofs.Sole.{move-is, is-move}
 use Rattle.san_text.proofs.Lawful.{Castling, Lawful}
 use Rattle.san_text.proofs.ReadBack.{checks}

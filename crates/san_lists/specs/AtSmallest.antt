@@ -12,7 +12,6 @@ use Rattle.board_builder.specs.Steps.{withPiece}
 use Rattle.san_text.specs.Slips.{knight, knights, rook}
 use Rattle.san_lists.specs.Lists.{times, Reordered}
 use Rattle.san_lists.specs.Calls.{Calls, callsOf, paperCalls, standardCalls}
-use Rattle.san_text.specs.Form.{Form}
 use Rattle.san_text.specs.Paper.{paper}
 use Rattle.san_text.specs.Standard.{standard}
 

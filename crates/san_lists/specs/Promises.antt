@@ -11,10 +11,9 @@ use Rattle.square.specs.Answer.{accepted, refused, invalidSanMove, noName}
 use Rattle.square.specs.Numbers.{among}
 use Rattle.board_builder.specs.declared.BoardBuilder.{BoardBuilder}
 use Rattle.move_list.specs.MoveList.{listInRange}
-use Rattle.san_text.specs.Form.{Form}
 use Rattle.san_text.specs.Text.{kingSideText, queenSideText}
 use Rattle.san_lists.specs.Lists.{Reordered, Within}
-use Rattle.san_lists.specs.Calls.{Calls, callsOf}
+use Rattle.san_lists.specs.Calls.{Calls}
 
 -- "a list in another order gives the same move and the same name": the same answer, refusals too, and the same bytes in the room
 pub record AnyOrder (c : Calls) : Type 0 where
