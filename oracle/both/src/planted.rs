@@ -205,9 +205,14 @@ impl Log {
         Log(real::Log::new())
     }
 
-    /// The byte behind the last position is changed, or a refused move is counted as an action.
+    /// The byte behind the last position is changed, or a refused move is counted as an action; or a list that goes down is
+    /// turned round after the seventh move.
     pub fn make_move(&mut self, number: u64, next: &Position) -> Counts {
-        let mut counts = self.0.make_move(number, next);
+        let mut next = next.clone();
+        if planted("log-sorted") && self.0.move_count == 7 && next.list.is_sorted_by(|a, b| a > b) {
+            next.list.reverse();
+        }
+        let mut counts = self.0.make_move(number, &next);
         if planted("log-bytes") && counts.number == 0 && counts.moves == 11 {
             self.0.positions[12 * POSITION_LENGTH] ^= 1;
         }

@@ -1,4 +1,5 @@
-//! `log`: the crate's `Game` (game.rs) and our log on the same scripts.
+//! `log`: the crate's `Game` (game.rs) and our log on the same scripts. `log-sorted`: the same with a host that sorts every list of a game
+//! (document 02, order 13), which changes no answer.
 
 use crate::pair::Pair;
 use crate::part::{Part, Tally};
@@ -51,5 +52,38 @@ impl Part for LogPart {
     fn show(&self, script: &Script) -> String {
         let acts: Vec<String> = script.acts.iter().map(|a| a.show()).collect();
         format!("{:?} then {} actions: {}", script.start, acts.len(), acts.join(" "))
+    }
+}
+
+pub struct SortedLog(LogPart);
+
+impl SortedLog {
+    pub fn new() -> SortedLog {
+        SortedLog(LogPart(RefCell::new(Pair::of_host(true))))
+    }
+}
+
+impl Part for SortedLog {
+    type Input = Script;
+    const NAME: &'static str = "log-sorted";
+
+    fn fixed(&self) -> Box<dyn Iterator<Item = Script>> {
+        Box::new(script::told().into_iter())
+    }
+
+    fn random(&mut self, random: &mut Random) -> Option<Script> {
+        self.0.random(random)
+    }
+
+    fn compare(&self, script: &Script, tally: &mut Tally) -> Result<(), String> {
+        self.0.compare(script, tally)
+    }
+
+    fn smaller(&self, script: &Script) -> Vec<Script> {
+        self.0.smaller(script)
+    }
+
+    fn show(&self, script: &Script) -> String {
+        self.0.show(script)
     }
 }

@@ -11,7 +11,7 @@ use std::process::exit;
 /// Runs the part that has this name.
 type Runner = fn(&Options) -> Outcome;
 
-const PARTS: [(&str, Runner); 12] = [
+const PARTS: [(&str, Runner); 13] = [
     (fen::FenRead::NAME, |o| run(fen::FenRead::default(), o.seed, o.budget)),
     (fen::FenWrite::NAME, |o| run(fen::FenWrite::default(), o.seed, o.budget)),
     (page::FenPage::NAME, |o| run(page::FenPage::default(), o.seed, o.budget)),
@@ -22,6 +22,7 @@ const PARTS: [(&str, Runner); 12] = [
     (names::Names::NAME, |o| run(names::Names::new(), o.seed, o.budget)),
     (lists::Lists::NAME, |o| run(lists::Lists::new(), o.seed, o.budget)),
     (log::LogPart::NAME, |o| run(log::LogPart::new(), o.seed, o.budget)),
+    (log::SortedLog::NAME, |o| run(log::SortedLog::new(), o.seed, o.budget)),
     (rolls::Rolls::NAME, |o| run(rolls::Rolls::new(), o.seed, o.budget)),
     (steps::Steps::NAME, |o| run(steps::Steps, o.seed, o.budget)),
     (tests::Tests::NAME, |o| run(tests::Tests::new(), o.seed, o.budget)),

@@ -34,6 +34,8 @@ fn position_bytes(position: &Position) -> [u8; POSITION_LENGTH] {
 }
 
 pub struct Pair {
+    /// Whether the host sorts every list of a game, which the crate leaves in its generator's order (document 02, order 13).
+    sorts: bool,
     game: Game,
     /// What stands on the board now; the crate's `Game` would replay all moves to say it.
     board: Board,
@@ -51,11 +53,26 @@ fn differs<T: std::fmt::Debug>(what: &str, owed: T, ours: T) -> String {
 
 impl Pair {
     pub fn new() -> Pair {
+        Pair::of_host(false)
+    }
+
+    /// With a host that sorts every list of a game by the numbers of its moves, the highest first, or leaves all as they are.
+    pub fn of_host(sorts: bool) -> Pair {
         let log = Log::new();
         let mut random = Random::new(1, "noise");
         let noise: Vec<u8> = log.positions.iter().map(|_| random.next() as u8).collect();
         let (actions, positions) = (log.actions.clone(), log.positions.clone());
-        Pair { game: Game::new(), board: Board::default(), course: Course::default(), log, actions, positions, noise }
+        let (game, board, course) = (Game::new(), Board::default(), Course::default());
+        Pair { sorts, game, board, course, log, actions, positions, noise }
+    }
+
+    /// A position as the host lends it.
+    fn lent(&self, board: &Board) -> Position {
+        let mut position = position_of(board);
+        if self.sorts {
+            position.list.sort_unstable_by(|a, b| b.cmp(a));
+        }
+        position
     }
 
     /// A new game in parts full of noise, for nothing past their used bytes may be looked at or changed.
@@ -76,7 +93,7 @@ impl Pair {
         }
         self.log.actions.copy_from_slice(&self.actions);
         self.log.positions.copy_from_slice(&self.positions);
-        let position = position_of(&board);
+        let position = self.lent(&board);
         let counts = self.log.start(&position);
         if counts != (Counts { number: 0, actions: 0, moves: 0 }) {
             return Err(format!("start: ours {:?}", counts));
@@ -112,8 +129,9 @@ impl Pair {
     fn call(&mut self, act: Act) -> (u64, Counts) {
         // A move that is not listed is refused before its position is looked at, so any will do.
         let next = act.after(&self.board);
+        let position = self.lent(&next);
         let counts = match act {
-            Act::Move(number) => self.log.make_move(number as u64, &position_of(&next)),
+            Act::Move(number) => self.log.make_move(number as u64, &position),
             Act::Offer(colour) => self.log.offer_draw(colour),
             Act::Accept => self.log.accept_draw(),
             Act::Declare => self.log.declare_draw(),
@@ -132,7 +150,8 @@ impl Pair {
         self.actions[4 * n..4 * n + 4].copy_from_slice(&action_bytes(last));
         if moved {
             let at = POSITION_LENGTH * moves;
-            self.positions[at..at + POSITION_LENGTH].copy_from_slice(&position_bytes(&position_of(&self.board)));
+            let bytes = position_bytes(&self.lent(&self.board));
+            self.positions[at..at + POSITION_LENGTH].copy_from_slice(&bytes);
             self.course.add(self.board);
         }
     }
