@@ -11,7 +11,7 @@ use std::process::exit;
 /// Runs the part that has this name.
 type Runner = fn(&Options) -> Outcome;
 
-const PARTS: [(&str, Runner); 13] = [
+const PARTS: [(&str, Runner); 14] = [
     (fen::FenRead::NAME, |o| run(fen::FenRead::default(), o.seed, o.budget)),
     (fen::FenWrite::NAME, |o| run(fen::FenWrite::default(), o.seed, o.budget)),
     (page::FenPage::NAME, |o| run(page::FenPage::default(), o.seed, o.budget)),
