@@ -39,7 +39,7 @@ impl Action {
     pub(crate) fn of_good_log(bytes: &[u8]) -> Action {
         let color = ALL_COLORS[usize::from(bytes[1])];
         match bytes[0] {
-            1 => Action::MakeMove(Move::of_list(u16::from_le_bytes([bytes[2], bytes[3]]))),
+            MAKE_MOVE => Action::MakeMove(Move::of_list(u16::from_le_bytes([bytes[2], bytes[3]]))),
             2 => Action::OfferDraw(color),
             3 => Action::AcceptDraw,
             4 => Action::DeclareDraw,
@@ -52,7 +52,7 @@ impl Action {
         match self {
             Action::MakeMove(made) => {
                 let [low, high] = made.number().to_le_bytes();
-                [1, 0, low, high]
+                [MAKE_MOVE, 0, low, high]
             }
             Action::OfferDraw(color) => [2, color as u8, 0, 0],
             Action::AcceptDraw => [3, 0, 0, 0],
@@ -107,9 +107,12 @@ compile_error!("the archive is made for x86-64, and a log lends its lists low by
 pub(crate) const POSITION_PAIRS: usize = POSITION_BYTES / 2;
 
 // Where a position has what comes after its record: the in-check byte, the length of its list, and the list.
-const IN_CHECK: usize = 68;
-const ENTRIES: usize = 69;
-const LIST: usize = 70;
+pub(crate) const IN_CHECK: usize = 68;
+pub(crate) const ENTRIES: usize = 69;
+pub(crate) const LIST: usize = 70;
+
+/// The kind of an action that is a move.
+pub(crate) const MAKE_MOVE: u8 = 1;
 
 /// Pairs of bytes, as the archive and a store have them.
 pub(crate) fn bytes(pairs: &[u16]) -> &[u8] {

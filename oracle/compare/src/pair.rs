@@ -22,7 +22,7 @@ pub fn action_bytes(action: &Action) -> [u8; 4] {
     }
 }
 
-fn position_bytes(position: &Position) -> [u8; POSITION_LENGTH] {
+pub fn position_bytes(position: &Position) -> [u8; POSITION_LENGTH] {
     let mut bytes = [0; POSITION_LENGTH];
     bytes[..68].copy_from_slice(&position.record.0);
     bytes[68] = position.in_check;

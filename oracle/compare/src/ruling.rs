@@ -96,20 +96,20 @@ fn moves_of(game: &Game) -> Vec<ChessMove> {
 }
 
 /// Whether the pawns of the side that moved stand otherwise; a promoted one is gone from them.
-fn pawn_moved(before: &Board, after: &Board) -> bool {
+pub fn pawn_moved(before: &Board, after: &Board) -> bool {
     let mover = before.side_to_move();
     let pawns = |board: &Board| *board.pieces(Piece::Pawn) & *board.color_combined(mover);
     pawns(before) != pawns(after)
 }
 
 /// Whether the other side has a man less.
-fn captured(before: &Board, after: &Board) -> bool {
+pub fn captured(before: &Board, after: &Board) -> bool {
     let other = !before.side_to_move();
     let men = |board: &Board| board.color_combined(other).popcnt();
     men(before) != men(after)
 }
 
-fn rights_of(board: &Board) -> [usize; 2] {
+pub fn rights_of(board: &Board) -> [usize; 2] {
     ALL_COLORS.map(|color: Color| board.castle_rights(color).to_index())
 }
 

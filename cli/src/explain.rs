@@ -1,0 +1,220 @@
+//! `menkhodur explain`: what a FEN text says, why and where it is refused, and what the PGN standard would not have.
+
+use crate::input::{self, LONGEST, Lines, Place};
+use crate::json::{self, Object};
+use crate::options::{Asked, Flag, Status, Stop};
+use crate::output::Output;
+use crate::standard::{self, Warning};
+use crate::told::{self, Progress};
+use menkhodur::{ALL_COLORS, ALL_FILES, ALL_RANKS, Board, CastleRights, Error, Square};
+use std::ffi::OsStr;
+use std::os::unix::ffi::OsStrExt;
+
+pub const JSON: Flag = Flag { name: "json", value: None, about: "print one JSON object for each text" };
+
+pub fn run(asked: &Asked) -> Result<Status, Stop> {
+    let mut explain =
+        Explain { json: asked.has(&JSON), output: Output::new()?, status: Status::Well, explained: 0, progress: Progress::new() };
+    if asked.words.len() == 1 && asked.words[0] == "-" {
+        return explain.lines_of(&asked.words[0]);
+    }
+    // A FEN that was not quoted comes as one word a field.
+    let words: Vec<&[u8]> = asked.words.iter().map(|word| word.as_bytes()).collect();
+    explain.put(None, &words.join(&b' '))?;
+    explain.output.flush()?;
+    Ok(explain.status)
+}
+
+struct Explain {
+    json: bool,
+    output: Output,
+    status: Status,
+    explained: u64,
+    progress: Progress,
+}
+
+impl Lines for Explain {
+    fn lines(&mut self, mut place: Place<'_>, text: &[u8]) -> Result<u64, Stop> {
+        let first = place.line;
+        for line in text.strip_suffix(b"\n").unwrap_or(text).split(|byte| *byte == b'\n') {
+            self.put(Some(place), line)?;
+            place.line += 1;
+        }
+        self.progress.lines(self.explained);
+        Ok(place.line - first)
+    }
+
+    fn long(&mut self, place: Place<'_>) -> Result<(), Stop> {
+        self.found();
+        let told = match self.json {
+            true => Object::new().raw("line", place.line).raw("accepted", false).raw("long", true).end(),
+            false => format!("line {}: refused: the line has more than {LONGEST} bytes", place.line),
+        };
+        self.output.put(told.as_bytes())?;
+        self.output.put(b"\n")
+    }
+
+    fn flush(&mut self) -> Result<(), Stop> {
+        self.output.flush()
+    }
+}
+
+impl Explain {
+    fn lines_of(mut self, word: &OsStr) -> Result<Status, Stop> {
+        let whole = input::read(&[word.to_owned()], &mut self)?;
+        Ok(if whole { self.status } else { Status::Trouble })
+    }
+
+    fn found(&mut self) {
+        self.status = Status::Found;
+        self.output.status = Status::Found;
+    }
+
+    fn put(&mut self, place: Option<Place<'_>>, text: &[u8]) -> Result<(), Stop> {
+        let read = Board::from_fen(text);
+        let mut warnings = vec![];
+        match read {
+            Ok(_) => standard::find(text, &mut warnings),
+            Err(_) => self.found(),
+        }
+        let told = match self.json {
+            true => object(place, text, read, &warnings) + "\n",
+            false => self.between(place) + &explained(text, read, &warnings),
+        };
+        self.explained += 1;
+        self.output.put(told.as_bytes())
+    }
+
+    /// What stands before the explanation of one text of many.
+    fn between(&self, place: Option<Place<'_>>) -> String {
+        let gap = if self.explained == 0 { "" } else { "\n" };
+        place.map_or(String::new(), |place| format!("{gap}line {}: ", place.line))
+    }
+}
+
+fn explained(text: &[u8], read: Result<Board, Error>, warnings: &[Warning]) -> String {
+    match read {
+        Ok(board) => accepted(text, &board, warnings),
+        Err(refused) => {
+            let offset = refused.offset().unwrap_or_default();
+            let why = format!("refused: {}, at byte {offset} (answer {})", refused.meaning(), refused.number());
+            format!("{why}\n{}", pointed(text, offset))
+        }
+    }
+}
+
+fn accepted(text: &[u8], board: &Board, warnings: &[Warning]) -> String {
+    let mut told = match warnings.len() as u64 {
+        0 => "accepted\n".to_string(),
+        count => format!("accepted, with {}: the PGN standard (16.1) would not have this text\n", told::counted(count, "warning")),
+    };
+    let (shown, _) = excerpt(text, 0);
+    told += &format!("  {shown}\n\n{}\n", diagram(board));
+    told += &format!("  key         {board}{}\n", if board.to_fen().as_bytes() == text { ", which the text is" } else { "" });
+    told += &format!("  to move     {}\n", board.get_side_to_move());
+    let rights = ALL_COLORS.map(|color| format!("{color} {}", rights(board.get_castle_rights(color))));
+    told += &format!("  castling    {}\n", rights.join(", "));
+    told += &format!("  en passant  {}\n", en_passant(board).as_deref().unwrap_or("none"));
+    for warning in warnings {
+        let (name, offset) = (warning.oddity.name(), warning.offset);
+        told += &format!("\nwarning {name}, at byte {offset}: {}\n{}", warning.oddity, pointed(text, offset));
+    }
+    told
+}
+
+fn rights(rights: CastleRights) -> &'static str {
+    match rights {
+        CastleRights::NoRights => "none",
+        CastleRights::KingSide => "king side",
+        CastleRights::QueenSide => "queen side",
+        CastleRights::Both => "both sides",
+    }
+}
+
+/// The square as the key has it.
+fn en_passant(board: &Board) -> Option<String> {
+    board.en_passant_file()?;
+    board.to_fen().split(' ').nth(3).map(str::to_string)
+}
+
+fn rank_of(board: &Board, rank: usize) -> String {
+    let man = |file: usize| {
+        let square = Square::make_square(ALL_RANKS[rank], ALL_FILES[file]);
+        let man = board.piece_on(square).zip(board.color_on(square));
+        man.map_or(".".to_string(), |(piece, color)| piece.to_string(color))
+    };
+    (0..8).map(man).collect()
+}
+
+fn diagram(board: &Board) -> String {
+    let spaced = |letters: &str| letters.chars().flat_map(|letter| [' ', letter]).collect::<String>();
+    let ranks: String = (0..8).rev().map(|rank| format!("  {} {}\n", rank + 1, spaced(&rank_of(board, rank)))).collect();
+    format!("{ranks}    {}\n", spaced("abcdefgh"))
+}
+
+/// How much of a long text is shown before and behind a place.
+const BEFORE: usize = 90;
+const BEHIND: usize = 40;
+
+/// The text around a place, each byte that is no printable ASCII as `\xNN`, and the column of the place.
+fn excerpt(text: &[u8], offset: usize) -> (String, usize) {
+    let (from, to) = (offset.saturating_sub(BEFORE), text.len().min(offset.max(BEFORE) + BEHIND));
+    let byte = |byte: &u8| match byte {
+        b'\\' => "\\\\".to_string(),
+        b' '..=b'~' => char::from(*byte).to_string(),
+        other => format!("\\x{other:02x}"),
+    };
+    let shown = |bytes: &[u8]| bytes.iter().map(byte).collect::<String>();
+    let head = if from > 0 { ".." } else { "" }.to_string() + &shown(&text[from..offset]);
+    let tail = shown(&text[offset..to]) + if to < text.len() { ".." } else { "" };
+    let column = head.len();
+    (head + &tail, column)
+}
+
+fn pointed(text: &[u8], offset: usize) -> String {
+    let (shown, column) = excerpt(text, offset);
+    format!("  {shown}\n  {}^\n", " ".repeat(column))
+}
+
+fn object(place: Option<Place<'_>>, text: &[u8], read: Result<Board, Error>, warnings: &[Warning]) -> String {
+    let object = Object::new();
+    let object = match place {
+        Some(place) => object.raw("line", place.line),
+        None => object,
+    };
+    let object = object.bytes("text", text).raw("accepted", read.is_ok());
+    match read {
+        Err(refused) => {
+            let offset = refused.offset().unwrap_or_default();
+            object.raw("number", refused.number()).raw("offset", offset).text("reason", refused.meaning()).end()
+        }
+        Ok(board) => {
+            let side = board.get_side_to_move().to_string();
+            let castling = board.to_fen().split(' ').nth(2).unwrap_or_default().to_string();
+            let ranks = (0..8).rev().map(|rank| json::quoted(&rank_of(&board, rank)));
+            let object = object.text("key", &board.to_fen()).raw("ranks", json::array(ranks)).text("side", &side);
+            let object = object.text("castling", &castling).text_or_null("en_passant", en_passant(&board).as_deref());
+            object.raw("warnings", json::array(warnings.iter().map(warning))).end()
+        }
+    }
+}
+
+fn warning(warning: &Warning) -> String {
+    let object = Object::new().text("name", warning.oddity.name()).raw("offset", warning.offset);
+    object.text("reason", &warning.oddity.to_string()).end()
+}
+
+#[cfg(test)]
+mod tests {
+    use super::*;
+
+    #[test]
+    fn a_caret_stands_under_its_byte_whatever_stands_before_it() {
+        assert_eq!(pointed(b"8/x", 2), "  8/x\n    ^\n");
+        assert_eq!(pointed(b"\t\xff\\x", 3), "  \\x09\\xff\\\\x\n            ^\n");
+        assert_eq!(pointed(b"ab", 2), "  ab\n    ^\n");
+        let long = [b'/'; 1000];
+        let (shown, column) = excerpt(&long, 500);
+        assert_eq!((shown.len(), column), (2 + BEFORE + BEHIND + 2, 2 + BEFORE));
+    }
+}

@@ -1,0 +1,154 @@
+//! Files and standard input, read page by page and cut into whole lines. A line that a failed read cut is never handed on.
+
+use crate::options::Stop;
+use crate::told;
+use std::ffi::{OsStr, OsString};
+use std::fs::File;
+use std::io::{self, ErrorKind, Read};
+use std::os::fd::AsFd;
+use std::os::unix::ffi::OsStrExt;
+
+/// A line of this length does not fit any more, as in the proved program `keys`.
+const ROOM: usize = 131_072;
+
+/// The most bytes that a line has.
+pub const LONGEST: usize = ROOM - 1;
+
+/// Where lines stand: the input's name, as it was given, and the number of the first of them, from 1.
+#[derive(Clone, Copy)]
+pub struct Place<'a> {
+    pub name: &'a [u8],
+    pub line: u64,
+}
+
+/// What is done with lines.
+pub trait Lines {
+    /// Some lines, each ended by a newline, but perhaps not the last one of an input, which has a byte then. Answers how many.
+    fn lines(&mut self, place: Place<'_>, text: &[u8]) -> Result<u64, Stop>;
+    /// A line of more than `LONGEST` bytes.
+    fn long(&mut self, place: Place<'_>) -> Result<(), Stop>;
+    /// The next bytes may take long: what waits goes out.
+    fn flush(&mut self) -> Result<(), Stop>;
+}
+
+/// Hands on the lines of the inputs named, or of standard input if none is. Answers whether all of them were read to their end.
+pub fn read(words: &[OsString], lines: &mut impl Lines) -> Result<bool, Stop> {
+    let standard = [OsString::from("-")];
+    let mut room = vec![0; ROOM].into_boxed_slice();
+    let mut whole = true;
+    for word in if words.is_empty() { &standard } else { words } {
+        whole &= read_input(word, &mut room, lines)?;
+    }
+    Ok(whole)
+}
+
+/// The file that a word names; `-` is standard input.
+pub fn open(word: &OsStr) -> io::Result<File> {
+    match word.as_bytes() {
+        b"-" => io::stdin().as_fd().try_clone_to_owned().map(File::from),
+        _ => File::open(word),
+    }
+}
+
+/// An input in a message.
+pub fn shown(word: &OsStr) -> &[u8] {
+    match word.as_bytes() {
+        b"-" => b"standard input",
+        name => name,
+    }
+}
+
+pub fn failed(word: &OsStr, error: &io::Error) -> Vec<u8> {
+    [shown(word), b": ", told::system(error).as_bytes()].concat()
+}
+
+fn read_input(word: &OsStr, room: &mut [u8], lines: &mut impl Lines) -> Result<bool, Stop> {
+    let mut file = match open(word) {
+        Ok(file) => file,
+        Err(error) => {
+            told::tell(&[&failed(word, &error)]);
+            return Ok(false);
+        }
+    };
+    let mut cutter = Cutter { place: Place { name: word.as_bytes(), line: 1 }, room, held: 0, long: false };
+    loop {
+        match file.read(cutter.space()) {
+            Ok(0) => break,
+            Ok(more) => cutter.take(more, lines)?,
+            Err(error) if error.kind() == ErrorKind::Interrupted => {}
+            Err(error) => {
+                told::tell(&[&failed(word, &error)]);
+                cutter.tell_stopped(shown(word));
+                lines.flush()?;
+                return Ok(false);
+            }
+        }
+    }
+    cutter.end(lines)?;
+    lines.flush()?;
+    Ok(true)
+}
+
+/// Cuts what is read into lines.
+struct Cutter<'a> {
+    place: Place<'a>,
+    room: &'a mut [u8],
+    /// Bytes of an unended line at the front of the room.
+    held: usize,
+    /// The line that goes on did not fit the room; nothing of it is held.
+    long: bool,
+}
+
+impl Cutter<'_> {
+    fn space(&mut self) -> &mut [u8] {
+        &mut self.room[self.held..]
+    }
+
+    /// So many bytes came in behind those held. Whoever feeds a slow pipe gets each answer at once: a read that does not fill its space
+    /// may be the last for long.
+    fn take(&mut self, more: usize, lines: &mut impl Lines) -> Result<(), Stop> {
+        let end = self.held + more;
+        let from = self.after_long(end, lines)?;
+        let fresh = from.max(self.held);
+        let to = self.room[fresh..end].iter().rposition(|byte| *byte == b'\n').map_or(from, |at| fresh + at + 1);
+        if from < to {
+            self.place.line += lines.lines(self.place, &self.room[from..to])?;
+        }
+        self.room.copy_within(to..end, 0);
+        self.held = end - to;
+        if self.held == self.room.len() || self.long {
+            (self.held, self.long) = (0, true);
+        }
+        if end < self.room.len() { lines.flush() } else { Ok(()) }
+    }
+
+    /// Where the line after a long one begins, or the end if the long one has not ended; 0 if there is none.
+    fn after_long(&mut self, end: usize, lines: &mut impl Lines) -> Result<usize, Stop> {
+        if !self.long {
+            return Ok(0);
+        }
+        let Some(at) = self.room[..end].iter().position(|byte| *byte == b'\n') else { return Ok(end) };
+        lines.long(self.place)?;
+        self.place.line += 1;
+        self.long = false;
+        Ok(at + 1)
+    }
+
+    /// The input has ended: a last line without a newline counts if it has a byte.
+    fn end(&mut self, lines: &mut impl Lines) -> Result<(), Stop> {
+        if self.long {
+            return lines.long(self.place);
+        }
+        if self.held > 0 {
+            lines.lines(self.place, &self.room[..self.held])?;
+        }
+        Ok(())
+    }
+
+    /// What is held could be a text of another meaning without its end.
+    fn tell_stopped(&self, name: &[u8]) {
+        let after = told::counted(self.place.line - 1, "line");
+        let cut: &[u8] = if self.long || self.held > 0 { b"; a line was cut and is dropped" } else { b"" };
+        told::tell(&[name, b": stopped after ", after.as_bytes(), cut]);
+    }
+}

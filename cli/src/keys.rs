@@ -1,0 +1,281 @@
+//! `menkhodur keys`: the key of each line, or what is wrong with it; with `--check`, the lines that are not their own keys.
+
+use crate::input::{self, LONGEST, Lines, Place};
+use crate::json::Object;
+use crate::options::{Asked, Flag, Status, Stop};
+use crate::output::Output;
+use crate::page::Page;
+use crate::standard::{self, Warning};
+use crate::told::{self, Progress};
+use menkhodur::Error;
+use menkhodur::lent::{self, Record};
+use std::io::Write;
+
+pub const CHECK: Flag = Flag { name: "check", value: None, about: "print only the lines that are not their own key" };
+pub const STRICT: Flag = Flag { name: "strict", value: None, about: "refuse what `menkhodur explain` warns of, as `! strict OFFSET NAME`" };
+pub const JSON: Flag = Flag { name: "json", value: None, about: "print one JSON object a line" };
+
+/// Bytes of the longest key.
+const LONGEST_KEY: usize = 85;
+
+pub fn run(asked: &Asked) -> Result<Status, Stop> {
+    let form = Form { check: asked.has(&CHECK), strict: asked.has(&STRICT), json: asked.has(&JSON) };
+    let mut keys = Keys {
+        form,
+        page: Page::default(),
+        output: Output::new()?,
+        tally: Tally::default(),
+        odd: vec![],
+        made: vec![],
+        progress: Progress::new(),
+    };
+    let ended = input::read(&asked.words, &mut keys);
+    keys.end(ended)
+}
+
+#[derive(Clone, Copy)]
+struct Form {
+    check: bool,
+    strict: bool,
+    json: bool,
+}
+
+/// What came of the lines; `renamed` are accepted and not their own keys, and counted only with `--check`.
+#[derive(Clone, Copy, Default)]
+struct Tally {
+    accepted: u64,
+    renamed: u64,
+    refused: u64,
+}
+
+impl Tally {
+    fn lines(&self) -> u64 {
+        self.accepted + self.renamed + self.refused
+    }
+
+    fn status(&self) -> Status {
+        if self.renamed + self.refused == 0 { Status::Well } else { Status::Found }
+    }
+
+    /// The last line of standard error; scripts may read it.
+    fn shown(&self, check: bool) -> String {
+        let lines = told::counted(self.lines(), "line");
+        match check {
+            false => format!("{lines}, {} accepted, {} refused", self.accepted, self.refused),
+            true => {
+                let (keys, names) = (told::counted(self.accepted, "key"), told::counted(self.renamed, "second name"));
+                format!("{lines}, {keys}, {names}, {} refused", self.refused)
+            }
+        }
+    }
+}
+
+/// What is said of a line.
+#[derive(Clone, Copy)]
+enum Said<'a> {
+    Key(&'a [u8]),
+    Refused(Error),
+    Odd(Warning),
+    Long,
+}
+
+struct Keys {
+    form: Form,
+    page: Page,
+    output: Output<Tally>,
+    tally: Tally,
+    odd: Vec<Warning>,
+    /// A line of output in the making.
+    made: Vec<u8>,
+    progress: Progress,
+}
+
+impl Lines for Keys {
+    fn lines(&mut self, place: Place<'_>, text: &[u8]) -> Result<u64, Stop> {
+        let before = self.tally.lines();
+        let mut page = std::mem::take(&mut self.page);
+        page.read(text);
+        let plain = !self.form.check && !self.form.strict && !self.form.json;
+        let ended = if plain { self.plain(&page) } else { self.told(&page, place, text) };
+        self.page = page;
+        self.progress.lines(self.tally.lines());
+        ended.map(|()| self.tally.lines() - before)
+    }
+
+    fn long(&mut self, place: Place<'_>) -> Result<(), Stop> {
+        self.put(place, b"", Said::Long)
+    }
+
+    fn flush(&mut self) -> Result<(), Stop> {
+        self.output.flush()
+    }
+}
+
+impl Keys {
+    /// As the proved program `keys`: a line a line, whatever its text is.
+    fn plain(&mut self, page: &Page) -> Result<(), Stop> {
+        for answer in page.answers() {
+            let space = self.output.space(LONGEST_KEY + 1)?;
+            let length = match &answer {
+                Ok(record) => key_of(record, space),
+                Err(refused) => refusal(refused, space),
+            };
+            space[length] = b'\n';
+            self.output.advance(length + 1);
+            match answer {
+                Ok(_) => self.tally.accepted += 1,
+                Err(_) => {
+                    self.tally.refused += 1;
+                    self.output.status = Status::Found;
+                }
+            }
+            self.output.mark(self.tally);
+        }
+        Ok(())
+    }
+
+    fn told(&mut self, page: &Page, mut place: Place<'_>, text: &[u8]) -> Result<(), Stop> {
+        let mut left = text;
+        let mut room = [0; LONGEST_KEY];
+        for answer in page.answers() {
+            let said = match answer {
+                Ok(record) => {
+                    let length = key_of(record, &mut room);
+                    Said::Key(&room[..length])
+                }
+                Err(refused) => Said::Refused(refused),
+            };
+            left = self.line(place, left, said)?;
+            place.line += 1;
+        }
+        Ok(())
+    }
+
+    /// The first line of `left`; answers what is left behind it. A line that is its own key is known by its bytes, without looking for its
+    /// end, and nothing is odd about it.
+    fn line<'a>(&mut self, place: Place<'_>, left: &'a [u8], said: Said<'_>) -> Result<&'a [u8], Stop> {
+        if let Said::Key(key) = said {
+            if let Some(rest @ ([] | [b'\n', ..])) = left.strip_prefix(key) {
+                self.put(place, key, said)?;
+                return Ok(rest.get(1..).unwrap_or_default());
+            }
+        }
+        let length = left.iter().position(|byte| *byte == b'\n').unwrap_or(left.len());
+        let line = &left[..length];
+        let said = match said {
+            Said::Key(_) if self.form.strict => self.first_oddity(line).map_or(said, Said::Odd),
+            said => said,
+        };
+        self.put(place, line, said)?;
+        Ok(left.get(length + 1..).unwrap_or_default())
+    }
+
+    fn first_oddity(&mut self, line: &[u8]) -> Option<Warning> {
+        standard::find(line, &mut self.odd);
+        self.odd.first().copied()
+    }
+
+    /// Counts a line and prints what is said of it.
+    fn put(&mut self, place: Place<'_>, line: &[u8], said: Said<'_>) -> Result<(), Stop> {
+        match said {
+            Said::Key(key) if self.form.check && key != line => self.tally.renamed += 1,
+            Said::Key(_) => self.tally.accepted += 1,
+            Said::Refused(_) | Said::Odd(_) | Said::Long => self.tally.refused += 1,
+        }
+        if self.form.check && matches!(said, Said::Key(key) if key == line) {
+            return Ok(());
+        }
+        self.output.status = self.tally.status();
+        self.made.clear();
+        match self.form {
+            Form { json: true, .. } => self.made.extend(object(place, line, said).bytes()),
+            Form { check: true, .. } => checked(place, line, said, &mut self.made),
+            _ => answered(said, &mut self.made),
+        }
+        self.made.push(b'\n');
+        self.output.put(&self.made)?;
+        self.output.mark(self.tally);
+        Ok(())
+    }
+
+    /// The last line of standard error. Counted is what was written whole.
+    fn end(mut self, read: Result<bool, Stop>) -> Result<Status, Stop> {
+        let ended = read.and_then(|whole| self.output.flush().map(|()| whole));
+        let (whole, failed) = match ended {
+            Ok(whole) => (whole, false),
+            Err(Stop::Trouble(message)) => {
+                told::tell(&[&message]);
+                self.tally = self.output.settled();
+                (true, true)
+            }
+            Err(closed) => return Err(closed),
+        };
+        let incomplete: &[u8] = if whole { b"" } else { b"; input incomplete" };
+        let cut: &[u8] = if failed { b"; output incomplete: these lines were written whole" } else { b"" };
+        told::tell(&[self.tally.shown(self.form.check).as_bytes(), incomplete, cut]);
+        Ok(if whole && !failed { self.tally.status() } else { Status::Trouble })
+    }
+}
+
+/// Writes the key of a record that the archive has read, and answers its length.
+fn key_of(record: &Record, room: &mut [u8]) -> usize {
+    lent::fen_write(record, room).expect("a record that was read has a key, and the room is long enough")
+}
+
+/// `! N OFFSET`, as the proved program `keys` has it.
+fn refusal(refused: &Error, mut room: &mut [u8]) -> usize {
+    let before = room.len();
+    write!(room, "! {} {}", refused.number(), refused.offset().unwrap_or_default()).expect("two numbers fit where a key does");
+    before - room.len()
+}
+
+/// One line of output for a line of input.
+fn answered(said: Said<'_>, made: &mut Vec<u8>) {
+    match said {
+        Said::Key(key) => made.extend(key),
+        Said::Refused(refused) => {
+            let mut room = [0; LONGEST_KEY];
+            let length = refusal(&refused, &mut room);
+            made.extend(&room[..length]);
+        }
+        Said::Odd(warning) => made.extend(format!("! strict {} {}", warning.offset, warning.oddity.name()).bytes()),
+        Said::Long => made.extend(b"! long"),
+    }
+}
+
+/// `FILE:LINE: TEXT -> KEY` or `FILE:LINE: TEXT ! N OFFSET reason`. A line that was too long is not kept.
+fn checked(place: Place<'_>, line: &[u8], said: Said<'_>, made: &mut Vec<u8>) {
+    made.extend(place.name);
+    made.extend(format!(":{}: ", place.line).bytes());
+    made.extend(line);
+    if !matches!(said, Said::Long) {
+        made.push(b' ');
+    }
+    if let Said::Key(_) = said {
+        made.extend(b"-> ");
+    }
+    answered(said, made);
+    match said {
+        Said::Key(_) => {}
+        Said::Refused(refused) => made.extend(format!(" {}", refused.meaning()).bytes()),
+        Said::Odd(warning) => made.extend(format!(": {}", warning.oddity).bytes()),
+        Said::Long => made.extend(format!(" the line has more than {LONGEST} bytes").bytes()),
+    }
+}
+
+fn object(place: Place<'_>, line: &[u8], said: Said<'_>) -> String {
+    let object = Object::new().bytes("file", place.name).raw("line", place.line);
+    match said {
+        Said::Key(key) => object.bytes("text", line).bytes("key", key),
+        Said::Refused(refused) => {
+            let offset = refused.offset().unwrap_or_default();
+            object.bytes("text", line).raw("number", refused.number()).raw("offset", offset).text("reason", refused.meaning())
+        }
+        Said::Odd(warning) => {
+            let object = object.bytes("text", line).text("strict", warning.oddity.name()).raw("offset", warning.offset);
+            object.text("reason", &warning.oddity.to_string())
+        }
+        Said::Long => object.raw("long", true).text("reason", &format!("the line has more than {LONGEST} bytes")),
+    }
+    .end()
+}

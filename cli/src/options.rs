@@ -1,0 +1,174 @@
+//! What a row of the table is, and what the words of a command line ask for by it.
+
+use crate::{help, table};
+use std::ffi::{OsStr, OsString};
+use std::os::unix::ffi::OsStrExt;
+
+/// How a command has ended: what a script looks at.
+#[derive(Clone, Copy, Debug, PartialEq, Eq, PartialOrd, Ord)]
+pub enum Status {
+    Well = 0,
+    Found = 1,
+    Trouble = 2,
+}
+
+/// Why a command has ended before its work was done.
+#[derive(Debug)]
+pub enum Stop {
+    /// The reader of standard output has gone: nothing is said, and the status is that of what was done until then.
+    Closed(Status),
+    /// What to say on standard error.
+    Trouble(Vec<u8>),
+}
+
+impl Stop {
+    pub fn trouble(message: impl AsRef<[u8]>) -> Stop {
+        Stop::Trouble(message.as_ref().to_vec())
+    }
+}
+
+/// An option, `--name`, with the name of its value if it takes one.
+pub struct Flag {
+    pub name: &'static str,
+    pub value: Option<&'static str>,
+    pub about: &'static str,
+}
+
+/// What a word that is no option is, for the shells that complete it.
+#[derive(Clone, Copy, PartialEq, Eq)]
+pub enum Takes {
+    File,
+    Text,
+    OneOf(&'static [&'static str]),
+}
+
+/// Words that are no options.
+pub struct Argument {
+    pub name: &'static str,
+    pub takes: Takes,
+    pub least: usize,
+    /// None: any number.
+    pub most: Option<usize>,
+    pub about: &'static str,
+}
+
+pub struct Example {
+    pub command: &'static str,
+    pub about: &'static str,
+}
+
+/// A command: all that help, man page, completion and the reader of words know of it, and what runs it.
+pub struct Command {
+    pub name: &'static str,
+    pub about: &'static str,
+    pub arguments: &'static [Argument],
+    pub flags: &'static [Flag],
+    pub text: &'static [&'static str],
+    /// What the exit statuses 0 and 1 mean, 1 if there is one.
+    pub statuses: &'static [&'static str],
+    pub examples: &'static [Example],
+    pub run: fn(&Asked) -> Result<Status, Stop>,
+}
+
+/// A command with its options and words.
+pub struct Asked {
+    pub command: &'static Command,
+    flags: Vec<(&'static str, OsString)>,
+    pub words: Vec<OsString>,
+}
+
+impl Asked {
+    pub fn has(&self, flag: &Flag) -> bool {
+        self.value(flag).is_some()
+    }
+
+    /// The value of the last such option; an option that takes none has an empty one.
+    pub fn value(&self, flag: &Flag) -> Option<&OsStr> {
+        self.flags.iter().rev().find(|(name, _)| *name == flag.name).map(|(_, value)| value.as_os_str())
+    }
+}
+
+/// What a command line asks for.
+pub enum Wanted {
+    Run(Asked),
+    Say(String),
+}
+
+/// Reads a command line without the program's own name.
+pub fn read(words: &[OsString]) -> Result<Wanted, Stop> {
+    let Some(first) = words.first() else {
+        return Err(Stop::trouble(format!("a command is wanted: {}; see menkhodur --help", table::names().join(", "))));
+    };
+    match first.to_str() {
+        Some("-h" | "--help") => return Ok(Wanted::Say(help::whole())),
+        Some("--version") => return Ok(Wanted::Say(version())),
+        _ => {}
+    }
+    let named = table::COMMANDS.iter().find(|command| first == command.name);
+    let kind = if first.as_bytes().starts_with(b"-") { "option" } else { "command" };
+    let command = named.ok_or_else(|| refused(&format!("unknown {kind} "), first, "menkhodur --help"))?;
+    of_command(command, &words[1..])
+}
+
+fn version() -> String {
+    format!("menkhodur (Menkhodur) {}\n", menkhodur::version())
+}
+
+fn refused(what: &str, word: &OsStr, see: &str) -> Stop {
+    Stop::Trouble([what.as_bytes(), word.as_bytes(), b"; see ", see.as_bytes()].concat())
+}
+
+fn of_command(command: &'static Command, words: &[OsString]) -> Result<Wanted, Stop> {
+    let mut asked = Asked { command, flags: vec![], words: vec![] };
+    let mut left = words.iter();
+    while let Some(word) = left.next() {
+        match word.as_bytes() {
+            b"--" => {
+                asked.words.extend(left.by_ref().cloned());
+            }
+            b"-h" | b"--help" => return Ok(Wanted::Say(help::of(command))),
+            b"--version" => return Ok(Wanted::Say(version())),
+            [b'-', _, ..] => asked.flags.push(flag(command, word, &mut left)?),
+            _ => asked.words.push(word.clone()),
+        }
+    }
+    count(&asked)?;
+    Ok(Wanted::Run(asked))
+}
+
+/// `--name`, `--name VALUE` or `--name=VALUE`.
+fn flag<'a>(command: &Command, word: &OsStr, left: &mut impl Iterator<Item = &'a OsString>) -> Result<(&'static str, OsString), Stop> {
+    let see = format!("menkhodur {} --help", command.name);
+    let bytes = word.as_bytes();
+    let (name, value) = match bytes.iter().position(|byte| *byte == b'=') {
+        Some(at) => (&bytes[..at], Some(OsStr::from_bytes(&bytes[at + 1..]).to_owned())),
+        None => (bytes, None),
+    };
+    let known = command.flags.iter().find(|flag| name.strip_prefix(b"--") == Some(flag.name.as_bytes()));
+    let flag = known.ok_or_else(|| refused("unknown option ", word, &see))?;
+    match (flag.value, value) {
+        (None, None) => Ok((flag.name, OsString::new())),
+        (None, Some(_)) => Err(refused("no value is taken by ", OsStr::from_bytes(name), &see)),
+        (Some(_), Some(value)) => Ok((flag.name, value)),
+        (Some(wanted), None) => {
+            let next = left.next().ok_or_else(|| refused(&format!("a value ({wanted}) is wanted by "), word, &see))?;
+            Ok((flag.name, next.clone()))
+        }
+    }
+}
+
+/// Whether there are as many words as the arguments take.
+fn count(asked: &Asked) -> Result<(), Stop> {
+    let arguments = asked.command.arguments;
+    let least: usize = arguments.iter().map(|argument| argument.least).sum();
+    let most = arguments.iter().try_fold(0, |sum, argument| Some(sum + argument.most?));
+    let see = format!("menkhodur {} --help", asked.command.name);
+    if asked.words.len() < least {
+        let missing = arguments.iter().flat_map(|argument| std::iter::repeat_n(argument.name, argument.least)).nth(asked.words.len());
+        return Err(refused("missing ", OsStr::new(missing.unwrap_or_default()), &see));
+    }
+    match most {
+        Some(most) if asked.words.len() > most => Err(refused("one word too many: ", &asked.words[most], &see)),
+        _ => Ok(()),
+    }
+}

@@ -1,0 +1,100 @@
+//! Standard output: what waits goes out when there is no room for more, or when someone may wait for it.
+
+use crate::options::{Status, Stop};
+use crate::told;
+use std::fs::File;
+use std::io::{self, ErrorKind, Write};
+use std::os::fd::AsFd;
+
+const ROOM: usize = 65_536;
+
+/// What was done when a piece of output, a line or an object, was put whole.
+struct Mark<T> {
+    end: usize,
+    done: T,
+}
+
+/// `T` is what is counted; after a failed write it is that of the last piece that got out whole.
+pub struct Output<T = ()> {
+    file: File,
+    room: Box<[u8]>,
+    ready: usize,
+    marks: Vec<Mark<T>>,
+    settled: T,
+    /// What the run has come to: its status if the reader goes.
+    pub status: Status,
+    pub failed: bool,
+}
+
+impl<T: Copy + Default> Output<T> {
+    pub fn new() -> Result<Output<T>, Stop> {
+        // The runtime's own standard output would look for newlines in every page again.
+        let file = io::stdout().as_fd().try_clone_to_owned().map(File::from).map_err(|error| failure(&error))?;
+        let room = vec![0; ROOM].into_boxed_slice();
+        Ok(Output { file, room, ready: 0, marks: vec![], settled: T::default(), status: Status::Well, failed: false })
+    }
+
+    /// Room for at least so many bytes, at most the whole room.
+    pub fn space(&mut self, least: usize) -> Result<&mut [u8], Stop> {
+        if self.room.len() - self.ready < least {
+            self.flush()?;
+        }
+        Ok(&mut self.room[self.ready..])
+    }
+
+    /// So many bytes of the space were written.
+    pub fn advance(&mut self, bytes: usize) {
+        self.ready += bytes;
+    }
+
+    pub fn put(&mut self, mut bytes: &[u8]) -> Result<(), Stop> {
+        while !bytes.is_empty() {
+            let space = self.space(1)?;
+            let (now, later) = bytes.split_at(bytes.len().min(space.len()));
+            space[..now.len()].copy_from_slice(now);
+            self.advance(now.len());
+            bytes = later;
+        }
+        Ok(())
+    }
+
+    /// A piece was put whole, and this is what was done with it.
+    pub fn mark(&mut self, done: T) {
+        self.marks.push(Mark { end: self.ready, done });
+    }
+
+    /// What was done as far as it got out.
+    pub fn settled(&self) -> T {
+        self.settled
+    }
+
+    pub fn flush(&mut self) -> Result<(), Stop> {
+        let mut done = 0;
+        let mut ended = Ok(());
+        while done < self.ready && ended.is_ok() {
+            match self.file.write(&self.room[done..self.ready]) {
+                Ok(0) => ended = Err(io::Error::from(ErrorKind::WriteZero)),
+                Ok(taken) => done += taken,
+                Err(error) if error.kind() == ErrorKind::Interrupted => {}
+                Err(error) => ended = Err(error),
+            }
+        }
+        let whole = self.marks.iter().rev().find(|mark| mark.end <= done);
+        self.settled = whole.map_or(self.settled, |mark| mark.done);
+        self.marks.clear();
+        self.ready = 0;
+        ended.map_err(|error| self.fail(&error))
+    }
+
+    fn fail(&mut self, error: &io::Error) -> Stop {
+        self.failed = true;
+        match error.kind() {
+            ErrorKind::BrokenPipe => Stop::Closed(self.status),
+            _ => failure(error),
+        }
+    }
+}
+
+fn failure(error: &io::Error) -> Stop {
+    Stop::trouble(format!("standard output: {}", told::system(error)))
+}

@@ -1,0 +1,233 @@
+//! `menkhodur ruling`: a stored game, its result, and whether a draw may be claimed, with what that rests on.
+
+use crate::entry::{self, Entry, What};
+use crate::input;
+use crate::json::{self, Object};
+use crate::options::{Asked, Flag, Status, Stop};
+use crate::output::Output;
+use crate::stored::Stored;
+use crate::told;
+use menkhodur::lent::CLAIM_COUNT;
+use menkhodur::{ALL_COLORS, Board, Log, Piece, Reason, Ruling};
+
+pub const AT: Flag = Flag { name: "at", value: Some("N"), about: "rule after the first N actions, not after the last; 0 is the start" };
+pub const JSON: Flag = Flag { name: "json", value: None, about: "print one JSON object" };
+
+pub fn run(asked: &Asked) -> Result<Status, Stop> {
+    let stored = Stored::load(&asked.words)?;
+    let at = at(asked, stored.action_count)?;
+    let fault = stored.fault().map(|fault| [input::shown(&asked.words[0]), b": ", fault.to_string().as_bytes()].concat());
+    let log = match (stored.log(at), &fault) {
+        (Some(log), None) => log,
+        // What is behind the actions asked for does not touch a ruling on them, but whoever rules must know.
+        (Some(log), Some(fault)) if asked.has(&AT) => {
+            told::tell(&[fault, format!("; the first {} stand", told::counted(at as u64, "action")).as_bytes()]);
+            log
+        }
+        (_, fault) => return Err(Stop::Trouble(fault.clone().unwrap_or_default())),
+    };
+    let case = Case::of(&log);
+    let mut output: Output = Output::new()?;
+    output.status = case.status();
+    output.put(if asked.has(&JSON) { case.object() + "\n" } else { case.written() }.as_bytes())?;
+    output.flush()?;
+    Ok(case.status())
+}
+
+/// The number of actions to rule after.
+fn at(asked: &Asked, all: usize) -> Result<usize, Stop> {
+    let Some(value) = asked.value(&AT) else { return Ok(all) };
+    let number = value.to_str().and_then(|text| text.parse().ok());
+    match number {
+        Some(number) if number <= all => Ok(number),
+        Some(number) => Err(Stop::trouble(format!("--at {number}: the log has {}", told::counted(all as u64, "action")))),
+        None => Err(Stop::trouble([b"--at ", value.as_encoded_bytes(), b": a number of actions is wanted"].concat())),
+    }
+}
+
+/// A game with its ruling.
+struct Case {
+    entries: Vec<Entry>,
+    ruling: Ruling,
+    /// The earlier positions that equal the last, by the moves that led to them.
+    equal: Vec<usize>,
+    /// The last move that emptied each count, 0 for the start, and by what.
+    since: Since,
+    laws_since: Since,
+}
+
+const RIGHTS: &str = "a change of castling rights";
+
+struct Since {
+    moves: usize,
+    by: Vec<&'static str>,
+}
+
+impl Case {
+    fn of(log: &Log) -> Case {
+        let (entries, ruling) = (entry::entries(log), log.ruling());
+        let since = |count: usize| Since { moves: ruling.moves - count, by: causes(&entries, ruling.moves - count) };
+        let (since, mut laws_since) = (since(ruling.count), since(ruling.laws_count));
+        // The move that began the Laws' count may have changed rights too, but that is not what began it.
+        laws_since.by.retain(|cause| *cause != RIGHTS);
+        let equal = equal(log, &ruling);
+        Case { entries, ruling, equal, since, laws_since }
+    }
+
+    fn status(&self) -> Status {
+        if self.ruling.laws_claim.or(self.ruling.claim).is_some() { Status::Well } else { Status::Found }
+    }
+
+    /// The entry of the move after which so many were made; the start for 0.
+    fn after(&self, moves: usize) -> &Entry {
+        &self.entries[place(&self.entries, moves)]
+    }
+
+    /// `the start`, or `move 8 (4... Ng8)`: the log's own number, and the one on a score sheet.
+    fn place(&self, moves: usize) -> String {
+        match moves {
+            0 => "the start".to_string(),
+            moves => {
+                let first = self.entries[0].board.get_side_to_move();
+                format!("move {moves} ({} {})", entry::pair(moves, first), self.after(moves).written())
+            }
+        }
+    }
+
+    fn written(&self) -> String {
+        let row = |name: &str, about: String| format!("{name:13}{about}\n");
+        let result = self.ruling.result.map_or("the game goes on".to_string(), |result| result.to_string());
+        let (actions, moves) = (self.entries.len() as u64 - 1, self.ruling.moves as u64);
+        let rows = [
+            row("start", self.entries[0].board.to_string()),
+            wrapped(&self.game()) + "\n",
+            row("result", format!("{result}, after {} and {}", told::counted(actions, "action"), told::counted(moves, "move"))),
+            row("claim", claim(self.ruling.claim)),
+            row("Laws' claim", claim(self.ruling.laws_claim) + "\n"),
+            row("count", self.counted(self.ruling.count, &self.since, "a pawn move, a capture or a change of castling rights")),
+            row("Laws' count", self.counted(self.ruling.laws_count, &self.laws_since, "a pawn move or a capture (article 9.3)")),
+            row("equal", self.equals()),
+        ];
+        rows.concat()
+    }
+
+    fn counted(&self, count: usize, since: &Since, without: &str) -> String {
+        let began = match since.moves {
+            0 => "since the start".to_string(),
+            moves => format!("since {}, {}", self.place(moves), since.by.join(" and ")),
+        };
+        format!("{count} of {CLAIM_COUNT} moves without {without}, {began}")
+    }
+
+    /// How many positions are equal, and each of them, the last too.
+    fn equals(&self) -> String {
+        let last = self.ruling.moves;
+        let mut told = match self.equal.len() {
+            1 => "1 earlier position of the run equals the last".to_string(),
+            count => format!("{count} earlier positions of the run equal the last"),
+        };
+        for moves in self.equal.iter().copied().chain([last]) {
+            let which = if moves == last { ", the last" } else { "" };
+            let after = if moves == 0 { "at" } else { "after" };
+            told += &format!("\n{:13}{after} {}{which}: {}", "", self.place(moves), self.after(moves).board);
+        }
+        told
+    }
+
+    /// The words of the game, with the numbers of a score sheet.
+    fn game(&self) -> Vec<String> {
+        let first = self.entries[0].board.get_side_to_move();
+        let mut words = vec![];
+        let mut is_new = true;
+        for entry in &self.entries[1..] {
+            if let What::Move(..) = entry.what {
+                let number = entry::pair(entry.moves, first);
+                // Black's move needs its number only where something stands between it and white's.
+                if is_new || !number.ends_with("...") {
+                    words.push(number);
+                }
+                is_new = false;
+            } else {
+                is_new = true;
+            }
+            words.push(entry.written());
+        }
+        words
+    }
+
+    fn object(&self) -> String {
+        let ruling = &self.ruling;
+        let result = ruling.result.map(|result| result.to_string());
+        let object = Object::new().raw("actions", self.entries.len() - 1).raw("moves", ruling.moves);
+        let object = object.text_or_null("result", result.as_deref());
+        let object = object.raw("result_number", ruling.result.map_or(0, |result| result.number()));
+        let object = reason(object, "claim", ruling.claim);
+        let object = reason(object, "laws_claim", ruling.laws_claim);
+        let object = object.raw("count", ruling.count).raw("count_since", since(&self.since));
+        let object = object.raw("laws_count", ruling.laws_count).raw("laws_since", since(&self.laws_since));
+        let position = |moves: &usize| {
+            let after = self.after(*moves);
+            Object::new().raw("moves", *moves).raw("action", after.action).text("key", &after.board.to_fen()).end()
+        };
+        let object = object.raw("equals", ruling.equals).raw("equal", json::array(self.equal.iter().map(position)));
+        let object = object.raw("last", position(&ruling.moves));
+        object.raw("game", json::array(self.entries.iter().map(Entry::object))).end()
+    }
+}
+
+fn place(entries: &[Entry], moves: usize) -> usize {
+    entries.partition_point(|entry| entry.moves < moves)
+}
+
+/// What about the move that led to a position empties the crate's count; nothing does at the start. The archive tells where a count
+/// began; the boards around that move tell by what.
+fn causes(entries: &[Entry], moves: usize) -> Vec<&'static str> {
+    let at = place(entries, moves);
+    let What::Move(made, _) = entries[at].what else { return vec!["start"] };
+    let (before, after) = (&entries[at - 1].board, &entries[at].board);
+    let rights = |board: &Board| ALL_COLORS.map(|color| board.get_castle_rights(color));
+    let (from, to) = (made.get_source(), made.get_dest());
+    let pawn = before.piece_on(from) == Some(Piece::Pawn);
+    // A pawn that changes files takes, in passing if the square is empty.
+    let takes = before.piece_on(to).is_some() || pawn && from.get_file() != to.get_file();
+    let told = [(pawn, "a pawn move"), (takes, "a capture"), (rights(before) != rights(after), RIGHTS)];
+    told.iter().filter(|(holds, _)| *holds).map(|(_, cause)| *cause).collect()
+}
+
+/// All earlier positions of the run that equal the last in board and list. How many there are, and the two earliest, are the archive's.
+fn equal(log: &Log, ruling: &Ruling) -> Vec<usize> {
+    let (last, list) = (log.current_position(), log.current_moves());
+    let earlier = log.positions().enumerate().skip(ruling.moves - ruling.count).take(ruling.count);
+    let equal: Vec<usize> = earlier.filter(|(_, other)| other.board == last && other.list == list).map(|(moves, _)| moves).collect();
+    let earliest: Vec<usize> = ruling.earliest.iter().flatten().copied().collect();
+    assert!(equal.len() == ruling.equals && equal.starts_with(&earliest), "the equal positions are those that the archive tells");
+    equal
+}
+
+fn claim(reason: Option<Reason>) -> String {
+    reason.map_or("no draw may be claimed".to_string(), |reason| format!("a draw may be claimed {reason}"))
+}
+
+fn reason(object: Object, name: &str, reason: Option<Reason>) -> Object {
+    let words = reason.map(|reason| reason.to_string());
+    object.text_or_null(name, words.as_deref()).raw(&format!("{name}_number"), reason.map_or(0, Reason::number))
+}
+
+fn since(since: &Since) -> String {
+    Object::new().raw("moves", since.moves).raw("by", json::array(since.by.iter().map(|cause| json::quoted(cause)))).end()
+}
+
+const WIDTH: usize = 96;
+
+/// Words in lines of at most `WIDTH` bytes.
+fn wrapped(words: &[String]) -> String {
+    let mut told = String::new();
+    let mut line = 0;
+    for word in words {
+        let fits = line + 1 + word.len() <= WIDTH;
+        told.push(if line > 0 && fits { ' ' } else { '\n' });
+        line = if line > 0 && fits { line + 1 } else { 0 } + word.len();
+        told += word;
+    }
+    told + "\n"
+}

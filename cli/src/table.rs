@@ -1,0 +1,152 @@
+//! The one table of commands. Help, man page, completion and the reader of words are made from it; a command is added here and in a
+//! module of its own.
+
+use crate::options::{Argument, Command, Example, Flag, Takes};
+use crate::{completion, explain, keys, man, ruling, show};
+
+pub const ABOUT: &str = "FEN keys, explanations, rulings and stored logs";
+
+pub const TEXT: &[&str] = &[
+    "A chess archive files each position once, under its FEN text. Every judgement of this program, keys, numbers, offsets, names and \
+     rulings, is the proved archive's.",
+    "Where a file is wanted, - is standard input. Messages go to standard error and begin with `menkhodur: `. Answers go out as soon as a \
+     read brings less than it could, so that a slow pipe gets each at once; where the reader of a pipe has gone, the program ends quietly.",
+];
+
+pub const TROUBLE: &str = "trouble: an option, a file that could not be read to its end, or a write that failed";
+
+/// Options that every command takes.
+pub const COMMON: &[Flag] =
+    &[Flag { name: "help", value: None, about: "say this; -h too" }, Flag { name: "version", value: None, about: "say the version" }];
+
+const LOG: &[Argument] = &[
+    Argument { name: "ACTIONS", takes: Takes::File, least: 1, most: Some(1), about: "the used bytes of a log's actions, 4 for each" },
+    Argument {
+        name: "POSITIONS",
+        takes: Takes::File,
+        least: 1,
+        most: Some(1),
+        about: "the used bytes of its positions, 580 for the start and for each move",
+    },
+];
+
+pub const COMMANDS: &[Command] = &[
+    Command {
+        name: "keys",
+        about: "the key of each FEN text, or what is wrong with it",
+        arguments: &[Argument {
+            name: "FILE",
+            takes: Takes::File,
+            least: 0,
+            most: None,
+            about: "FEN texts, one a line; standard input if none is named",
+        }],
+        flags: &[keys::CHECK, keys::STRICT, keys::JSON],
+        text: &[
+            "Prints for each line, in order, its key, which is the one FEN of its position, or `! N OFFSET`: 18, fewer than four fields, \
+             at the line's length; 19, the first byte that is none of a placement; 20, the start of a field that is no side. Offsets count \
+             the bytes of the line from 0. A line of more than 131071 bytes gives `! long`.",
+            "With --check the lines are a store's own keys. Only those that are not their own key are printed, `FILE:LINE: TEXT -> KEY` if \
+             the text is a second name of a position, `FILE:LINE: TEXT ! N OFFSET reason` if it is refused.",
+            "With --strict a text that is accepted, and that the PGN standard would not have, is refused too, as `! strict OFFSET NAME`.",
+            "An empty line is a text like any other, and a carriage return is part of its line. A last line without a newline counts if it \
+             has a byte; one that a failed read cut does not. The last line of standard error counts the lines that were written whole.",
+            "An object of --json has file, line and text, and key, or number, offset and reason, or strict, offset and reason. Where a text \
+             is not UTF-8, text_hex has its bytes.",
+        ],
+        statuses: &["nothing was refused (with --check: every line is its own key)", "something was (with --check: some line is not)"],
+        examples: &[
+            Example { command: "menkhodur keys examples/few.fen", about: "five lines, of which the second and the third have one key" },
+            Example { command: "menkhodur keys --check store.keys || echo 'second names, or no keys'", about: "what filled the disk" },
+        ],
+        run: keys::run,
+    },
+    Command {
+        name: "explain",
+        about: "what a FEN text says, or why and where it is refused",
+        arguments: &[Argument {
+            name: "FEN",
+            takes: Takes::Text,
+            least: 1,
+            most: None,
+            about: "the text; several words are joined by single spaces, and - alone reads texts, one a line, from standard input",
+        }],
+        flags: &[explain::JSON],
+        text: &[
+            "Prints whether the text is accepted; if not, why, with a caret under the byte; if so, the board, the key, the side to move, the \
+             castling rights and the en passant square. Then come warnings, each with a name and a caret: what the rules of the archive let \
+             pass and the PGN standard, section 16.1, would not. Warnings do not change the exit status; `menkhodur keys --strict` refuses \
+             what is warned of.",
+            "In the texts shown, a byte that is no printable ASCII is \\xNN, and a long text is cut around the caret.",
+        ],
+        statuses: &["the text is accepted", "it is refused"],
+        examples: &[Example {
+            command: "menkhodur explain 'rnbqkbnr/pppppppp/8/8/8/8/PPPPPPP/RNBQKBNR w KQkq - 0 1'",
+            about: "a rank with a pawn too few",
+        }],
+        run: explain::run,
+    },
+    Command {
+        name: "ruling",
+        about: "a stored game, its result, and whether a draw may be claimed",
+        arguments: LOG,
+        flags: &[ruling::AT, ruling::JSON],
+        text: &[
+            "Prints the game, each move by its name from the stored lists, with offers and resignations; the result; the ruling by the \
+             crate's count and by that of article 9.3 of the Laws; and what they rest on: both counts, where each began and by what, and the \
+             earlier positions of the run that equal the last, by the log's move numbers, with their FEN.",
+            "A log that is not good is told so on standard error, with the first action that does not stand. With --at the actions behind N \
+             need not stand.",
+        ],
+        statuses: &["a claim stands, by the log's rules or only by the Laws", "none stands"],
+        examples: &[Example { command: "menkhodur ruling --at 8 game.actions game.positions", about: "after the first eight actions" }],
+        run: ruling::run,
+    },
+    Command {
+        name: "show",
+        about: "a stored log as text, one action a line",
+        arguments: LOG,
+        flags: &[show::JSON],
+        text: &[
+            "Prints a line for the start, as action 0, and for each action: its number, how many moves have been made, the side, the move's \
+             name or what else was done, the length of the list of the position after it, and that position's key. Of a log that is not good \
+             only what stands is printed, and standard error tells what does not.",
+        ],
+        statuses: &["the log is good"],
+        examples: &[Example { command: "menkhodur show game.actions game.positions", about: "every action of a game" }],
+        run: show::run,
+    },
+    Command {
+        name: "completion",
+        about: "a script by which a shell completes the words of this program",
+        arguments: &[Argument {
+            name: "SHELL",
+            takes: Takes::OneOf(&["bash", "zsh", "fish"]),
+            least: 1,
+            most: Some(1),
+            about: "bash, zsh or fish",
+        }],
+        flags: &[],
+        text: &[],
+        statuses: &["the script was written"],
+        examples: &[Example {
+            command: "menkhodur completion bash >~/.local/share/bash-completion/completions/menkhodur",
+            about: "for bash",
+        }],
+        run: completion::run,
+    },
+    Command {
+        name: "man",
+        about: "the manual page of this program",
+        arguments: &[],
+        flags: &[],
+        text: &[],
+        statuses: &["the page was written"],
+        examples: &[Example { command: "menkhodur man >menkhodur.1 && man ./menkhodur.1", about: "to read it" }],
+        run: man::run,
+    },
+];
+
+pub fn names() -> Vec<&'static str> {
+    COMMANDS.iter().map(|command| command.name).collect()
+}

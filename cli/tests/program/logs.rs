@@ -1,0 +1,352 @@
+//! `menkhodur show` and `menkhodur ruling`, on games of the crate with what the crate says of them (oracle/logs).
+
+use crate::common::{Folder, expect, run};
+use std::collections::HashMap;
+use std::fs;
+use std::path::PathBuf;
+use std::time::{Duration, Instant};
+
+/// Where `logs` has written: cli/run-tests names the folder.
+fn folder() -> PathBuf {
+    let default = concat!(env!("CARGO_MANIFEST_DIR"), "/../target/logs");
+    PathBuf::from(std::env::var("MENKHODUR_LOGS").unwrap_or(default.to_string()))
+}
+
+/// A game: its two files, and what the crate says after each action.
+struct Game {
+    actions: String,
+    positions: String,
+    told: Vec<HashMap<String, String>>,
+}
+
+impl Game {
+    fn of(name: &str) -> Game {
+        let path = |kind: &str| folder().join(format!("{name}.{kind}")).to_str().expect("UTF-8").to_string();
+        let text = fs::read_to_string(path("told")).expect("cli/run-tests makes the logs");
+        let mut lines = text.lines().map(|line| line.split('\t').map(str::to_string).collect::<Vec<_>>());
+        let head = lines.next().expect("a head");
+        let told = lines.map(|line| head.iter().cloned().zip(line).collect()).collect();
+        Game { actions: path("actions"), positions: path("positions"), told }
+    }
+
+    fn words<'a>(&'a self, words: &[&'a str]) -> Vec<&'a str> {
+        words.iter().copied().chain([self.actions.as_str(), &self.positions]).collect()
+    }
+
+    fn moves(&self) -> usize {
+        self.told.last().expect("a start")["moves"].parse().expect("a number")
+    }
+}
+
+fn games() -> Vec<Game> {
+    let mut names: Vec<String> = fs::read_dir(folder())
+        .expect("cli/run-tests makes the logs")
+        .filter_map(|entry| entry.ok()?.file_name().to_str()?.strip_suffix(".told").map(str::to_string))
+        .collect();
+    names.sort();
+    assert!(names.len() > 100, "{} games", names.len());
+    names.iter().map(|name| Game::of(name)).collect()
+}
+
+/// The longest game: 1,024 moves.
+fn longest() -> Game {
+    games().into_iter().find(|game| game.moves() == 1_024).expect("a game of 1,024 moves")
+}
+
+fn done(told: &HashMap<String, String>) -> &str {
+    match told["kind"].as_str() {
+        "move" => &told["name"],
+        "offer" => "offers a draw",
+        "accept" => "draw accepted",
+        "declare" => "draw declared",
+        "resign" => "resigns",
+        kind => kind,
+    }
+}
+
+#[test]
+fn show_prints_every_action_as_the_crate_has_it() {
+    for game in games() {
+        let line = |told: &HashMap<String, String>| {
+            let what = done(told);
+            format!("{:>4} {:>4} {:5} {what:13} {:>3} {}\n", told["action"], told["moves"], told["side"], told["list"], told["key"])
+        };
+        let owed: String = game.told.iter().map(line).collect();
+        expect(&game.words(&["show"]), "", (owed, "", 0));
+    }
+}
+
+fn object(told: &HashMap<String, String>) -> String {
+    let side = if told["side"] == "-" { "null".to_string() } else { format!("\"{}\"", told["side"]) };
+    let made = match told["kind"].as_str() {
+        "move" => format!("\"name\":\"{}\",\"coordinates\":\"{}\",", told["name"], told["coordinates"]),
+        _ => String::new(),
+    };
+    format!(
+        "{{\"action\":{},\"moves\":{},\"side\":{side},\"kind\":\"{}\",{made}\"key\":\"{}\",\"in_check\":{},\"list\":{}}}",
+        told["action"],
+        told["moves"],
+        told["kind"],
+        told["key"],
+        told["in_check"] == "1",
+        told["list"]
+    )
+}
+
+#[test]
+fn show_has_the_same_as_json() {
+    for game in games().into_iter().step_by(7) {
+        let owed: String = game.told.iter().map(|told| object(told) + "\n").collect();
+        expect(&game.words(&["show", "--json"]), "", (owed, "", 0));
+    }
+}
+
+const RESULTS: [&str; 8] = [
+    "the game goes on",
+    "white checkmates",
+    "white resigns",
+    "black checkmates",
+    "black resigns",
+    "stalemate",
+    "draw accepted",
+    "draw declared",
+];
+const CLAIMS: [&str; 4] = [
+    "no draw may be claimed",
+    "a draw may be claimed by the count",
+    "a draw may be claimed by equal positions",
+    "a draw may be claimed by the count and by equal positions",
+];
+
+fn number(told: &HashMap<String, String>, name: &str) -> usize {
+    told[name].parse().expect("a number")
+}
+
+/// What a text says under a name.
+fn row<'a>(text: &'a str, name: &str) -> &'a str {
+    let name = format!("{name:13}");
+    text.lines().find_map(|line| line.strip_prefix(name.as_str())).unwrap_or_else(|| panic!("{name} in {text}"))
+}
+
+/// Sees one ruling: after `at` actions of a game.
+fn see_ruling(game: &Game, at: usize, words: &[&str]) {
+    let ran = run(&game.words(words), b"");
+    let (text, told) = (ran.text(), &game.told[at]);
+    let claims = ["claim", "laws_claim"].map(|name| number(told, name));
+    assert_eq!((ran.err.as_str(), ran.status), ("", i32::from(claims[1] == 0)), "{} after {at}", game.actions);
+    assert!(row(text, "result").starts_with(&format!("{}, after {at} action", RESULTS[number(told, "result")])), "{text}");
+    assert_eq!((row(text, "claim"), row(text, "Laws' claim")), (CLAIMS[claims[0]], CLAIMS[claims[1]]));
+    for (name, field, by_rights) in [("count", "count", true), ("Laws' count", "laws_count", false)] {
+        let began = number(told, "moves") - number(told, field);
+        let since = game.told[..=at].iter().find(|entry| number(entry, "moves") == began).unwrap();
+        see_count(row(text, name), number(told, field), since, by_rights);
+    }
+    see_equals(text, game, told);
+    assert_eq!(row(text, "start"), game.told[0]["key"]);
+    see_names(text, &game.told[1..=at]);
+}
+
+fn see_count(line: &str, count: usize, since: &HashMap<String, String>, by_rights: bool) {
+    assert!(line.starts_with(&format!("{count} of 100 moves without a pawn move")), "{line}");
+    match number(since, "moves") {
+        0 => assert!(line.ends_with(", since the start"), "{line}"),
+        after => {
+            let causes: Vec<&str> = since["causes"].split(',').filter(|cause| by_rights || !cause.contains("rights")).collect();
+            assert!(line.contains(&format!(", since move {after} (")), "{line}");
+            assert!(line.ends_with(&format!(" {}), {}", since["name"], causes.join(" and "))), "{line} {causes:?}");
+        }
+    }
+}
+
+/// The count of the equal positions, the two earliest and the last, each with its key.
+fn see_equals(text: &str, game: &Game, told: &HashMap<String, String>) {
+    let equals = number(told, "equals");
+    let places: Vec<&str> = text.lines().skip_while(|line| !line.starts_with("equal")).skip(1).collect();
+    assert_eq!(places.len(), equals + 1, "{text}");
+    let owed = [(0, "first"), (1, "second")].iter().filter(|(nth, _)| *nth < equals).map(|(nth, name)| (*nth, number(told, name)));
+    for (nth, moves) in owed.chain([(equals, number(told, "moves"))]) {
+        let place = if moves == 0 { "at the start".to_string() } else { format!("after move {moves} (") };
+        let key = &game.told.iter().find(|entry| number(entry, "moves") == moves).unwrap()["key"];
+        assert!(places[nth].trim_start().starts_with(&place) && places[nth].ends_with(&format!(": {key}")), "{} {place}", places[nth]);
+    }
+    assert!(places.iter().all(|place| place.ends_with(&told["key"])), "equal positions have one key: {text}");
+}
+
+/// The names stand in the game's text in order, and nothing else but numbers and what was done beside moves.
+fn see_names(text: &str, told: &[HashMap<String, String>]) {
+    let game: Vec<&str> = text.lines().skip(1).take_while(|line| !line.starts_with("result")).collect();
+    let words = game.join(" ");
+    let words = words.split_whitespace().filter(|word| !word.ends_with('.') || *word == "e.p.");
+    let owed = told.iter().map(|entry| match entry["kind"].as_str() {
+        "move" => entry["name"].clone(),
+        _ if entry["side"] == "-" => format!("({})", done(entry)),
+        _ => format!("({} {})", entry["side"], done(entry)),
+    });
+    assert_eq!(words.collect::<Vec<_>>().join(" "), owed.collect::<Vec<_>>().join(" "));
+    assert!(game.iter().all(|line| line.len() <= 96));
+}
+
+#[test]
+fn a_ruling_is_what_the_crate_and_the_laws_say() {
+    let mut claims = [0; 2];
+    for game in games() {
+        let last = game.told.len() - 1;
+        see_ruling(&game, last, &["ruling"]);
+        claims[usize::from(number(&game.told[last], "laws_claim") != 0)] += 1;
+    }
+    assert!(claims.iter().all(|seen| *seen > 10), "{claims:?}");
+}
+
+#[test]
+fn a_ruling_after_some_actions_is_that_of_the_game_up_to_them() {
+    for game in games().into_iter().step_by(3) {
+        for at in [0, game.told.len() / 2, game.told.len() - 1] {
+            see_ruling(&game, at, &["ruling", "--at", &at.to_string()]);
+        }
+    }
+}
+
+#[test]
+fn the_object_of_a_ruling_has_its_numbers() {
+    for game in games().into_iter().step_by(5) {
+        let ran = run(&game.words(&["ruling", "--json"]), b"");
+        let told = game.told.last().unwrap();
+        let text = ran.text();
+        assert_eq!((text.lines().count(), ran.err.as_str()), (1, ""));
+        let named = ["count", "laws_count", "equals", "moves"].map(|name| format!("\"{name}\":{},", told[name]));
+        let numbered = ["result", "claim", "laws_claim"].map(|name| format!("\"{name}_number\":{},", told[name]));
+        assert!(named.iter().chain(&numbered).all(|field| text.contains(field.as_str())), "{text} {told:?}");
+        let entries: Vec<String> = game.told.iter().map(object).collect();
+        assert!(text.ends_with(&format!("\"game\":[{}]}}\n", entries.join(","))), "{text}");
+        assert_eq!(text.contains("\"result\":null"), told["result"] == "0");
+    }
+}
+
+#[test]
+fn the_longest_game_is_ruled_on_in_a_moment() {
+    let game = longest();
+    let least = (0..5).map(|_| {
+        let start = Instant::now();
+        assert_eq!(run(&game.words(&["ruling"]), b"").status, 0);
+        start.elapsed()
+    });
+    // A tenth of a second is asked of the built program; a test need not be built for speed.
+    let most = Duration::from_millis(if cfg!(debug_assertions) { 1_000 } else { 100 });
+    let least = least.min().unwrap();
+    assert!(least < most, "{least:?}");
+}
+
+#[test]
+fn one_of_the_two_may_be_standard_input() {
+    let game = longest();
+    let (from_files, actions) = (run(&game.words(&["show"]), b""), fs::read(&game.actions).unwrap());
+    assert_eq!(run(&["show", "-", &game.positions], &actions), from_files);
+    assert_eq!(run(&["show", &game.actions, "-"], &fs::read(&game.positions).unwrap()), from_files);
+    expect(&["show", "-", "-"], "", ("", "menkhodur: standard input can be only one of ACTIONS and POSITIONS\n", 2));
+}
+
+/// A log of some actions from the middle of the longest, to be damaged.
+fn damaged(actions: usize, damage: impl Fn(&mut Vec<u8>, &mut Vec<u8>)) -> (Folder, String, String) {
+    let game = longest();
+    let (mut a, mut p) = (fs::read(&game.actions).unwrap(), fs::read(&game.positions).unwrap());
+    a.truncate(4 * actions);
+    p.truncate(580 * (number(&game.told[actions], "moves") + 1));
+    damage(&mut a, &mut p);
+    let folder = Folder::new();
+    let files = (folder.file("a", a), folder.file("p", p));
+    (folder, files.0, files.1)
+}
+
+/// Both commands tell the fault, and `show` prints what stands before it.
+#[track_caller]
+fn see_fault(actions: usize, standing: usize, fault: &str, damage: impl Fn(&mut Vec<u8>, &mut Vec<u8>)) {
+    let (_folder, a, p) = damaged(actions, damage);
+    let told = format!("menkhodur: {a}: the log is not good: {fault}\n");
+    expect(&["ruling", &a, &p], "", ("", &told, 2));
+    let shown = run(&["show", &a, &p], b"");
+    assert_eq!((shown.err.as_str(), shown.status, shown.text().lines().count()), (told.as_str(), 2, standing));
+}
+
+// The log is white's move 1, its offer, black's move 2, its offer and so on: action 2k + 1 is a move, 2k + 2 an offer.
+#[test]
+fn the_first_action_that_does_not_stand_is_told() {
+    see_fault(40, 7, "action 7 does not stand: the move is not in the list (answer 11)", |a, _| a[4 * 6 + 2] = 0);
+    see_fault(40, 8, "action 8 does not stand: there is no action of kind 9", |a, _| a[4 * 7] = 9);
+    let range = "a number of the board, a square, rank, file, colour, rights number or in-check byte is out of range (answer 5)";
+    see_fault(40, 8, &format!("action 8 does not stand: {range}"), |a, _| a[4 * 7 + 1] = 2);
+    see_fault(40, 9, &format!("action 9 does not stand: {range}"), |_, p| p[5 * 580 + 10] = 13);
+    let bytes = "a byte of it, or of the position after it, is not 0 where it must be";
+    see_fault(40, 8, &format!("action 8 does not stand: {bytes}"), |a, _| a[4 * 7 + 3] = 1);
+    see_fault(40, 9, &format!("action 9 does not stand: {bytes}"), |_, p| p[6 * 580 - 1] = 1);
+    see_fault(40, 9, "action 9 does not stand: the position after the move has the wrong side to move (answer 12)", |_, p| {
+        p[5 * 580 + 64] = 0
+    });
+    see_fault(40, 12, "action 12 does not stand: no draw can be claimed (answer 15)", |a, _| a[44..48].copy_from_slice(&[4, 0, 0, 0]));
+    see_fault(40, 22, "action 22 does not stand: the game is over (answer 10)", |a, _| a[80..84].copy_from_slice(&[5, 0, 0, 0]));
+    see_fault(2048, 2048, "action 2048 does not stand: there is no action of kind 0", |a, _| a[4 * 2047] = 0);
+}
+
+#[test]
+fn a_start_that_is_none_and_positions_too_few_or_too_many_are_told() {
+    see_fault(40, 0, "the start is no position", |_, p| p[0] = 13);
+    see_fault(40, 39, "action 39 does not stand: the position after it is missing", |_, p| p.truncate(580 * 20));
+    see_fault(40, 41, "its moves lead to 21 positions, the start with them, and there are 22", |_, p| p.extend([0; 580]));
+}
+
+#[test]
+fn actions_before_the_fault_can_be_ruled_on() {
+    let (_folder, a, p) = damaged(40, |a, _| a[4 * 6 + 2] = 0);
+    let ran = run(&["ruling", "--at", "6", &a, &p], b"");
+    let fault = "the log is not good: action 7 does not stand: the move is not in the list (answer 11)";
+    assert_eq!((ran.err.as_str(), ran.status), (format!("menkhodur: {a}: {fault}; the first 6 actions stand\n").as_str(), 1));
+    assert!(ran.text().contains("result       the game goes on, after 6 actions and 3 moves\n"), "{}", ran.text());
+    expect(&["ruling", "--at", "7", &a, &p], "", ("", &format!("menkhodur: {a}: {fault}\n"), 2));
+}
+
+#[test]
+fn files_of_another_size_are_trouble() {
+    let folder = Folder::new();
+    let (empty, odd, start) = (folder.file("empty", ""), folder.file("odd", [1; 581]), folder.file("start", [0; 580]));
+    let none = folder.path("none");
+    let ruling = |a: &str, p: &str, told: &str| expect(&["ruling", a, p], "", ("", &format!("menkhodur: {told}\n"), 2));
+    ruling(&odd, &start, &format!("{odd}: 581 bytes are no whole number of actions of 4 bytes: 145, and 1 over"));
+    ruling(&empty, &odd, &format!("{odd}: 581 bytes are no whole number of positions of 580 bytes: 1, and 1 over"));
+    ruling(&empty, &empty, &format!("{empty}: it is empty, and a log has a start"));
+    ruling(&none, &start, &format!("{none}: No such file or directory"));
+    ruling(&folder.path(""), &start, &format!("{}: Is a directory", folder.path("")));
+    ruling("/dev/zero", &start, "/dev/zero: more than 8192 bytes, the most that the actions of a log have");
+    ruling(&empty, "/dev/zero", "/dev/zero: more than 594500 bytes, the most that the positions of a log have");
+    // 580 zeros are an empty board with an empty list: a stalemate.
+    let ran = run(&["ruling", &empty, &start], b"");
+    assert!(ran.text().contains("\nresult       stalemate, after 0 actions and 0 moves\n"), "{}", ran.text());
+    assert_eq!(ran.status, 1);
+}
+
+#[test]
+fn a_number_of_actions_must_be_one_of_the_log() {
+    let game = longest();
+    let ruling =
+        |at: &str, told: &str| expect(&game.words(&["ruling", "--at", at]), "", ("", &format!("menkhodur: --at {at}: {told}\n"), 2));
+    ruling("2049", "the log has 2048 actions");
+    ruling("-1", "a number of actions is wanted");
+    ruling("x", "a number of actions is wanted");
+}
+
+// A king that goes to e8 as a king: document 01's form has no text for it where e8 is also reached plainly (docs/DECISIONS.md).
+#[test]
+fn a_move_without_a_name_is_shown_in_coordinates() {
+    let folder = Folder::new();
+    let mut start = [0; 580];
+    (start[52], start[69]) = (1, 2);
+    start[70..74].copy_from_slice(&[(3892_u16 % 256) as u8, (3892_u16 / 256) as u8, (28468_u16 % 256) as u8, (28468_u16 / 256) as u8]);
+    let mut after = [0; 580];
+    (after[60], after[64]) = (6, 1);
+    let a = folder.file("a", [1, 0, (28468_u16 % 256) as u8, (28468_u16 / 256) as u8]);
+    let p = folder.file("p", [start, after].concat());
+    let ran = run(&["show", &a, &p], b"");
+    assert_eq!(ran.text().lines().nth(1).unwrap(), "   1    1 white e7e8k (no text names it)   0 4K3/8/8/8/8/8/8/8 b - - 0 1");
+    let ran = run(&["show", "--json", &a, &p], b"");
+    assert!(ran.text().contains("\"name\":null,\"coordinates\":\"e7e8k\""), "{}", ran.text());
+    let ran = run(&["ruling", &a, &p], b"");
+    assert!(ran.text().contains("1. e7e8k (no text names it)\n"), "{}", ran.text());
+}

@@ -1,0 +1,8 @@
+//! The built program, from outside: every command, every status, bad bytes and files, pipes and devices.
+
+mod common;
+mod explain;
+mod keys;
+mod logs;
+mod options;
+mod pipes;

@@ -1,0 +1,113 @@
+//! Options, help, man page and completion.
+
+use crate::common::{Folder, expect, run};
+use std::process::Command;
+
+const COMMANDS: [&str; 6] = ["keys", "explain", "ruling", "show", "completion", "man"];
+
+#[test]
+fn what_is_not_known_is_trouble_and_named() {
+    for (words, told) in [
+        (vec![], "a command is wanted: keys, explain, ruling, show, completion, man; see menkhodur --help"),
+        (vec!["nope"], "unknown command nope; see menkhodur --help"),
+        (vec!["--nope"], "unknown option --nope; see menkhodur --help"),
+        (vec!["keys", "--nope"], "unknown option --nope; see menkhodur keys --help"),
+        (vec!["keys", "-x"], "unknown option -x; see menkhodur keys --help"),
+        (vec!["keys", "--check=1"], "no value is taken by --check; see menkhodur keys --help"),
+        (vec!["keys", "--at", "1"], "unknown option --at; see menkhodur keys --help"),
+        (vec!["explain"], "missing FEN; see menkhodur explain --help"),
+        (vec!["ruling"], "missing ACTIONS; see menkhodur ruling --help"),
+        (vec!["show", "a"], "missing POSITIONS; see menkhodur show --help"),
+        (vec!["show", "a", "b", "c"], "one word too many: c; see menkhodur show --help"),
+        (vec!["ruling", "a", "b", "--at"], "a value (N) is wanted by --at; see menkhodur ruling --help"),
+        (vec!["completion", "csh"], "completion: csh is none of bash, zsh and fish"),
+    ] {
+        expect(&words, "", ("", &format!("menkhodur: {told}\n"), 2));
+    }
+}
+
+#[test]
+fn help_has_an_example_of_each_command() {
+    let whole = run(&["--help"], b"");
+    assert_eq!((whole.status, whole.err.as_str()), (0, ""));
+    assert_eq!(run(&["-h"], b""), whole);
+    for command in COMMANDS {
+        assert!(whole.text().contains(&format!("\n  {command} ")), "{command}");
+        let help = run(&[command, "--help"], b"");
+        assert!(help.text().starts_with(&format!("menkhodur {command}")), "{}", help.text());
+        assert!(help.text().contains("\nExample") && help.text().contains("\nExit status:\n  0 "), "{}", help.text());
+        assert_eq!((help.status, help.err.as_str()), (0, ""));
+        assert_eq!(run(&[command, "-h", "--nope"], b""), help);
+    }
+}
+
+#[test]
+fn the_version_is_the_archives() {
+    let header = std::fs::read_to_string(crate::common::repository("host/menkhodur.h")).unwrap();
+    let number = header.lines().find_map(|line| line.strip_prefix("#define MENKHODUR_VERSION ")).unwrap();
+    let owed = format!("menkhodur (Menkhodur) {number}\n");
+    expect(&["--version"], "", (&owed, "", 0));
+    expect(&["keys", "--version"], "", (&owed, "", 0));
+}
+
+/// The options that the help of a command names.
+fn options(command: &str) -> Vec<String> {
+    let help = run(&[command, "--help"], b"");
+    let rest = help.text().lines().filter_map(|line| line.strip_prefix("  --"));
+    let named = rest.filter(|rest| rest.starts_with(|letter: char| letter.is_ascii_lowercase()));
+    named.filter_map(|rest| rest.split_whitespace().next().map(str::to_string)).collect()
+}
+
+#[test]
+fn man_page_and_completion_name_every_command_and_option() {
+    let man = run(&["man"], b"");
+    let scripts = ["bash", "zsh", "fish"].map(|shell| run(&["completion", shell], b""));
+    assert!([&man].into_iter().chain(&scripts).all(|ran| ran.status == 0 && ran.err.is_empty()));
+    for command in COMMANDS {
+        assert!(scripts.iter().all(|script| script.text().contains(command)), "{command}");
+        assert!(man.text().contains(&format!(".SS menkhodur {command}")), "{command}");
+        assert!(options(command).len() >= 2, "{command}");
+        for option in options(command) {
+            assert!(man.text().contains(&format!("\\-\\-{option}")), "{command} {option}");
+            assert!(scripts[..2].iter().all(|script| script.text().contains(&format!("--{option}"))), "{command} {option}");
+            assert!(scripts[2].text().contains(&format!("-l {option}")), "{command} {option}");
+        }
+    }
+}
+
+/// Asks the script for bash what may stand at the end of some words.
+fn completed(script: &str, words: &[&str]) -> Option<Vec<String>> {
+    let ask = format!(
+        "source {script}; COMP_WORDS=({}); COMP_CWORD={}; _menkhodur; printf '%s\\n' \"${{COMPREPLY[@]}}\"",
+        words.join(" "),
+        words.len() - 1
+    );
+    let ran = Command::new("bash").args(["-c", &ask]).output().ok()?;
+    assert!(ran.status.success() && ran.stderr.is_empty(), "{}", String::from_utf8_lossy(&ran.stderr));
+    Some(String::from_utf8_lossy(&ran.stdout).lines().map(str::to_string).collect())
+}
+
+#[test]
+fn bash_completes_commands_options_and_words() {
+    let folder = Folder::new();
+    let script = folder.file("completion", &run(&["completion", "bash"], b"").out);
+    for (words, owed) in [
+        (&["menkhodur", "k"][..], &["keys"][..]),
+        (&["menkhodur", "keys", "--c"], &["--check"]),
+        (&["menkhodur", "ruling", "--a"], &["--at"]),
+        (&["menkhodur", "completion", "z"], &["zsh"]),
+        (&["menkhodur", "explain", "--j"], &["--json"]),
+    ] {
+        assert_eq!(completed(&script, words).unwrap_or(owed.iter().map(|word| word.to_string()).collect()), owed);
+    }
+}
+
+#[test]
+fn the_man_page_is_read_without_a_warning() {
+    let folder = Folder::new();
+    let page = folder.file("menkhodur.1", &run(&["man"], b"").out);
+    // Only where there is a groff.
+    if let Ok(ran) = Command::new("groff").args(["-man", "-Tascii", "-ww", "-z", &page]).output() {
+        assert_eq!((String::from_utf8_lossy(&ran.stderr).as_ref(), ran.status.code()), ("", Some(0)));
+    }
+}
