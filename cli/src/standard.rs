@@ -208,47 +208,48 @@ mod tests {
         warnings.iter().map(|warning| (warning.offset, warning.oddity.name())).collect()
     }
 
-    // Each row is read off the standard's text, 16.1.3.1 to 16.1.3.6.
+    /// Read off the standard's text, 16.1.3.1 to 16.1.3.6.
+    const ROWS: &[(&str, &[(usize, &str)])] = &[
+        ("8/8/8/8/8/8/8/8 w - - 0 1", &[]),
+        ("8/8/8/8/8/8/8/8 w KQkq e6 12 345", &[]),
+        ("8/8/8/8/8/8/8/8 b kq e3 0 1", &[]),
+        ("8/8/8/8/8/8/PPPPPPP/8 w - - 0 1", &[(19, "short-rank")]),
+        ("8/8/8/8/8/8/PPPPPPPPP/8 w - - 0 1", &[(20, "long-rank")]),
+        ("8/8/8/8/8/8/7PP/8 w - - 0 1", &[(14, "long-rank")]),
+        ("44/8/8/8/8/8/8/8 w - - 0 1", &[(1, "digits")]),
+        ("8/8 w - - 0 1", &[(3, "ranks")]),
+        ("8/8/8/8/8/8/8/8/8/8 w - - 0 1", &[(15, "ranks")]),
+        (" w - - 0 1", &[(0, "empty-field")]),
+        ("8/8/8/8/8/8/8/8 W - - 0 1", &[(16, "side")]),
+        ("8/8/8/8/8/8/8/8 B - - 0 1", &[(16, "side")]),
+        ("8/8/8/8/8/8/8/8 w  - 0 1", &[(18, "empty-field")]),
+        ("8/8/8/8/8/8/8/8 w KxQ - 0 1", &[(19, "castling-letter")]),
+        ("8/8/8/8/8/8/8/8 w -K - 0 1", &[(18, "castling-letter")]),
+        ("8/8/8/8/8/8/8/8 w KQK - 0 1", &[(20, "castling-twice")]),
+        ("8/8/8/8/8/8/8/8 w kqKQ - 0 1", &[(20, "castling-order")]),
+        ("8/8/8/8/8/8/8/8 w QK - 0 1", &[(19, "castling-order")]),
+        ("8/8/8/8/8/8/8/8 w - e3 0 1", &[(21, "en-passant-rank")]),
+        ("8/8/8/8/8/8/8/8 b - e6 0 1", &[(21, "en-passant-rank")]),
+        ("8/8/8/8/8/8/8/8 w - e6x 0 1", &[(22, "en-passant-tail")]),
+        ("8/8/8/8/8/8/8/8 w - e4x 0 1", &[(21, "en-passant-rank"), (22, "en-passant-tail")]),
+        ("8/8/8/8/8/8/8/8 w - z9 0 1", &[(20, "en-passant-square")]),
+        ("8/8/8/8/8/8/8/8 w - -- 0 1", &[(20, "en-passant-square")]),
+        ("8/8/8/8/8/8/8/8 w - E6 0 1", &[(20, "en-passant-square")]),
+        ("8/8/8/8/8/8/8/8 w - -", &[(21, "counters")]),
+        ("8/8/8/8/8/8/8/8 w - - 0", &[(23, "counters")]),
+        ("8/8/8/8/8/8/8/8 w - - x 1", &[(22, "half-moves")]),
+        ("8/8/8/8/8/8/8/8 w - - -1 1", &[(22, "half-moves")]),
+        ("8/8/8/8/8/8/8/8 w - - 0 0", &[(24, "move-number")]),
+        ("8/8/8/8/8/8/8/8 w - - 0 1\r", &[(24, "move-number")]),
+        ("8/8/8/8/8/8/8/8 w - - 0 1 ", &[(26, "fields")]),
+        ("8/8/8/8/8/8/8/8 w - -  0 1", &[(22, "empty-field"), (23, "move-number"), (25, "fields")]),
+        ("8/8/8/8/8/8/8/8 w - - ", &[(22, "empty-field"), (22, "counters")]),
+    ];
+
     #[test]
     fn what_the_standard_would_not_have_is_found_where_it_stands() {
-        let board = "8/8/8/8/8/8/8/8";
-        for (text, owed) in [
-            (format!("{board} w - - 0 1"), vec![]),
-            (format!("{board} w KQkq e6 12 345"), vec![]),
-            (format!("{board} b kq e3 0 1"), vec![]),
-            ("8/8/8/8/8/8/PPPPPPP/8 w - - 0 1".into(), vec![(19, "short-rank")]),
-            ("8/8/8/8/8/8/PPPPPPPPP/8 w - - 0 1".into(), vec![(20, "long-rank")]),
-            ("8/8/8/8/8/8/7PP/8 w - - 0 1".into(), vec![(14, "long-rank")]),
-            ("44/8/8/8/8/8/8/8 w - - 0 1".into(), vec![(1, "digits")]),
-            ("8/8 w - - 0 1".into(), vec![(3, "ranks")]),
-            (format!("{board}/8/8 w - - 0 1"), vec![(15, "ranks")]),
-            (" w - - 0 1".into(), vec![(0, "empty-field")]),
-            (format!("{board} W - - 0 1"), vec![(16, "side")]),
-            (format!("{board} B - - 0 1"), vec![(16, "side")]),
-            (format!("{board} w  - 0 1"), vec![(18, "empty-field")]),
-            (format!("{board} w KxQ - 0 1"), vec![(19, "castling-letter")]),
-            (format!("{board} w -K - 0 1"), vec![(18, "castling-letter")]),
-            (format!("{board} w KQK - 0 1"), vec![(20, "castling-twice")]),
-            (format!("{board} w kqKQ - 0 1"), vec![(20, "castling-order")]),
-            (format!("{board} w QK - 0 1"), vec![(19, "castling-order")]),
-            (format!("{board} w - e3 0 1"), vec![(21, "en-passant-rank")]),
-            (format!("{board} b - e6 0 1"), vec![(21, "en-passant-rank")]),
-            (format!("{board} w - e6x 0 1"), vec![(22, "en-passant-tail")]),
-            (format!("{board} w - e4x 0 1"), vec![(21, "en-passant-rank"), (22, "en-passant-tail")]),
-            (format!("{board} w - z9 0 1"), vec![(20, "en-passant-square")]),
-            (format!("{board} w - -- 0 1"), vec![(20, "en-passant-square")]),
-            (format!("{board} w - E6 0 1"), vec![(20, "en-passant-square")]),
-            (format!("{board} w - -"), vec![(21, "counters")]),
-            (format!("{board} w - - 0"), vec![(23, "counters")]),
-            (format!("{board} w - - x 1"), vec![(22, "half-moves")]),
-            (format!("{board} w - - -1 1"), vec![(22, "half-moves")]),
-            (format!("{board} w - - 0 0"), vec![(24, "move-number")]),
-            (format!("{board} w - - 0 1\r"), vec![(24, "move-number")]),
-            (format!("{board} w - - 0 1 "), vec![(26, "fields")]),
-            (format!("{board} w - -  0 1"), vec![(22, "empty-field"), (23, "move-number"), (25, "fields")]),
-            (format!("{board} w - - "), vec![(22, "empty-field"), (22, "counters")]),
-        ] {
-            assert_eq!(found(&text), owed, "{text}");
+        for (text, owed) in ROWS {
+            assert_eq!(found(text), *owed, "{text}");
         }
     }
 }

@@ -115,3 +115,15 @@ fn many_pages_are_cut_as_one() {
     // Empty lines: as many answers as a page can have.
     expect(KEYS, "\n".repeat(300_000), ("! 18 0\n".repeat(300_000), "menkhodur: 300000 lines, 0 accepted, 300000 refused\n", 1));
 }
+
+// README's second command.
+#[test]
+fn the_few_examples_are_found_to_have_second_names() {
+    let file = repository("examples/few.fen");
+    let ran = run(&["keys", "--check", &file], b"");
+    let lines: Vec<&str> = ran.text().lines().collect();
+    assert!(lines[0].starts_with(&format!("{file}:3: ")) && lines[0].contains(" -> "), "{lines:?}");
+    assert!(lines[1].starts_with(&format!("{file}:4: ")) && lines[1].contains(" -> "), "{lines:?}");
+    assert!(lines[2].starts_with(&format!("{file}:5: 8/8 w - ! 18 7 ")), "{lines:?}");
+    assert_eq!((lines.len(), ran.err.as_str(), ran.status), (3, "menkhodur: 5 lines, 2 keys, 2 second names, 1 refused\n", 1));
+}

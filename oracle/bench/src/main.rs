@@ -232,19 +232,19 @@ fn longest_game(log: &mut Log, random: &mut Random) {
     row("result and claim after 1,024 moves", 2, theirs / 2.0, ours / 2.0, "");
 }
 
-/// `keys` and the same program over the crate, on a file of the positions' texts.
-fn lines(places: &[Place]) {
+/// A row of a program, on a file of the positions' texts.
+fn lines(what: &str, places: &[Place], times: fn(&[&str]) -> Result<(usize, f64, f64), String>) {
     let texts: Vec<&str> = places.iter().map(|p| p.fen.as_str()).collect();
-    match keys::times(&texts) {
-        Ok((lines, theirs, ours)) => row("keys, a line of a file", lines, theirs, ours, "3"),
+    match times(&texts) {
+        Ok((lines, theirs, ours)) => row(what, lines, theirs, ours, "3"),
         Err(why) => {
-            eprintln!("bench: keys: {}", why);
+            eprintln!("bench: {}: {}", what, why);
             std::process::exit(1);
         }
     }
 }
 
-const PARTS: [&str; 7] = ["fen", "page", "coordinates", "san", "log", "rolls", "keys"];
+const PARTS: [&str; 8] = ["fen", "page", "coordinates", "san", "log", "rolls", "keys", "cli"];
 
 /// The parts that were named, or all.
 fn parts() -> Vec<String> {
@@ -273,7 +273,11 @@ fn main() {
             "san" => san(&places),
             "log" => games(&mut random),
             "rolls" => rolls::rolls(&mut random),
-            _ => lines(&places),
+            "keys" => lines("keys, a line of a file", &places, keys::times),
+            _ => {
+                lines("menkhodur keys, a line of a file", &places, keys::menkhodur_times);
+                lines("menkhodur keys --check, a line of a store", &places, keys::check_times);
+            }
         }
     }
 }

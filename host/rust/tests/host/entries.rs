@@ -85,3 +85,20 @@ fn a_full_log_gives_every_position() {
     }
     assert_eq!(log.positions().next_back().unwrap().board, board);
 }
+
+#[test]
+fn stored_positions_are_those_that_were_given_and_nothing_past_the_part_is() {
+    let given = given();
+    let positions = lent(&given);
+    let log = logged(&positions);
+    let (actions, bytes) = (log.used_actions(), log.used_positions());
+    for (moves, position) in positions.iter().enumerate() {
+        let stored = menkhodur::lent::stored_position(bytes, moves).unwrap();
+        let numbers: Vec<u16> = position.list.iter().map(|made| made.number()).collect();
+        assert_eq!((stored.record, stored.in_check, stored.list), (*position.board.numbers(), u8::from(position.in_check), numbers));
+    }
+    assert_eq!(menkhodur::lent::stored_position(bytes, positions.len()), None);
+    assert_eq!(menkhodur::lent::stored_position(&bytes[..bytes.len() - 1], positions.len() - 1), None);
+    let counted: Vec<u64> = (0..=7).map(|count| menkhodur::lent::moves_among(actions, count)).collect();
+    assert_eq!(counted, [0, 1, 1, 2, 2, 3, 3, 3]);
+}
