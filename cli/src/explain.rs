@@ -61,7 +61,8 @@ impl Lines for Explain {
 
 impl Explain {
     fn lines_of(mut self, word: &OsStr) -> Result<Status, Stop> {
-        let whole = input::read(&[word.to_owned()], &mut self)?;
+        let mut whole = true;
+        input::read(&[word.to_owned()], &mut self, &mut whole)?;
         Ok(if whole { self.status } else { Status::Trouble })
     }
 

@@ -31,15 +31,15 @@ pub trait Lines {
     fn flush(&mut self) -> Result<(), Stop>;
 }
 
-/// Hands on the lines of the inputs named, or of standard input if none is. Answers whether all of them were read to their end.
-pub fn read(words: &[OsString], lines: &mut impl Lines) -> Result<bool, Stop> {
+/// Hands on the lines of the inputs named, or of standard input if none is. `whole` is false from the first input on that was not read to
+/// its end.
+pub fn read(words: &[OsString], lines: &mut impl Lines, whole: &mut bool) -> Result<(), Stop> {
     let standard = [OsString::from("-")];
     let mut room = vec![0; ROOM].into_boxed_slice();
-    let mut whole = true;
     for word in if words.is_empty() { &standard } else { words } {
-        whole &= read_input(word, &mut room, lines)?;
+        *whole &= read_input(word, &mut room, lines)?;
     }
-    Ok(whole)
+    Ok(())
 }
 
 /// The file that a word names; `-` is standard input.
@@ -62,6 +62,7 @@ pub fn failed(word: &OsStr, error: &io::Error) -> Vec<u8> {
     [shown(word), b": ", told::system(error).as_bytes()].concat()
 }
 
+/// Answers whether the input was read to its end.
 fn read_input(word: &OsStr, room: &mut [u8], lines: &mut impl Lines) -> Result<bool, Stop> {
     let mut file = match open(word) {
         Ok(file) => file,

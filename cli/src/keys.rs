@@ -29,8 +29,9 @@ pub fn run(asked: &Asked) -> Result<Status, Stop> {
         made: vec![],
         progress: Progress::new(),
     };
-    let ended = input::read(&asked.words, &mut keys);
-    keys.end(ended)
+    let mut whole = true;
+    let ended = input::read(&asked.words, &mut keys, &mut whole);
+    keys.end(ended, whole)
 }
 
 #[derive(Clone, Copy)]
@@ -199,14 +200,13 @@ impl Keys {
     }
 
     /// The last line of standard error. Counted is what was written whole.
-    fn end(mut self, read: Result<bool, Stop>) -> Result<Status, Stop> {
-        let ended = read.and_then(|whole| self.output.flush().map(|()| whole));
-        let (whole, failed) = match ended {
-            Ok(whole) => (whole, false),
+    fn end(mut self, read: Result<(), Stop>, whole: bool) -> Result<Status, Stop> {
+        let failed = match read.and_then(|()| self.output.flush()) {
+            Ok(()) => false,
             Err(Stop::Trouble(message)) => {
                 told::tell(&[&message]);
                 self.tally = self.output.settled();
-                (true, true)
+                true
             }
             Err(closed) => return Err(closed),
         };

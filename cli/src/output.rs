@@ -23,7 +23,6 @@ pub struct Output<T = ()> {
     settled: T,
     /// What the run has come to: its status if the reader goes.
     pub status: Status,
-    pub failed: bool,
 }
 
 impl<T: Copy + Default> Output<T> {
@@ -31,7 +30,7 @@ impl<T: Copy + Default> Output<T> {
         // The runtime's own standard output would look for newlines in every page again.
         let file = io::stdout().as_fd().try_clone_to_owned().map(File::from).map_err(|error| failure(&error))?;
         let room = vec![0; ROOM].into_boxed_slice();
-        Ok(Output { file, room, ready: 0, marks: vec![], settled: T::default(), status: Status::Well, failed: false })
+        Ok(Output { file, room, ready: 0, marks: vec![], settled: T::default(), status: Status::Well })
     }
 
     /// Room for at least so many bytes, at most the whole room.
@@ -86,8 +85,7 @@ impl<T: Copy + Default> Output<T> {
         ended.map_err(|error| self.fail(&error))
     }
 
-    fn fail(&mut self, error: &io::Error) -> Stop {
-        self.failed = true;
+    fn fail(&self, error: &io::Error) -> Stop {
         match error.kind() {
             ErrorKind::BrokenPipe => Stop::Closed(self.status),
             _ => failure(error),

@@ -26,7 +26,7 @@ const LOG: &[Argument] = &[
         takes: Takes::File,
         least: 1,
         most: Some(1),
-        about: "the used bytes of its positions, 580 for the start and for each move",
+        about: "the used bytes of its positions: that of the start, and one for each move",
     },
 ];
 
@@ -78,6 +78,8 @@ pub const COMMANDS: &[Command] = &[
              pass and the PGN standard, section 16.1, would not. Warnings do not change the exit status; `menkhodur keys --strict` refuses \
              what is warned of.",
             "In the texts shown, a byte that is no printable ASCII is \\xNN, and a long text is cut around the caret.",
+            "An object of --json has text and accepted, and number, offset and reason, or key, ranks (from the eighth), side, castling, \
+             en_passant and warnings, each with name, offset and reason.",
         ],
         statuses: &["the text is accepted", "it is refused"],
         examples: &[Example {
@@ -97,6 +99,8 @@ pub const COMMANDS: &[Command] = &[
              earlier positions of the run that equal the last, by the log's move numbers, with their FEN.",
             "A log that is not good is told so on standard error, with the first action that does not stand. With --at the actions behind N \
              need not stand.",
+            "The object of --json has actions, moves, result, claim and laws_claim in words and as numbers, count with count_since, laws_count \
+             with laws_since, equals, equal and last, and as game the objects of `menkhodur show`.",
         ],
         statuses: &["a claim stands, by the log's rules or only by the Laws", "none stands"],
         examples: &[Example { command: "menkhodur ruling --at 8 game.actions game.positions", about: "after the first eight actions" }],
@@ -111,6 +115,8 @@ pub const COMMANDS: &[Command] = &[
             "Prints a line for the start, as action 0, and for each action: its number, how many moves have been made, the side, the move's \
              name or what else was done, the length of the list of the position after it, and that position's key. Of a log that is not good \
              only what stands is printed, and standard error tells what does not.",
+            "An object of --json has action, moves, side, kind (start, move, offer, accept, declare, resign), key, in_check and list; that of a \
+             move has name, null if no text names it, and coordinates.",
         ],
         statuses: &["the log is good"],
         examples: &[Example { command: "menkhodur show game.actions game.positions", about: "every action of a game" }],

@@ -1,6 +1,7 @@
 //! `menkhodur show` and `menkhodur ruling`, on games of the crate with what the crate says of them (oracle/logs).
 
 use crate::common::{Folder, expect, run};
+use menkhodur::lent::{ACTION_BYTES, POSITION_BYTES};
 use std::collections::HashMap;
 use std::fs;
 use std::path::PathBuf;
@@ -249,8 +250,8 @@ fn one_of_the_two_may_be_standard_input() {
 fn damaged(actions: usize, damage: impl Fn(&mut Vec<u8>, &mut Vec<u8>)) -> (Folder, String, String) {
     let game = longest();
     let (mut a, mut p) = (fs::read(&game.actions).unwrap(), fs::read(&game.positions).unwrap());
-    a.truncate(4 * actions);
-    p.truncate(580 * (number(&game.told[actions], "moves") + 1));
+    a.truncate(ACTION_BYTES * actions);
+    p.truncate(POSITION_BYTES * (number(&game.told[actions], "moves") + 1));
     damage(&mut a, &mut p);
     let folder = Folder::new();
     let files = (folder.file("a", a), folder.file("p", p));
@@ -274,12 +275,12 @@ fn the_first_action_that_does_not_stand_is_told() {
     see_fault(40, 8, "action 8 does not stand: there is no action of kind 9", |a, _| a[4 * 7] = 9);
     let range = "a number of the board, a square, rank, file, colour, rights number or in-check byte is out of range (answer 5)";
     see_fault(40, 8, &format!("action 8 does not stand: {range}"), |a, _| a[4 * 7 + 1] = 2);
-    see_fault(40, 9, &format!("action 9 does not stand: {range}"), |_, p| p[5 * 580 + 10] = 13);
+    see_fault(40, 9, &format!("action 9 does not stand: {range}"), |_, p| p[5 * POSITION_BYTES + 10] = 13);
     let bytes = "a byte of it, or of the position after it, is not 0 where it must be";
     see_fault(40, 8, &format!("action 8 does not stand: {bytes}"), |a, _| a[4 * 7 + 3] = 1);
-    see_fault(40, 9, &format!("action 9 does not stand: {bytes}"), |_, p| p[6 * 580 - 1] = 1);
+    see_fault(40, 9, &format!("action 9 does not stand: {bytes}"), |_, p| p[6 * POSITION_BYTES - 1] = 1);
     see_fault(40, 9, "action 9 does not stand: the position after the move has the wrong side to move (answer 12)", |_, p| {
-        p[5 * 580 + 64] = 0
+        p[5 * POSITION_BYTES + 64] = 0
     });
     see_fault(40, 12, "action 12 does not stand: no draw can be claimed (answer 15)", |a, _| a[44..48].copy_from_slice(&[4, 0, 0, 0]));
     see_fault(40, 22, "action 22 does not stand: the game is over (answer 10)", |a, _| a[80..84].copy_from_slice(&[5, 0, 0, 0]));
@@ -289,8 +290,8 @@ fn the_first_action_that_does_not_stand_is_told() {
 #[test]
 fn a_start_that_is_none_and_positions_too_few_or_too_many_are_told() {
     see_fault(40, 0, "the start is no position", |_, p| p[0] = 13);
-    see_fault(40, 39, "action 39 does not stand: the position after it is missing", |_, p| p.truncate(580 * 20));
-    see_fault(40, 41, "its moves lead to 21 positions, the start with them, and there are 22", |_, p| p.extend([0; 580]));
+    see_fault(40, 39, "action 39 does not stand: the position after it is missing", |_, p| p.truncate(POSITION_BYTES * 20));
+    see_fault(40, 41, "its moves lead to 21 positions, the start with them, and there are 22", |_, p| p.extend([0; POSITION_BYTES]));
 }
 
 #[test]
@@ -306,7 +307,8 @@ fn actions_before_the_fault_can_be_ruled_on() {
 #[test]
 fn files_of_another_size_are_trouble() {
     let folder = Folder::new();
-    let (empty, odd, start) = (folder.file("empty", ""), folder.file("odd", [1; 581]), folder.file("start", [0; 580]));
+    let (empty, odd, start) =
+        (folder.file("empty", ""), folder.file("odd", [1; POSITION_BYTES + 1]), folder.file("start", [0; POSITION_BYTES]));
     let none = folder.path("none");
     let ruling = |a: &str, p: &str, told: &str| expect(&["ruling", a, p], "", ("", &format!("menkhodur: {told}\n"), 2));
     ruling(&odd, &start, &format!("{odd}: 581 bytes are no whole number of actions of 4 bytes: 145, and 1 over"));
@@ -336,10 +338,10 @@ fn a_number_of_actions_must_be_one_of_the_log() {
 #[test]
 fn a_move_without_a_name_is_shown_in_coordinates() {
     let folder = Folder::new();
-    let mut start = [0; 580];
+    let mut start = [0; POSITION_BYTES];
     (start[52], start[69]) = (1, 2);
     start[70..74].copy_from_slice(&[(3892_u16 % 256) as u8, (3892_u16 / 256) as u8, (28468_u16 % 256) as u8, (28468_u16 / 256) as u8]);
-    let mut after = [0; 580];
+    let mut after = [0; POSITION_BYTES];
     (after[60], after[64]) = (6, 1);
     let a = folder.file("a", [1, 0, (28468_u16 % 256) as u8, (28468_u16 / 256) as u8]);
     let p = folder.file("p", [start, after].concat());

@@ -60,6 +60,11 @@ fn a_full_device_is_trouble_and_nothing_is_counted() {
     assert_eq!((ran.err, ran.status), (told, 2));
     let ran = full(&["keys", "--check"], " w - -\n");
     assert_eq!((ran.err, ran.status), (format!("{full_device}menkhodur: 0 lines, 0 keys, 0 second names, 0 refused{incomplete}"), 2));
+    let ran = full(&["keys", "/none", "-"], " w - -\n");
+    let told = format!(
+        "menkhodur: /none: No such file or directory\n{full_device}menkhodur: 0 lines, 0 accepted, 0 refused; input incomplete{incomplete}"
+    );
+    assert_eq!((ran.err, ran.status), (told, 2));
     for words in [&["explain", " w - -"][..], &["--help"], &["keys", "--help"], &["--version"], &["man"], &["completion", "fish"]] {
         assert_eq!(full(words, ""), Ran { out: vec![], err: full_device.to_string(), status: 2 }, "{words:?}");
     }
