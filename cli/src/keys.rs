@@ -178,12 +178,13 @@ impl Keys {
 
     /// Counts a line and prints what is said of it.
     fn put(&mut self, place: Place<'_>, line: &[u8], said: Said<'_>) -> Result<(), Stop> {
+        let own = matches!(said, Said::Key(key) if key == line);
         match said {
-            Said::Key(key) if self.form.check && key != line => self.tally.renamed += 1,
+            Said::Key(_) if self.form.check && !own => self.tally.renamed += 1,
             Said::Key(_) => self.tally.accepted += 1,
             Said::Refused(_) | Said::Odd(_) | Said::Long => self.tally.refused += 1,
         }
-        if self.form.check && matches!(said, Said::Key(key) if key == line) {
+        if self.form.check && own {
             return Ok(());
         }
         self.output.status = self.tally.status();
@@ -208,7 +209,7 @@ impl Keys {
                 self.tally = self.output.settled();
                 true
             }
-            Err(closed) => return Err(closed),
+            Err(Stop::Closed(status)) => return Ok(if whole { status } else { Status::Trouble }),
         };
         let incomplete: &[u8] = if whole { b"" } else { b"; input incomplete" };
         let cut: &[u8] = if failed { b"; output incomplete: these lines were written whole" } else { b"" };

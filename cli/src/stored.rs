@@ -95,6 +95,7 @@ impl Stored {
             moves if moves < self.position_count => lent::stored_position(&self.positions, moves),
             _ => None,
         };
+        // The kinds of action as host/menkhodur.h numbers them.
         let call = match (kind, &after) {
             (1, None) => return Why::NoPosition,
             (1, Some(after)) => lent::game_make_move(&mut actions, &mut positions, counts, made, after.given()),
