@@ -1,7 +1,7 @@
 //! What a log holds: its actions and positions, and how they are read where they lie.
 
 use crate::board::Board;
-use crate::lent::{ACTION_BYTES, Given, POSITION_BYTES};
+use crate::lent::{ACTION_BYTES, Given, POSITION_BYTES, Record};
 use crate::moves::Move;
 use crate::piece::{ALL_COLORS, Color};
 use std::fmt;
@@ -107,12 +107,62 @@ compile_error!("the archive is made for x86-64, and a log lends its lists low by
 pub(crate) const POSITION_PAIRS: usize = POSITION_BYTES / 2;
 
 // Where a position has what comes after its record: the in-check byte, the length of its list, and the list.
-pub(crate) const IN_CHECK: usize = 68;
-pub(crate) const ENTRIES: usize = 69;
-pub(crate) const LIST: usize = 70;
+const IN_CHECK: usize = 68;
+const ENTRIES: usize = 69;
+const LIST: usize = 70;
 
 /// The kind of an action that is a move.
-pub(crate) const MAKE_MOVE: u8 = 1;
+const MAKE_MOVE: u8 = 1;
+
+/// A position as its bytes in a part have it, in range or not: what a log was given, so that it can be given again.
+#[derive(Clone, Debug, PartialEq, Eq, Hash)]
+pub struct StoredPosition {
+    /// The record.
+    pub record: Record,
+    /// The in-check byte.
+    pub in_check: u8,
+    /// As many moves as the length of the list says.
+    pub list: Vec<u16>,
+}
+
+impl StoredPosition {
+    /// The position as a log takes it.
+    #[must_use]
+    pub fn given(&self) -> Given<'_> {
+        Given { record: &self.record, in_check: self.in_check, list: &self.list }
+    }
+}
+
+/// The position of a part after so many moves, or `None` if the part ends before it does. Nothing is judged.
+///
+/// ```
+/// use menkhodur::lent::{self, ACTIONS_PART, Given, POSITION_BYTES, POSITIONS_PART};
+///
+/// let mut positions = vec![0; POSITIONS_PART];
+/// lent::game_start(&[0; ACTIONS_PART], &mut positions, Given { record: &[1; 68], in_check: 1, list: &[1153, 7] }).unwrap();
+/// let start = lent::stored_position(&positions, 0).unwrap();
+/// assert_eq!((start.record, start.in_check, start.list), ([1; 68], 1, vec![1153, 7]));
+/// assert_eq!(lent::stored_position(&positions[..POSITION_BYTES - 1], 0), None);
+/// ```
+#[must_use]
+pub fn stored_position(positions: &[u8], moves: usize) -> Option<StoredPosition> {
+    let position = positions.chunks_exact(POSITION_BYTES).nth(moves)?;
+    let mut record = [0; 68];
+    record.copy_from_slice(&position[..IN_CHECK]);
+    let pairs = position[LIST..].chunks_exact(2).take(usize::from(position[ENTRIES]));
+    let list = pairs.map(|pair| u16::from_le_bytes([pair[0], pair[1]])).collect();
+    Some(StoredPosition { record, in_check: position[IN_CHECK], list })
+}
+
+/// How many of the first `count` actions of a part are moves, by their kind alone: the second of the counts of that much of a log.
+///
+/// ```
+/// assert_eq!(menkhodur::lent::moves_among(&[1, 0, 12, 7, 5, 1, 0, 0], 2), 1);
+/// ```
+#[must_use]
+pub fn moves_among(actions: &[u8], count: usize) -> u64 {
+    actions.chunks_exact(ACTION_BYTES).take(count).filter(|action| action[0] == MAKE_MOVE).count() as u64
+}
 
 /// Pairs of bytes, as the archive and a store have them.
 pub(crate) fn bytes(pairs: &[u16]) -> &[u8] {

@@ -14,9 +14,10 @@
 //! assert_eq!(&room[length..], b"....");
 //! ```
 
-use crate::entry::{ENTRIES, IN_CHECK, LIST, MAKE_MOVE};
 use crate::error::Error;
 use crate::ffi;
+
+pub use crate::entry::{StoredPosition, moves_among, stored_position};
 
 /// A board record: 64 squares from a1 (0 empty, 1 to 6 white pawn, knight, bishop, rook, queen, king, 7 to 12 black), the side to move
 /// (0 white, 1 black), white's rights, black's rights, and the en passant file (0 none, 1 to 8).
@@ -555,56 +556,6 @@ pub fn roll_read(roll: &[u8], actions: &mut [u8]) -> Result<Rolled, Error> {
     // SAFETY: each pointer and length are those of one slice. The actions, all that is written, are borrowed mutably for the call, so that
     // the roll cannot lie in them.
     unsafe { ffi::menkhodur_roll_read(roll.as_ptr(), roll.len(), actions.as_mut_ptr(), actions.len()) }.judged()
-}
-
-/// A position as its bytes in a part have it, in range or not: what a log was given, so that it can be given again.
-#[derive(Clone, Debug, PartialEq, Eq, Hash)]
-pub struct StoredPosition {
-    /// The record.
-    pub record: Record,
-    /// The in-check byte.
-    pub in_check: u8,
-    /// As many moves as the length of the list says.
-    pub list: Vec<u16>,
-}
-
-impl StoredPosition {
-    /// The position as a log takes it.
-    #[must_use]
-    pub fn given(&self) -> Given<'_> {
-        Given { record: &self.record, in_check: self.in_check, list: &self.list }
-    }
-}
-
-/// The position of a part after so many moves, or `None` if the part ends before it does. Nothing is judged.
-///
-/// ```
-/// use menkhodur::lent::{self, ACTIONS_PART, Given, POSITION_BYTES, POSITIONS_PART};
-///
-/// let mut positions = vec![0; POSITIONS_PART];
-/// lent::game_start(&[0; ACTIONS_PART], &mut positions, Given { record: &[1; 68], in_check: 1, list: &[1153, 7] }).unwrap();
-/// let start = lent::stored_position(&positions, 0).unwrap();
-/// assert_eq!((start.record, start.in_check, start.list), ([1; 68], 1, vec![1153, 7]));
-/// assert_eq!(lent::stored_position(&positions[..POSITION_BYTES - 1], 0), None);
-/// ```
-#[must_use]
-pub fn stored_position(positions: &[u8], moves: usize) -> Option<StoredPosition> {
-    let position = positions.chunks_exact(POSITION_BYTES).nth(moves)?;
-    let mut record = [0; 68];
-    record.copy_from_slice(&position[..IN_CHECK]);
-    let pairs = position[LIST..].chunks_exact(2).take(usize::from(position[ENTRIES]));
-    let list = pairs.map(|pair| u16::from_le_bytes([pair[0], pair[1]])).collect();
-    Some(StoredPosition { record, in_check: position[IN_CHECK], list })
-}
-
-/// How many of the first `count` actions of a part are moves, by their kind alone: the second of the counts of that much of a log.
-///
-/// ```
-/// assert_eq!(menkhodur::lent::moves_among(&[1, 0, 12, 7, 5, 1, 0, 0], 2), 1);
-/// ```
-#[must_use]
-pub fn moves_among(actions: &[u8], count: usize) -> u64 {
-    actions.chunks_exact(ACTION_BYTES).take(count).filter(|action| action[0] == MAKE_MOVE).count() as u64
 }
 
 // The contracts bound the values: squares to 63, rights to 3, results to 7, moves to 28,671, lengths to 5,190,
