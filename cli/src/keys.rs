@@ -4,25 +4,28 @@ use crate::input::{self, LONGEST, Lines, Place};
 use crate::json::Object;
 use crate::options::{Asked, Flag, Status, Stop};
 use crate::output::Output;
-use crate::page::Page;
 use crate::standard::{self, Warning};
 use crate::told::{self, Progress};
-use menkhodur::Error;
 use menkhodur::lent::{self, Record};
+use menkhodur::{Error, Page, PageReader};
 use std::io::Write;
 
 pub const CHECK: Flag = Flag { name: "check", value: None, about: "print only the lines that are not their own key" };
 pub const STRICT: Flag = Flag { name: "strict", value: None, about: "refuse what `menkhodur explain` warns of, as `! strict OFFSET NAME`" };
 pub const JSON: Flag = Flag { name: "json", value: None, about: "print one JSON object a line" };
 
-/// Bytes of the longest key.
+/// Bytes of the longest key, and of the shortest.
 const LONGEST_KEY: usize = 85;
+const SHORTEST_KEY: usize = 25;
+
+/// The most lines that a page of keys has; one with more lines makes itself room.
+const USUAL: usize = LONGEST / SHORTEST_KEY;
 
 pub fn run(asked: &Asked) -> Result<Status, Stop> {
     let form = Form { check: asked.has(&CHECK), strict: asked.has(&STRICT), json: asked.has(&JSON) };
     let mut keys = Keys {
         form,
-        page: Page::default(),
+        reader: PageReader::for_lines(USUAL),
         output: Output::new()?,
         tally: Tally::default(),
         odd: vec![],
@@ -82,7 +85,7 @@ enum Said<'a> {
 
 struct Keys {
     form: Form,
-    page: Page,
+    reader: PageReader,
     output: Output<Tally>,
     tally: Tally,
     odd: Vec<Warning>,
@@ -94,17 +97,17 @@ struct Keys {
 impl Lines for Keys {
     fn lines(&mut self, place: Place<'_>, text: &[u8]) -> Result<u64, Stop> {
         let before = self.tally.lines();
-        let mut page = std::mem::take(&mut self.page);
-        page.read(text);
+        let mut reader = std::mem::take(&mut self.reader);
+        let page = reader.read(text);
         let plain = !self.form.check && !self.form.strict && !self.form.json;
-        let ended = if plain { self.plain(&page) } else { self.told(&page, place, text) };
-        self.page = page;
+        let ended = if plain { self.plain(page) } else { self.told(page, place) };
+        self.reader = reader;
         self.progress.lines(self.tally.lines());
         ended.map(|()| self.tally.lines() - before)
     }
 
     fn long(&mut self, place: Place<'_>) -> Result<(), Stop> {
-        self.put(place, b"", Said::Long)
+        self.put(place, b"", Said::Long, false)
     }
 
     fn flush(&mut self) -> Result<(), Stop> {
@@ -113,38 +116,34 @@ impl Lines for Keys {
 }
 
 impl Keys {
-    /// As the proved program `keys`: a line a line, whatever its text is.
-    fn plain(&mut self, page: &Page) -> Result<(), Stop> {
-        for answer in page.answers() {
+    /// As the proved program `keys`: a line a line. What the lines are is not looked at.
+    fn plain(&mut self, page: Page<'_>) -> Result<(), Stop> {
+        for (record, &[number, offset]) in page.records().iter().zip(page.numbers()) {
             let space = self.output.space(LONGEST_KEY + 1)?;
-            let length = match &answer {
-                Ok(record) => key_of(record, space),
-                Err(refused) => refusal(refused, space),
-            };
+            let length = if number == 0 { key_of(record, space) } else { refusal(number, offset, space) };
             space[length] = b'\n';
             self.output.advance(length + 1);
-            match answer {
-                Ok(_) => self.tally.accepted += 1,
-                Err(_) => {
-                    self.tally.refused += 1;
-                    self.output.status = Status::Found;
-                }
+            if number == 0 {
+                self.tally.accepted += 1;
+            } else {
+                self.tally.refused += 1;
+                self.output.status = Status::Found;
             }
             self.output.mark(self.tally);
         }
         Ok(())
     }
 
-    fn told(&mut self, page: &Page, mut place: Place<'_>, text: &[u8]) -> Result<(), Stop> {
-        let mut left = text;
+    fn told(&mut self, page: Page<'_>, mut place: Place<'_>) -> Result<(), Stop> {
+        let mut left = page.text();
         let mut room = [0; LONGEST_KEY];
-        for answer in page.answers() {
-            let said = match answer {
-                Ok(record) => {
+        for (index, record) in page.records().iter().enumerate() {
+            let said = match page.get(index) {
+                Some(Err(refused)) => Said::Refused(refused),
+                _ => {
                     let length = key_of(record, &mut room);
                     Said::Key(&room[..length])
                 }
-                Err(refused) => Said::Refused(refused),
             };
             left = self.line(place, left, said)?;
             place.line += 1;
@@ -157,7 +156,7 @@ impl Keys {
     fn line<'a>(&mut self, place: Place<'_>, left: &'a [u8], said: Said<'_>) -> Result<&'a [u8], Stop> {
         if let Said::Key(key) = said {
             if let Some(rest @ ([] | [b'\n', ..])) = left.strip_prefix(key) {
-                self.put(place, key, said)?;
+                self.put(place, key, said, true)?;
                 return Ok(rest.get(1..).unwrap_or_default());
             }
         }
@@ -167,7 +166,7 @@ impl Keys {
             Said::Key(_) if self.form.strict => self.first_oddity(line).map_or(said, Said::Odd),
             said => said,
         };
-        self.put(place, line, said)?;
+        self.put(place, line, said, false)?;
         Ok(left.get(length + 1..).unwrap_or_default())
     }
 
@@ -176,9 +175,8 @@ impl Keys {
         self.odd.first().copied()
     }
 
-    /// Counts a line and prints what is said of it.
-    fn put(&mut self, place: Place<'_>, line: &[u8], said: Said<'_>) -> Result<(), Stop> {
-        let own = matches!(said, Said::Key(key) if key == line);
+    /// Counts a line, which is its own key or not, and prints what is said of it.
+    fn put(&mut self, place: Place<'_>, line: &[u8], said: Said<'_>, own: bool) -> Result<(), Stop> {
         match said {
             Said::Key(_) if self.form.check && !own => self.tally.renamed += 1,
             Said::Key(_) => self.tally.accepted += 1,
@@ -224,9 +222,9 @@ fn key_of(record: &Record, room: &mut [u8]) -> usize {
 }
 
 /// `! N OFFSET`, as the proved program `keys` has it.
-fn refusal(refused: &Error, mut room: &mut [u8]) -> usize {
+fn refusal(number: u64, offset: u64, mut room: &mut [u8]) -> usize {
     let before = room.len();
-    write!(room, "! {} {}", refused.number(), refused.offset().unwrap_or_default()).expect("two numbers fit where a key does");
+    write!(room, "! {number} {offset}").expect("two numbers fit where a key does");
     before - room.len()
 }
 
@@ -236,7 +234,7 @@ fn answered(said: Said<'_>, made: &mut Vec<u8>) {
         Said::Key(key) => made.extend(key),
         Said::Refused(refused) => {
             let mut room = [0; LONGEST_KEY];
-            let length = refusal(&refused, &mut room);
+            let length = refusal(refused.number(), refused.offset().unwrap_or_default() as u64, &mut room);
             made.extend(&room[..length]);
         }
         Said::Odd(warning) => made.extend(format!("! strict {} {}", warning.offset, warning.oddity.name()).bytes()),

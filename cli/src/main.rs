@@ -10,7 +10,6 @@ mod keys;
 mod man;
 mod options;
 mod output;
-mod page;
 mod ruling;
 mod show;
 mod standard;
