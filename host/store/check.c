@@ -1,0 +1,57 @@
+/* The code that both extensions share, judged by model.c; host/store/test runs it under the sanitizers. */
+#include "judge.h"
+#include "key.h"
+
+#include <stdio.h>
+#include <string.h>
+
+static unsigned long asked_texts, accepted, keys, failed;
+
+static void fail(const char *what, const char *text, size_t length)
+{
+    if (failed++ < 10) printf("host/store/check: %s of a text of %zu bytes: %.*s\n", what, length, (int)(length < 100 ? length : 100), text);
+}
+
+static void ask(const char *text, size_t length)
+{
+    struct owed owed;
+    struct store_key key;
+    char told[STORE_TOLD];
+    owed_to(text, length, &owed);
+    store_key_of(&key, text, length);
+    asked_texts++;
+    accepted += owed.has_key;
+    keys += owed.is_key;
+    if (store_is_key(text, length) != owed.is_key) fail("store_is_key", text, length);
+    if ((key.number == 0) != owed.has_key) fail("number", text, length);
+    if (owed.has_key) {
+        if (key.length != owed.key_length || memcmp(key.key, owed.key, key.length) || key.reason) fail("key", text, length);
+        return;
+    }
+    store_message(&key, told);
+    if (strcmp(told, owed.message)) fail("message", text, length);
+    store_json(&key, told);
+    if (strcmp(told, owed.json)) fail("json", text, length);
+}
+
+/* A number that this code has no words for, and the longest numbers, stay within their room. */
+static void check_room(void)
+{
+    struct store_key key = { UINT64_MAX, UINT64_MAX, "the placement of the FEN text has something other than pieces, digits from 1 to 8 and slashes", 0, "" };
+    char told[STORE_TOLD];
+    store_json(&key, told);
+    if (told[strlen(told) - 1] != '}') fail("room of the JSON", told, strlen(told));
+    store_message(&key, told);
+    if (told[strlen(told) - 1] != ')') fail("room of the message", told, strlen(told));
+}
+
+int main(int count, char **arguments)
+{
+    if (count != 2 || !ask_all(arguments[1], 200000, ask)) {
+        fprintf(stderr, "usage: check POSITIONS\n");
+        return 1;
+    }
+    check_room();
+    printf("host/store/check: %lu texts, %lu accepted, %lu keys, %lu failed\n", asked_texts, accepted, keys, failed);
+    return failed > 0 || accepted < 1000 || keys < 1000 || asked_texts - accepted < 1000;
+}

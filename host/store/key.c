@@ -1,0 +1,51 @@
+#include "key.h"
+
+#include <inttypes.h>
+#include <stdio.h>
+#include <string.h>
+
+/* The one table of what is wrong with a FEN text, in words. */
+static const struct {
+    uint64_t number;
+    const char *reason;
+} reasons[] = {
+    { MENKHODUR_TOO_FEW_TOKENS, "the FEN text ends before its fourth token" },
+    { MENKHODUR_BAD_PLACEMENT, "the placement of the FEN text has something other than pieces, digits from 1 to 8 and slashes" },
+    { MENKHODUR_BAD_SIDE, "the side to move of the FEN text is not w, W, b or B" },
+};
+
+static const char *reason_of(uint64_t number)
+{
+    for (size_t i = 0; i < sizeof reasons / sizeof *reasons; i++)
+        if (reasons[i].number == number) return reasons[i].reason;
+    return "the archive refused for a reason that this extension does not know";
+}
+
+void store_key_of(struct store_key *key, const void *text, size_t length)
+{
+    menkhodur_fen fen = menkhodur_fen_read(text, length);
+    menkhodur_answer written = { fen.number, 0 };
+    if (!fen.number) written = menkhodur_fen_write(fen.board, (uint8_t *)key->key, sizeof key->key);
+    key->number = written.number;
+    key->offset = fen.offset;
+    key->reason = written.number ? reason_of(written.number) : NULL;
+    key->length = written.number ? 0 : (size_t)written.value;
+}
+
+bool store_is_key(const void *text, size_t length)
+{
+    struct store_key key;
+    if (length < MENKHODUR_SHORTEST_FEN || length > MENKHODUR_LONGEST_FEN) return false;
+    store_key_of(&key, text, length);
+    return !key.number && key.length == length && memcmp(key.key, text, length) == 0;
+}
+
+void store_message(const struct store_key *refused, char told[STORE_TOLD])
+{
+    snprintf(told, STORE_TOLD, "%s, at byte %" PRIu64 " (answer %" PRIu64 ")", refused->reason, refused->offset, refused->number);
+}
+
+void store_json(const struct store_key *refused, char told[STORE_TOLD])
+{
+    snprintf(told, STORE_TOLD, "{\"number\":%" PRIu64 ",\"offset\":%" PRIu64 ",\"reason\":\"%s\"}", refused->number, refused->offset, refused->reason);
+}
