@@ -1,0 +1,59 @@
+/* An extension of PostgreSQL: the proved key as SQL functions (menkhodur--1.sql declares them).
+ *
+ * A text is read by its bytes in the server's encoding. Each encoding that a server can have keeps ASCII as it is and uses no ASCII byte
+ * within another character, so that a FEN text has the same bytes in all of them; an offset counts bytes of that encoding. */
+#include "postgres.h"
+
+#include "access/detoast.h"
+#include "fmgr.h"
+#include "utils/builtins.h"
+
+#include "../store/key.h"
+
+PG_MODULE_MAGIC;
+
+PG_FUNCTION_INFO_V1(sql_key);
+PG_FUNCTION_INFO_V1(sql_is_key);
+PG_FUNCTION_INFO_V1(sql_fault);
+PG_FUNCTION_INFO_V1(sql_version);
+
+Datum sql_key(PG_FUNCTION_ARGS)
+{
+    text *value = PG_GETARG_TEXT_PP(0);
+    struct store_key key;
+    char told[STORE_TOLD];
+    store_key_of(&key, VARDATA_ANY(value), VARSIZE_ANY_EXHDR(value));
+    if (key.number) {
+        store_message(&key, told);
+        ereport(ERROR, (errcode(ERRCODE_INVALID_TEXT_REPRESENTATION), errmsg("%s", told)));
+    }
+    PG_RETURN_TEXT_P(cstring_to_text_with_len(key.key, (int)key.length));
+}
+
+Datum sql_is_key(PG_FUNCTION_ARGS)
+{
+    /* A value that lies outside its row, or compressed, is fetched only if a key can have its length. */
+    struct varlena *value = (struct varlena *)PG_GETARG_POINTER(0);
+    Size length = toast_raw_datum_size(PointerGetDatum(value)) - VARHDRSZ;
+    text *bytes;
+    if (length > MENKHODUR_LONGEST_FEN) PG_RETURN_BOOL(false);
+    bytes = PG_DETOAST_DATUM_PACKED(PointerGetDatum(value));
+    PG_RETURN_BOOL(store_is_key(VARDATA_ANY(bytes), VARSIZE_ANY_EXHDR(bytes)));
+}
+
+Datum sql_fault(PG_FUNCTION_ARGS)
+{
+    text *value = PG_GETARG_TEXT_PP(0);
+    struct store_key key;
+    char told[STORE_TOLD];
+    store_key_of(&key, VARDATA_ANY(value), VARSIZE_ANY_EXHDR(value));
+    if (!key.number) PG_RETURN_NULL();
+    store_json(&key, told);
+    PG_RETURN_TEXT_P(cstring_to_text(told));
+}
+
+Datum sql_version(PG_FUNCTION_ARGS)
+{
+    (void)fcinfo;
+    PG_RETURN_INT64((int64)menkhodur_version());
+}
