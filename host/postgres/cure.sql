@@ -4,14 +4,14 @@
 --
 -- It is for the tables of host/postgres/store.sql as they were before the extension: with `fen text` in place of `fen fen_key`. Whoever has more
 -- columns in `position` says here how two rows become one (the earlier date, the sum of two counts). A name that is no FEN text has no key and is
--- left; then the last part fails, the merging stays, and second-names.sql shows what is left. Of a store on several servers each is cured by itself,
--- but for a key that belongs on another partition: docs/STORE.md.
+-- left; then the last part fails, the merging stays, and second-names.sql shows what is left.
+-- A store over several servers has the domain from its first day (host/postgres/layout): it is cured before it moves there.
 \set ON_ERROR_STOP on
 \set QUIET on
 CREATE EXTENSION IF NOT EXISTS menkhodur;
 
 -- From here on no second name gets in; the rows that are there are not looked at yet, so that this takes a moment.
-ALTER TABLE position ADD CONSTRAINT one_name CHECK (menkhodur_is_key(fen)) NOT VALID;
+ALTER TABLE position DROP CONSTRAINT IF EXISTS one_name, ADD CONSTRAINT one_name CHECK (menkhodur_is_key(fen)) NOT VALID;
 
 BEGIN;
 CREATE TEMP TABLE second_name ON COMMIT DROP AS

@@ -1,5 +1,5 @@
 /* Files the positions of a file into a store with the check and into one without it, in turn, and asks menkhodur_key and length of each; the best
- * of the rounds counts. host/sqlite/speed builds and runs it. */
+ * of the rounds counts, by the clock and in processor time. host/sqlite/speed builds and runs it. */
 #define _POSIX_C_SOURCE 200809L
 #include <sqlite3.h>
 #include <stdio.h>
@@ -16,11 +16,29 @@ static const char *const tables[2] = {
 static char *lines;
 static unsigned count;
 
-static double now(void)
+/* Seconds by the clock, and of the processor for this program. */
+struct times {
+    double clock, processor;
+};
+
+static double seconds(clockid_t clock)
 {
     struct timespec t;
-    clock_gettime(CLOCK_MONOTONIC, &t);
+    clock_gettime(clock, &t);
     return (double)t.tv_sec + (double)t.tv_nsec / 1e9;
+}
+
+/* The best so far of what began at `start` and ends now. */
+static void end(struct times start, struct times *best)
+{
+    struct times took = { seconds(CLOCK_MONOTONIC) - start.clock, seconds(CLOCK_PROCESS_CPUTIME_ID) - start.processor };
+    if (best->clock == 0 || took.clock < best->clock) best->clock = took.clock;
+    if (best->processor == 0 || took.processor < best->processor) best->processor = took.processor;
+}
+
+static struct times begin(void)
+{
+    return (struct times){ seconds(CLOCK_MONOTONIC), seconds(CLOCK_PROCESS_CPUTIME_ID) };
 }
 
 static void must(int status, sqlite3 *db)
@@ -40,13 +58,13 @@ static sqlite3 *open_base(const char *file, const char *extension)
     return db;
 }
 
-/* Seconds to file all lines, TRANSACTION of them each time. */
-static double file_all(sqlite3 *db, const char *table)
+/* All lines, TRANSACTION of them each time. */
+static void file_all(sqlite3 *db, const char *table, struct times *best)
 {
     sqlite3_stmt *insert;
-    double start;
+    struct times start;
     must(sqlite3_exec(db, table, NULL, NULL, NULL), db);
-    start = now();
+    start = begin();
     must(sqlite3_prepare_v2(db, "INSERT OR IGNORE INTO position VALUES (?)", -1, &insert, NULL), db);
     for (unsigned i = 0; i < count; i++) {
         if (i % TRANSACTION == 0) must(sqlite3_exec(db, "BEGIN", NULL, NULL, NULL), db);
@@ -55,15 +73,15 @@ static double file_all(sqlite3 *db, const char *table)
         must(sqlite3_reset(insert), db);
         if (i % TRANSACTION == TRANSACTION - 1 || i == count - 1) must(sqlite3_exec(db, "COMMIT", NULL, NULL, NULL), db);
     }
+    end(start, best);
     sqlite3_finalize(insert);
-    return now() - start;
 }
 
-static double ask(sqlite3 *db, const char *query)
+static void ask(sqlite3 *db, const char *query, struct times *best)
 {
-    double start = now();
+    struct times start = begin();
     must(sqlite3_exec(db, query, NULL, NULL, NULL), db);
-    return (now() - start) / count * 1e9;
+    end(start, best);
 }
 
 static void read_lines(const char *file)
@@ -78,16 +96,17 @@ static void read_lines(const char *file)
     fclose(f);
 }
 
-static void least(double *best, double seconds)
+static void tell(const char *by, double without, double with)
 {
-    if (*best == 0 || seconds < *best) *best = seconds;
+    printf("%u positions filed, %s: %.3f s without the check, %.3f s with it, %.3f times; %.0f and %.0f a second\n", count, by, without, with,
+           with / without, count / without, count / with);
 }
 
 int main(int arguments, char **argument)
 {
     static const char *const queries[3] = { "SELECT count(length(fen)) FROM position", "SELECT count(menkhodur_key(fen)) FROM position",
                                             "SELECT count(menkhodur_is_key(fen)) FROM position" };
-    double filed[2] = { 0 }, asked[3] = { 0 };
+    struct times filed[2] = { 0 }, asked[3] = { 0 };
     if (arguments != 5) return 2;
     read_lines(argument[3]);
     for (int round = 0, rounds = atoi(argument[4]); round < rounds; round++) {
@@ -95,14 +114,15 @@ int main(int arguments, char **argument)
             sqlite3 *db;
             remove(argument[2]);
             db = open_base(argument[2], argument[1]);
-            least(&filed[with], file_all(db, tables[with]));
-            for (int q = 0; q < 3 && with; q++) least(&asked[q], ask(db, queries[q]));
+            file_all(db, tables[with], &filed[with]);
+            for (int q = 0; q < 3 && with; q++) ask(db, queries[q], &asked[q]);
             sqlite3_close(db);
         }
-        fprintf(stderr, "host/sqlite/speed: round %d: %.3f s without, %.3f s with the check, the best so far\n", round + 1, filed[0], filed[1]);
+        fprintf(stderr, "host/sqlite/speed: round %d is done\n", round + 1);
     }
-    printf("%u positions filed: %.3f s without the check, %.3f s with it, %.3f times; %.0f and %.0f a second\n", count, filed[0], filed[1],
-           filed[1] / filed[0], count / filed[0], count / filed[1]);
-    printf("a row: length %.0f ns, menkhodur_key %.0f ns, menkhodur_is_key %.0f ns\n", asked[0], asked[1], asked[2]);
+    tell("by the clock", filed[0].clock, filed[1].clock);
+    tell("processor time", filed[0].processor, filed[1].processor);
+    printf("a row, processor time: length %.0f ns, menkhodur_key %.0f ns, menkhodur_is_key %.0f ns\n", asked[0].processor / count * 1e9,
+           asked[1].processor / count * 1e9, asked[2].processor / count * 1e9);
     return 0;
 }
