@@ -77,6 +77,6 @@ server_start() {
 on() {
     number=$1
     shift
-    eval "PGPORT=\$port_$number" 
-    PGPORT=$PGPORT "$system_bin/psql" -XqAt -v ON_ERROR_STOP=1 "$@"
+    eval "port=\$port_$number"
+    PGPORT=$port "$system_bin/psql" -XqAt -v ON_ERROR_STOP=1 "$@"
 }

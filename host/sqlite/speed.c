@@ -7,7 +7,7 @@
 #include <string.h>
 #include <time.h>
 
-enum { ROOM = 128, TRANSACTION = 10000 };
+enum { ROOM = 128, TRANSACTION = 10000, SINGLE = 5000 };
 
 static const char *const tables[2] = {
     "CREATE TABLE position (fen TEXT PRIMARY KEY NOT NULL) WITHOUT ROWID",
@@ -48,9 +48,10 @@ static void must(int status, sqlite3 *db)
     exit(1);
 }
 
-static sqlite3 *open_base(const char *file, const char *extension)
+static sqlite3 *open_new(const char *file, const char *extension)
 {
     sqlite3 *db;
+    remove(file);
     must(sqlite3_open(file, &db), db);
     must(sqlite3_db_config(db, SQLITE_DBCONFIG_ENABLE_LOAD_EXTENSION, 1, NULL), db);
     must(sqlite3_load_extension(db, extension, NULL, NULL), db);
@@ -58,23 +59,32 @@ static sqlite3 *open_base(const char *file, const char *extension)
     return db;
 }
 
-/* All lines, TRANSACTION of them each time. */
-static void file_all(sqlite3 *db, const char *table, struct times *best)
+/* The first lines, so many of them in each transaction. */
+static void file_lines(sqlite3 *db, const char *table, unsigned most, unsigned each, struct times *best)
 {
     sqlite3_stmt *insert;
     struct times start;
     must(sqlite3_exec(db, table, NULL, NULL, NULL), db);
     start = begin();
     must(sqlite3_prepare_v2(db, "INSERT OR IGNORE INTO position VALUES (?)", -1, &insert, NULL), db);
-    for (unsigned i = 0; i < count; i++) {
-        if (i % TRANSACTION == 0) must(sqlite3_exec(db, "BEGIN", NULL, NULL, NULL), db);
+    for (unsigned i = 0; i < most; i++) {
+        if (i % each == 0) must(sqlite3_exec(db, "BEGIN", NULL, NULL, NULL), db);
         must(sqlite3_bind_text(insert, 1, lines + (size_t)i * ROOM, -1, SQLITE_STATIC), db);
         must(sqlite3_step(insert), db);
         must(sqlite3_reset(insert), db);
-        if (i % TRANSACTION == TRANSACTION - 1 || i == count - 1) must(sqlite3_exec(db, "COMMIT", NULL, NULL, NULL), db);
+        if (i % each == each - 1 || i == most - 1) must(sqlite3_exec(db, "COMMIT", NULL, NULL, NULL), db);
     }
     end(start, best);
     sqlite3_finalize(insert);
+}
+
+/* With the check, each position in a transaction of its own that is on the disk before the next begins. */
+static void single(const char *file, const char *extension, struct times *best)
+{
+    sqlite3 *db = open_new(file, extension);
+    must(sqlite3_exec(db, "PRAGMA synchronous = FULL", NULL, NULL, NULL), db);
+    file_lines(db, tables[1], count < SINGLE ? count : SINGLE, 1, best);
+    sqlite3_close(db);
 }
 
 static void ask(sqlite3 *db, const char *query, struct times *best)
@@ -106,22 +116,22 @@ int main(int arguments, char **argument)
 {
     static const char *const queries[3] = { "SELECT count(length(fen)) FROM position", "SELECT count(menkhodur_key(fen)) FROM position",
                                             "SELECT count(menkhodur_is_key(fen)) FROM position" };
-    struct times filed[2] = { 0 }, asked[3] = { 0 };
+    struct times filed[2] = { 0 }, asked[3] = { 0 }, alone = { 0 };
     if (arguments != 5) return 2;
     read_lines(argument[3]);
     for (int round = 0, rounds = atoi(argument[4]); round < rounds; round++) {
         for (int with = 0; with < 2; with++) {
-            sqlite3 *db;
-            remove(argument[2]);
-            db = open_base(argument[2], argument[1]);
-            file_all(db, tables[with], &filed[with]);
+            sqlite3 *db = open_new(argument[2], argument[1]);
+            file_lines(db, tables[with], count, TRANSACTION, &filed[with]);
             for (int q = 0; q < 3 && with; q++) ask(db, queries[q], &asked[q]);
             sqlite3_close(db);
         }
+        single(argument[2], argument[1], &alone);
         fprintf(stderr, "host/sqlite/speed: round %d is done\n", round + 1);
     }
     tell("by the clock", filed[0].clock, filed[1].clock);
     tell("processor time", filed[0].processor, filed[1].processor);
+    printf("each in a transaction of its own, with the check, by the clock: %.0f a second\n", (count < SINGLE ? count : SINGLE) / alone.clock);
     printf("a row, processor time: length %.0f ns, menkhodur_key %.0f ns, menkhodur_is_key %.0f ns\n", asked[0].processor / count * 1e9,
            asked[1].processor / count * 1e9, asked[2].processor / count * 1e9);
     return 0;
