@@ -32,13 +32,13 @@ Datum sql_key(PG_FUNCTION_ARGS)
 
 Datum sql_is_key(PG_FUNCTION_ARGS)
 {
-    /* A value that lies outside its row, or compressed, is fetched only if a key can have its length. */
     struct varlena *value = (struct varlena *)PG_GETARG_POINTER(0);
-    Size length = toast_raw_datum_size(PointerGetDatum(value)) - VARHDRSZ;
-    text *bytes;
-    if (length > MENKHODUR_LONGEST_FEN) PG_RETURN_BOOL(false);
-    bytes = PG_DETOAST_DATUM_PACKED(PointerGetDatum(value));
-    PG_RETURN_BOOL(store_is_key(VARDATA_ANY(bytes), VARSIZE_ANY_EXHDR(bytes)));
+    /* A value that lies outside its row, or compressed, is fetched only if a key can have its length. */
+    if (unlikely(VARATT_IS_EXTENDED(value) && !VARATT_IS_SHORT(value))) {
+        if (toast_raw_datum_size(PointerGetDatum(value)) - VARHDRSZ > MENKHODUR_LONGEST_FEN) PG_RETURN_BOOL(false);
+        value = PG_DETOAST_DATUM_PACKED(PointerGetDatum(value));
+    }
+    PG_RETURN_BOOL(store_is_key(VARDATA_ANY(value), VARSIZE_ANY_EXHDR(value)));
 }
 
 Datum sql_fault(PG_FUNCTION_ARGS)
