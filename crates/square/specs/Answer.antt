@@ -88,6 +88,18 @@ badPlacement = 19
 abbrev pub badSide : ℕ
 badSide = 20
 
+-- order 8: a comment or bracket of PGN move text left open
+abbrev pub leftOpen : ℕ
+leftOpen = 21
+
+-- order 8: brackets deeper than 8
+abbrev pub tooDeep : ℕ
+tooDeep = 22
+
+-- order 8: an unknown token, a result in brackets, a stray closing bracket or an offset past the text
+abbrev pub unknownToken : ℕ
+unknownToken = 23
+
 -- 0 and the answer
 abbrev pub accepted : ℕ → Answer
 accepted v = record { number = 0; value = v }

@@ -72,6 +72,12 @@ pub const BAD_PLACEMENT: u64 = 19;
 
 pub const BAD_SIDE: u64 = 20;
 
+pub const LEFT_OPEN: u64 = 21;
+
+pub const TOO_DEEP: u64 = 22;
+
+pub const UNKNOWN_TOKEN: u64 = 23;
+
 pub fn accepted(value: u64) -> Answer
     ensures { λ r. ⌜ r ≡ accepted value ⌝ }
 {
