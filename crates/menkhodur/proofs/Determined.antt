@@ -65,6 +65,10 @@ use Rattle.menkhodur.proofs.menkhodur_roll_write.Reads as menkhodur-rol
 use Rattle.menkhodur.proofs.menkhodur_roll_write.Kinds as menkhodur-roll-write·k
 use Rattle.menkhodur.proofs.menkhodur_roll_read.Reads as menkhodur-roll-read
 use Rattle.menkhodur.proofs.menkhodur_roll_read.Kinds as menkhodur-roll-read·k
+use Rattle.menkhodur.proofs.menkhodur_pgn_check.Reads as menkhodur-pgn-check
+use Rattle.menkhodur.proofs.menkhodur_pgn_check.Kinds as menkhodur-pgn-check·k
+use Rattle.menkhodur.proofs.menkhodur_pgn_next.Reads as menkhodur-pgn-next
+use Rattle.menkhodur.proofs.menkhodur_pgn_next.Kinds as menkhodur-pgn-next·k
 
 pub menkhodur-version-answer : OneAnswer menkhodur-version·k.ps menkhodur-version·k.r menkhodur-version.Learnt
 menkhodur-version-answer κs a x y e f p q = p ∙ sym q
@@ -209,3 +213,9 @@ menkhodur-roll-read-answer κs a x y e f p q = p .0 ∙ sym (q .0)
 
 pub menkhodur-roll-read-acts : OnePart menkhodur-roll-read·k.ps menkhodur-roll-read·k.r (λ κs x e. now (e .1 .0)) menkhodur-roll-read.Learnt
 menkhodur-roll-read-acts κs a x y e f p q = p .1 ∙ sym (q .1)
+
+pub menkhodur-pgn-check-answer : OneAnswer menkhodur-pgn-check·k.ps menkhodur-pgn-check·k.r menkhodur-pgn-check.Learnt
+menkhodur-pgn-check-answer κs a x y e f p q = p ∙ sym q
+
+pub menkhodur-pgn-next-answer : OneAnswer menkhodur-pgn-next·k.ps menkhodur-pgn-next·k.r menkhodur-pgn-next.Learnt
+menkhodur-pgn-next-answer κs a x y e f p q = p ∙ sym q

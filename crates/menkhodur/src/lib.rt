@@ -5,6 +5,8 @@ use fen_text::Fen;
 use game_rules::Counts;
 use roll_text::Roll;
 use laws::Ruled;
+use pgn_text::PgnCount;
+use pgn_text::PgnMove;
 use square::Answer;
 use square::Placed;
 ghost use mathlib.Core.Path.{_≡_};
@@ -25,6 +27,7 @@ ghost use Rattle.game_rules.specs.Limits.{limits};
 ghost use Rattle.game_rules.specs.Rules.{makeMove, offerDraw, acceptDraw, declareDraw, resign};
 ghost use Rattle.game_rules.specs.Calls.{callAnswer, counts, countsAfter, actionsAfter, positionsAfter, startAnswer, positionsBegun, resultAnswer, claimAnswer};
 ghost use Rattle.laws.specs.Ruling.{rulingAnswer, lawsAnswer};
+ghost use Rattle.pgn_text.specs.Walk.{check, next};
 ghost use Rattle.roll_text.specs.Calls.{writeCheck, gameText, judged, rollAnswer, rollOver};
 
 #[no_mangle]
@@ -299,4 +302,18 @@ pub extern "C" fn menkhodur_roll_read(roll: &[u8], acts: &mut [u8]) -> Roll
     ensures bytes { λ r. ⌜ now (acts .exit) ≡ rollOver (judged limits (now (roll .entry)) (length (now (acts .entry)))) (now (acts .entry)) ⌝ }
 {
     roll_reader::read(roll, acts)
+}
+
+#[no_mangle]
+pub extern "C" fn menkhodur_pgn_check(text: &[u8]) -> PgnCount
+    ensures { λ r. ⌜ r ≡ check (now (text .entry)) ⌝ }
+{
+    pgn::check(text)
+}
+
+#[no_mangle]
+pub extern "C" fn menkhodur_pgn_next(text: &[u8], offset: u64, level: u64) -> PgnMove
+    ensures { λ r. ⌜ r ≡ next (now (text .entry)) offset level ⌝ }
+{
+    pgn::next(text, offset, level)
 }

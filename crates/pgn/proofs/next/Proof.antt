@@ -1,0 +1,73 @@
+use borrow.Author.Needs.{needs}
+use mathlib.Core.Path.{sym, ap, _∙_}
+use native.Mathlib.Omega.{arith}
+use lib.ListN.{drop, replicate, length-replicate}
+use borrow.Author.Tests.{lt-ltb, le-ltb}
+use Rattle.pgn_text.specs.Walk.{next, first, walk, walkFrom}
+use Rattle.pgn.specs.Walkers.{moveOf}
+use Rattle.pgn.proofs.Walkers.{first-of, near-told}
+use Rattle.pgn.proofs.next.Statement.{statement}
+use Rattle.pgn.proofs.next.Tie as tie
+
+no-move-requires : tie.Need-no-move-requires
+no-move-requires c κs = search needs
+
+returns : tie.Need-returns
+unfolding next walkFrom first
+returns c = simp (lt-ltb _ _ (c .before .if1 .taken), c .no-move .ensures)
+
+no-move-requires-2 : tie.Need-no-move-requires-2
+no-move-requires-2 c κs = search needs
+
+returns-2 : tie.Need-returns-2
+unfolding next walkFrom first
+returns-2 c = simp (le-ltb _ _ (c .before .before .if1 .left), lt-ltb _ _ (c .before .if2 .taken), c .no-move2 .ensures)
+
+near-requires : tie.Need-near-requires
+near-requires c κs = search needs
+
+add-move-at : tie.Need-add-move-at
+add-move-at c = omega (arith, c .before .near .ensures (c .if3 .taken) .0)
+
+move-at-requires : tie.Need-move-at-requires
+move-at-requires c κs = search needs
+
+returns-3 : tie.Need-returns-3
+unfolding next walkFrom moveOf
+returns-3 c =
+    let a = c .before .before .before .before .before .before .args in
+    let os = replicate (a .level) (a .offset) in
+    c .move-at .ensures ∙ sym
+        (ap moveOf (near-told (a .text .now) (a .level) (a .offset) _ os (length-replicate (a .level) (a .offset)) (c .before .if3 .taken)
+        (c .before .before .near .ensures))) ∙ first-of 0 (walk 0 (a .offset) os (drop (a .offset) (a .text .now)))
+        ∙ simp (le-ltb _ _ (c .before .before .before .before .if1 .left), le-ltb _ _ (c .before .before .before .if2 .left))
+
+outward-requires : tie.Need-outward-requires
+outward-requires c κs = search needs
+
+move-of-requires : tie.Need-move-of-requires
+move-of-requires c κs = search needs
+
+returns-4 : tie.Need-returns-4
+unfolding next walkFrom
+returns-4 c =
+    let a = c .before .before .before .before .before .before .before .args in
+    let os = replicate (a .level) (a .offset) in
+    c .move-of .ensures ∙ ap moveOf (c .before .outward .ensures) ∙ first-of 0 (walk 0 (a .offset) os (drop (a .offset) (a .text .now)))
+        ∙ simp (le-ltb _ _ (c .before .before .before .before .before .if1 .left), le-ltb _ _ (c .before .before .before .before .if2 .left))
+
+pub next-spec : {M : Type 1} → statement M
+next-spec =
+    tie.close
+    (tie.spec
+    no-move-requires
+    returns
+    no-move-requires-2
+    returns-2
+    near-requires
+    add-move-at
+    move-at-requires
+    returns-3
+    outward-requires
+    move-of-requires
+    returns-4)

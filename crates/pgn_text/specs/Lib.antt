@@ -1,0 +1,5 @@
+pub mod Bytes
+pub mod Token
+pub mod Walk
+pub mod Promises
+pub mod AtSmallest
