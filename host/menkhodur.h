@@ -1,7 +1,7 @@
 /* The host's side of target/staticlib/libmenkhodur.a, for C (from C99) and C++ (from C++11).
  *
  * Numbers, records, moves, logs and texts are those of docs/papers/01-scope.md ("document 01"), rolls, the refusals of FEN texts, the
- * offsets in texts, the ruling of the Laws, the standard's form of SAN and pages of FENs those of docs/papers/02-change-requests.md
+ * offsets in texts, the ruling of the Laws, the standard's form of SAN, pages of FENs and PGN move text those of docs/papers/02-change-requests.md
  * ("document 02"); the names and the order of the parameters are those of docs/papers/HOST-ABI.md. tools/abi compares them, and the
  * constants below, with the crates.
  *
@@ -59,7 +59,10 @@ enum {
     MENKHODUR_BAD_ROLL = 17,        /* no roll, or bytes for one that are no action */
     MENKHODUR_TOO_FEW_TOKENS = 18,  /* in a FEN text: fewer than four */
     MENKHODUR_BAD_PLACEMENT = 19,   /* in a FEN text: a byte of the first token that is none of a placement */
-    MENKHODUR_BAD_SIDE = 20         /* in a FEN text: a second token that is no side to move */
+    MENKHODUR_BAD_SIDE = 20,        /* in a FEN text: a second token that is no side to move */
+    MENKHODUR_LEFT_OPEN = 21,       /* in PGN move text: a comment or bracket left open */
+    MENKHODUR_TOO_DEEP = 22,        /* in PGN move text: brackets deeper than 8, or a place that is */
+    MENKHODUR_UNKNOWN_TOKEN = 23    /* in PGN move text: also a result in brackets, a stray closing bracket, an offset past the text */
 };
 
 /* Results of a game: the order of `GameResult`, 0 for none. */
@@ -88,7 +91,8 @@ enum {
     MENKHODUR_MAX_MOVES = 1024,
     MENKHODUR_LONGEST_LIST = 255,
     MENKHODUR_LAST_MOVE = 28671,
-    MENKHODUR_CLAIM_COUNT = 100 /* moves of either side, fifty of each, from which on a count lets a draw be claimed */
+    MENKHODUR_CLAIM_COUNT = 100, /* moves of either side, fifty of each, from which on a count lets a draw be claimed */
+    MENKHODUR_DEEPEST_LEVEL = 8  /* of variations in PGN move text */
 };
 
 /* Colours: the side to move, and who offers or resigns. */
@@ -231,6 +235,17 @@ typedef struct {
     uint64_t claim;      /* MENKHODUR_CLAIM_.. by `count` and `equals`: what menkhodur_game_declare_draw asks for */
     uint64_t laws_claim; /* MENKHODUR_CLAIM_.. by `laws_count` and `equals` */
 } menkhodur_ruling;
+/* PGN move text. `offset` is the place in the text of what is wrong, and 0 of number 0. A refused check has 0 moves; where there is no
+ * move, `found`, `start`, `length` and `level` are 0. */
+typedef struct { uint64_t number; uint64_t offset; uint64_t moves; } menkhodur_pgn_count;
+typedef struct {
+    uint64_t number;
+    uint64_t offset;
+    uint64_t found;  /* 1 if there is a move, else 0 */
+    uint64_t start;  /* the move is text[start .. start + length); the next place is start + length at the same level */
+    uint64_t length;
+    uint64_t level;  /* 0 outside brackets, 1 to 8 inside */
+} menkhodur_pgn_move;
 
 #if defined(__cplusplus)
 #define MENKHODUR_ASSERT(fact, text) static_assert(fact, text)
@@ -246,6 +261,8 @@ MENKHODUR_ASSERT(offsetof(menkhodur_fen, board) == 16 && sizeof(menkhodur_fen) =
 MENKHODUR_ASSERT(sizeof(menkhodur_counts) == 24, "a number and two counts");
 MENKHODUR_ASSERT(offsetof(menkhodur_roll, board) == 16 && sizeof(menkhodur_roll) == 88, "two numbers and a board, filled up to 8 bytes");
 MENKHODUR_ASSERT(sizeof(menkhodur_ruling) == 64, "eight numbers");
+MENKHODUR_ASSERT(sizeof(menkhodur_pgn_count) == 24, "three numbers");
+MENKHODUR_ASSERT(sizeof(menkhodur_pgn_move) == 48, "six numbers");
 MENKHODUR_ASSERT(sizeof(size_t) == 8, "lengths have 64 bits");
 #undef MENKHODUR_ASSERT
 #endif
@@ -459,6 +476,26 @@ menkhodur_answer menkhodur_roll_write(menkhodur_board b, const uint8_t *actions,
  * groups, or has more than five, before its size is judged; a code is no action's; a move's number is over 28,671. The roll is left
  * alone. */
 menkhodur_roll menkhodur_roll_read(const uint8_t *roll, size_t length, uint8_t *actions, size_t actions_length);
+
+/* ---- PGN move text ------------------------------------------------------------------------------------------------------------ */
+/* The moves of a game as PGN has them, without tag pairs (document 02, order 8). A text is made of move numbers (digits, then any
+ * periods), moves, brace comments, semicolon comments to LF or the end, `$` and digits, results (`1-0`, `0-1`, `1/2-1/2`, `*`, tried
+ * before numbers, with no look at what follows) and variations in round brackets, down to 8 levels; space, tab, CR and LF are skipped. A
+ * move starts with a to h, N, B, R, Q, K or O and runs on over letters, digits and `+#=-!?`; what it says is not asked (that is
+ * menkhodur_san_read_standard's). A result outside brackets ends the walk, whatever follows it.
+ * Refused with the first of these from the left, and its place: 22: a bracket that would open the ninth level; 23: anything else that is
+ * no token, a result in brackets, a stray closing bracket. If the end is reached: 21, with the place of the innermost comment or bracket
+ * that is left open. */
+
+/* 0: the whole text is well formed, and `moves` is the number of its moves, those of variations among them. Refused: 21, 22, 23. */
+menkhodur_pgn_count menkhodur_pgn_check(const uint8_t *text, size_t length);
+
+/* The next move from a place, an offset and a level, as if the text began there at that level: 0 with `found` 1, or with `found` 0 if none
+ * is left. Nothing past the end of the move is looked at. From the start at level 0, and then from the end of each move at its level, it
+ * gives the moves that menkhodur_pgn_check counts, in text order. Refused: 22 with the offset, if the level is over 8; 23 with the offset,
+ * if that is past the text (an offset equal to the length is not); else 21, 22, 23 for what is met before a move. A bracket that was opened
+ * before the place and is left open has the place's offset. Any 64-bit offset and level are judged as they are. */
+menkhodur_pgn_move menkhodur_pgn_next(const uint8_t *text, size_t length, uint64_t offset, uint64_t level);
 
 #ifdef __cplusplus
 }

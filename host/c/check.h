@@ -89,6 +89,7 @@ void check_games(void);
 void check_rulings(void);
 void check_nulls(void);
 void check_rolls(void);
+void check_pgn(void);
 void check_layout(void);
 void check_overlaps(void);
 void check_threads(void);

@@ -10,7 +10,7 @@
 
 #define N(number) (UINT32_C(1) << (number))
 
-enum { FUNCTIONS = 31 };
+enum { FUNCTIONS = 33 };
 
 /* Document 01, "Order of checks", and document 02: all that each function can answer. The version is no answer. */
 static const uint32_t range = N(0) | N(5);
@@ -51,6 +51,8 @@ static bool report_all(void)
         { "menkhodur_game_ruling", query },
         { "menkhodur_roll_write", N(0) | N(5) | N(7) | N(13) | N(16) | N(17) },
         { "menkhodur_roll_read", N(0) | N(5) | N(13) | N(16) | N(17) },
+        { "menkhodur_pgn_check", N(0) | N(21) | N(22) | N(23) },
+        { "menkhodur_pgn_next", N(0) | N(21) | N(22) | N(23) },
     };
     return report(all, FUNCTIONS);
 }
@@ -74,6 +76,7 @@ int main(int argc, char **argv)
     check_games();
     check_rulings();
     check_rolls();
+    check_pgn();
     check_nulls();
     check_layout();
     check_overlaps();

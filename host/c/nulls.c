@@ -86,6 +86,20 @@ static void check_rooms(void)
     expect_answer(MENKHODUR_OUTPUT_TOO_SHORT, 3, menkhodur_san_name_standard(knight(), one_move, 1, 1153, NULL, 0));
 }
 
+/* No text is well formed, has no move, and ends where it begins. */
+static void check_move_text_of_null(void)
+{
+    about("menkhodur_pgn_check", "NULL text");
+    menkhodur_pgn_count count = menkhodur_pgn_check(NULL, 0);
+    expect("number", MENKHODUR_ACCEPTED, count.number);
+    expect("moves", 0, count.moves);
+    about("menkhodur_pgn_next", "NULL text");
+    expect("number", MENKHODUR_ACCEPTED, menkhodur_pgn_next(NULL, 0, 0, 0).number);
+    expect("found", 0, menkhodur_pgn_next(NULL, 0, 0, 0).found);
+    expect("number", MENKHODUR_LEFT_OPEN, menkhodur_pgn_next(NULL, 0, 0, 1).number);
+    expect("number", MENKHODUR_UNKNOWN_TOKEN, menkhodur_pgn_next(NULL, 0, 1, 0).number);
+}
+
 /* A roll, the part that its actions go to or come from, and the room for it. */
 static void check_rolls_of_null(void)
 {
@@ -148,6 +162,7 @@ void check_nulls(void)
     check_pages();
     check_rooms();
     check_rolls_of_null();
+    check_move_text_of_null();
     check_empty_lists();
     check_part(true, false);
     check_part(false, true);

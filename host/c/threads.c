@@ -118,6 +118,20 @@ static unsigned wrong_rolls(void)
     return wrong + (memcmp(actions, g->actions.bytes, MENKHODUR_ACTION_SIZE * g->action_count) != 0);
 }
 
+/* A move text that all read, counted and walked. */
+static unsigned wrong_move_text(void)
+{
+    static const uint8_t text[] = "1. e4 e5 (1... c5 2. Nf3 {open}) 2. Nf3 *";
+    menkhodur_pgn_count count = menkhodur_pgn_check(text, sizeof text - 1);
+    menkhodur_pgn_move m = { .found = 1 };
+    uint64_t walked = 0;
+    while (m.found && walked < 9) {
+        m = menkhodur_pgn_next(text, sizeof text - 1, m.start + m.length, m.level);
+        walked += m.found;
+    }
+    return count.number != MENKHODUR_ACCEPTED || count.moves != 5 || walked != 5 || m.number != MENKHODUR_ACCEPTED;
+}
+
 static unsigned wrong_counts(struct game *g, menkhodur_counts c, uint64_t number, uint64_t actions, uint64_t moves)
 {
     g->action_count = c.actions;
@@ -149,7 +163,7 @@ static void *work(void *worker)
     struct worker *w = worker;
     for (unsigned i = 0; i < (exact ? ROUNDS_EXACT : ROUNDS); i++) {
         w->wrong += wrong_numbers() + wrong_texts() + wrong_standard_texts() + wrong_queries(&log_of_all, MENKHODUR_GOES_ON, 1);
-        w->wrong += wrong_pages() + wrong_rolls() + wrong_own(&w->own);
+        w->wrong += wrong_pages() + wrong_rolls() + wrong_move_text() + wrong_own(&w->own);
     }
     return NULL;
 }

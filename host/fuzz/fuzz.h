@@ -48,6 +48,8 @@ TWIN_OF(menkhodur_game_can_claim_by_laws);
 TWIN_OF(menkhodur_game_ruling);
 TWIN_OF(menkhodur_roll_write);
 TWIN_OF(menkhodur_roll_read);
+TWIN_OF(menkhodur_pgn_check);
+TWIN_OF(menkhodur_pgn_next);
 #endif
 
 /* ---- Violations (lent.c) ---- */
@@ -122,6 +124,7 @@ step call_fen_read, call_fen_write, call_move_read, call_move_write, call_san_re
 step call_san_read_standard, call_san_name_standard, call_fen_page;
 step call_start, call_log, call_round, tamper, garbage, long_log, log_to_registers;
 step call_roll_write, call_roll_read, add_actions, roll_of_game, poke_roll, insert_in_roll, cut_roll;
+step call_pgn_check, call_pgn_next, walk_pgn, put_token;
 
 /* The texts that the register can be set to. */
 void text_of_board(struct input *in);
@@ -134,5 +137,6 @@ void san_begin(void);
 void log_begin(void);
 void log_end(void);
 void rolls_begin(void);
+void pgn_begin(void);
 
 #endif

@@ -242,6 +242,7 @@ static step *const steps[] = {
     call_move_write, call_san_read, call_san_name, call_start, call_log, call_log, call_log, call_round, tamper, garbage, long_log,
     add_row, stretch_text, call_roll_write, call_roll_read, add_actions, roll_of_game, poke_roll, insert_in_roll, cut_roll,
     call_san_read_standard, call_san_name_standard, standard_text_of_move, call_fen_page,
+    call_pgn_check, call_pgn_next, walk_pgn, put_token,
 };
 
 int LLVMFuzzerTestOneInput(const uint8_t *data, size_t size);
@@ -258,6 +259,7 @@ int LLVMFuzzerTestOneInput(const uint8_t *data, size_t size)
     san_begin();
     log_begin();
     rolls_begin();
+    pgn_begin();
     for (unsigned i = 0; in.at < in.end && i < MOST_STEPS; i++) steps[take(&in) % (sizeof steps / sizeof *steps)](&in);
     log_end();
     return 0;

@@ -82,6 +82,21 @@ pub enum Error {
         /// The place in the text where that token starts.
         offset: usize,
     },
+    /// 21: a comment or a bracket of the PGN move text is left open.
+    LeftOpen {
+        /// The place of the innermost in the text; the place from which was read, for a bracket opened before it.
+        offset: usize,
+    },
+    /// 22: brackets of the PGN move text go deeper than 8 levels, or the level of a place is over 8.
+    TooDeep {
+        /// The place of the bracket that would open the ninth level, or the place's own offset.
+        offset: usize,
+    },
+    /// 23: the PGN move text has an unknown token, a result in brackets or a stray closing bracket, or an offset is past it.
+    UnknownToken {
+        /// Where that stands, or the offset itself.
+        offset: usize,
+    },
     /// Any other number: the archive is of a version that this package does not know.
     Unknown(u64),
 }
@@ -117,11 +132,14 @@ impl Error {
             Error::TooFewTokens { .. } => 18,
             Error::BadPlacement { .. } => 19,
             Error::BadSide { .. } => 20,
+            Error::LeftOpen { .. } => 21,
+            Error::TooDeep { .. } => 22,
+            Error::UnknownToken { .. } => 23,
             Error::Unknown(number) => number,
         }
     }
 
-    /// The place in the text of what is wrong with it, for the numbers that come with one: 2, 3, 18, 19 and 20.
+    /// The place in the text of what is wrong with it, for the numbers that come with one: 2, 3 and 18 to 23.
     ///
     /// ```
     /// use menkhodur::{Board, Error, Move};
@@ -135,6 +153,7 @@ impl Error {
         match *self {
             Error::InvalidSquare { offset } | Error::InvalidUciMove { offset } => Some(offset),
             Error::TooFewTokens { offset } | Error::BadPlacement { offset } | Error::BadSide { offset } => Some(offset),
+            Error::LeftOpen { offset } | Error::TooDeep { offset } | Error::UnknownToken { offset } => Some(offset),
             _ => None,
         }
     }
@@ -142,7 +161,8 @@ impl Error {
     /// `detail` is what an answer tells of a refusal besides its number: the length needed, or the place in the text.
     pub(crate) fn judge(number: u64, detail: u64) -> Result<(), Error> {
         // No text that is written has more than 85 bytes and no roll more than 5,190, and a place is at most the length of a text that was
-        // lent, so nothing is cut here on any target.
+        // lent, or an offset that was a `usize` when it was handed in, so nothing is cut here on any target with 64 bits, the only ones that
+        // the archive is for.
         let detail = detail as usize;
         Err(match number {
             0 => return Ok(()),
@@ -165,6 +185,9 @@ impl Error {
             18 => Error::TooFewTokens { offset: detail },
             19 => Error::BadPlacement { offset: detail },
             20 => Error::BadSide { offset: detail },
+            21 => Error::LeftOpen { offset: detail },
+            22 => Error::TooDeep { offset: detail },
+            23 => Error::UnknownToken { offset: detail },
             other => Error::Unknown(other),
         })
     }
@@ -200,6 +223,9 @@ impl Error {
             Error::TooFewTokens { .. } => "the FEN text ends before its fourth token",
             Error::BadPlacement { .. } => "the placement of the FEN text has something other than pieces, digits from 1 to 8 and slashes",
             Error::BadSide { .. } => "the side to move of the FEN text is not w, W, b or B",
+            Error::LeftOpen { .. } => "a comment or a bracket of the move text is left open",
+            Error::TooDeep { .. } => "the brackets of the move text go deeper than 8 levels",
+            Error::UnknownToken { .. } => "the move text has something that is no token of it, or not there",
             Error::Unknown(_) => "the archive refused for a reason that this package does not know",
         }
     }
@@ -240,7 +266,7 @@ mod tests {
     #[test]
     fn every_number_has_its_own_variant_and_text() {
         let mut texts = HashSet::new();
-        for number in 2..=20 {
+        for number in 2..=23 {
             let error = Error::judge(number, 85).unwrap_err();
             assert_eq!(error.number(), number);
             assert!(!matches!(error, Error::Unknown(_)));
@@ -254,7 +280,7 @@ mod tests {
     fn accepted_is_no_error_and_an_unknown_number_is_kept() {
         assert_eq!(Error::judge(0, 7), Ok(()));
         // 1 was that of every refused FEN before version 3.
-        for number in [1, 21, 24, u64::MAX] {
+        for number in [1, 24, 25, u64::MAX] {
             assert_eq!(Error::judge(number, 7), Err(Error::Unknown(number)));
             assert_eq!((Error::Unknown(number).number(), Error::Unknown(number).offset()), (number, None));
         }
@@ -277,8 +303,8 @@ mod tests {
 
     #[test]
     fn the_place_in_the_text_is_kept_and_told() {
-        for number in 2..=20 {
-            let (error, has) = (Error::judge(number, 85).unwrap_err(), [2, 3, 18, 19, 20].contains(&number));
+        for number in 2..=23 {
+            let (error, has) = (Error::judge(number, 85).unwrap_err(), [2, 3, 18, 19, 20, 21, 22, 23].contains(&number));
             assert_eq!(error.offset(), has.then_some(85));
             assert_eq!(error.to_string().contains(", at byte 85 (answer "), has, "{error}");
         }
@@ -288,6 +314,9 @@ mod tests {
         assert_eq!(words(18, 7), "the FEN text ends before its fourth token, at byte 7 (answer 18)");
         assert!(words(19, 0).ends_with("has something other than pieces, digits from 1 to 8 and slashes, at byte 0 (answer 19)"));
         assert_eq!(words(20, 16), "the side to move of the FEN text is not w, W, b or B, at byte 16 (answer 20)");
+        assert_eq!(words(21, 4), "a comment or a bracket of the move text is left open, at byte 4 (answer 21)");
+        assert_eq!(words(22, 8), "the brackets of the move text go deeper than 8 levels, at byte 8 (answer 22)");
+        assert_eq!(words(23, 3), "the move text has something that is no token of it, or not there, at byte 3 (answer 23)");
     }
 
     #[test]

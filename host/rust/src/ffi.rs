@@ -53,6 +53,25 @@ pub(crate) struct Counts {
 
 #[repr(C)]
 #[derive(Clone, Copy)]
+pub(crate) struct PgnCount {
+    pub(crate) number: u64,
+    pub(crate) offset: u64,
+    pub(crate) moves: u64,
+}
+
+#[repr(C)]
+#[derive(Clone, Copy)]
+pub(crate) struct PgnMove {
+    pub(crate) number: u64,
+    pub(crate) offset: u64,
+    pub(crate) found: u64,
+    pub(crate) start: u64,
+    pub(crate) length: u64,
+    pub(crate) level: u64,
+}
+
+#[repr(C)]
+#[derive(Clone, Copy)]
 pub(crate) struct Roll {
     pub(crate) number: u64,
     pub(crate) actions: u64,
@@ -275,6 +294,9 @@ unsafe extern "C" {
         room: usize,
     ) -> Answer;
     pub(crate) fn menkhodur_roll_read(roll: *const u8, length: usize, actions: *mut u8, actions_length: usize) -> Roll;
+
+    pub(crate) fn menkhodur_pgn_check(text: *const u8, length: usize) -> PgnCount;
+    pub(crate) fn menkhodur_pgn_next(text: *const u8, length: usize, offset: u64, level: u64) -> PgnMove;
 }
 
 #[cfg(test)]

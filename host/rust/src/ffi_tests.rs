@@ -51,6 +51,16 @@ fn structs_lie_as_the_header_has_them() {
 }
 
 #[test]
+fn the_answers_of_move_text_are_in_the_headers_order() {
+    assert_eq!((size_of::<PgnCount>(), align_of::<PgnCount>()), (24, 8));
+    assert_eq!((offset_of!(PgnCount, number), offset_of!(PgnCount, offset), offset_of!(PgnCount, moves)), (0, 8, 16));
+    assert_eq!((size_of::<PgnMove>(), align_of::<PgnMove>()), (48, 8));
+    let front = [offset_of!(PgnMove, number), offset_of!(PgnMove, offset), offset_of!(PgnMove, found)];
+    let back = [offset_of!(PgnMove, start), offset_of!(PgnMove, length), offset_of!(PgnMove, level)];
+    assert_eq!((front, back), ([0, 8, 16], [24, 32, 40]));
+}
+
+#[test]
 fn a_ruling_is_eight_numbers_in_the_headers_order() {
     assert_eq!((size_of::<Ruled>(), align_of::<Ruled>()), (64, 8));
     let front = [offset_of!(Ruled, number), offset_of!(Ruled, count), offset_of!(Ruled, laws_count), offset_of!(Ruled, equals)];

@@ -35,6 +35,8 @@ pub const MAX_MOVES: usize = 1_024;
 pub const MAX_LIST: usize = 255;
 /// The moves of either side from which on a count lets a draw be claimed: fifty of each.
 pub const CLAIM_COUNT: usize = 100;
+/// The most levels of variations in PGN move text.
+pub const DEEPEST_LEVEL: usize = 8;
 /// The length that the part of the actions must have.
 pub const ACTIONS_PART: usize = MAX_ACTIONS * ACTION_BYTES;
 /// The length that the part of the positions must have: a start and one after each move.
@@ -65,6 +67,17 @@ pub struct Given<'a> {
     pub in_check: u8,
     /// The numbers of the moves that can be made.
     pub list: &'a [u16],
+}
+
+/// A move of PGN move text, as [`pgn_next`] gives it.
+#[derive(Clone, Copy, Debug, PartialEq, Eq, Hash)]
+pub struct MovePart {
+    /// Where the move starts in the text.
+    pub start: usize,
+    /// How many bytes it has: it ends at `start + length`, which with its level is the place from which to go on.
+    pub length: usize,
+    /// 0 outside brackets, 1 to 8 inside.
+    pub level: u64,
 }
 
 /// What a roll says besides the actions themselves, as [`roll_read`] gives it.
@@ -556,6 +569,40 @@ pub fn roll_read(roll: &[u8], actions: &mut [u8]) -> Result<Rolled, Error> {
     // SAFETY: each pointer and length are those of one slice. The actions, all that is written, are borrowed mutably for the call, so that
     // the roll cannot lie in them.
     unsafe { ffi::menkhodur_roll_read(roll.as_ptr(), roll.len(), actions.as_mut_ptr(), actions.len()) }.judged()
+}
+
+/// Checks PGN move text (document 02, order 8) and counts its moves, those of variations among them. Refused, the first from the left: 22, 23;
+/// at the end 21.
+///
+/// ```
+/// use menkhodur::{Error, lent};
+///
+/// assert_eq!(lent::pgn_check(b"1. e4 (1. d4 d5) e5 {good} 1/2-1/2"), Ok(4));
+/// assert_eq!(lent::pgn_check(b"1. e4 )"), Err(Error::UnknownToken { offset: 6 }));
+/// ```
+pub fn pgn_check(text: &[u8]) -> Result<u64, Error> {
+    // SAFETY: the pointer and the length are those of one slice, which is only read.
+    let count = unsafe { ffi::menkhodur_pgn_check(text.as_ptr(), text.len()) };
+    Error::judge(count.number, count.offset)?;
+    Ok(count.moves)
+}
+
+/// The next move of PGN move text from a place, or that none is left. Refused: 22 for a level over 8, 23 for an offset past the text, then as
+/// [`pgn_check`] for what is met before a move.
+///
+/// ```
+/// use menkhodur::lent::{self, MovePart};
+///
+/// let text = b"e4 (d4) e5";
+/// assert_eq!(lent::pgn_next(text, 2, 0), Ok(Some(MovePart { start: 4, length: 2, level: 1 })));
+/// assert_eq!(lent::pgn_next(text, 10, 0), Ok(None));
+/// ```
+pub fn pgn_next(text: &[u8], offset: u64, level: u64) -> Result<Option<MovePart>, Error> {
+    // SAFETY: the pointer and the length are those of one slice, which is only read.
+    let next = unsafe { ffi::menkhodur_pgn_next(text.as_ptr(), text.len(), offset, level) };
+    Error::judge(next.number, next.offset)?;
+    // A move lies in the text, whose length is a `usize`.
+    Ok((next.found == 1).then_some(MovePart { start: next.start as usize, length: next.length as usize, level: next.level }))
 }
 
 // The contracts bound the values: squares to 63, rights to 3, results to 7, moves to 28,671, lengths to 5,190,

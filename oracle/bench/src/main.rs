@@ -7,7 +7,9 @@
 mod keys;
 mod laws;
 mod page;
+mod pgn;
 mod plain;
+mod plain_pgn;
 mod rolls;
 
 use both::abi::{self, Answer, Log, Placed, Position, Record};
@@ -244,7 +246,7 @@ fn lines(what: &str, places: &[Place], times: fn(&[&str]) -> Result<(usize, f64,
     }
 }
 
-const PARTS: [&str; 8] = ["fen", "page", "coordinates", "san", "log", "rolls", "keys", "cli"];
+const PARTS: [&str; 9] = ["fen", "page", "coordinates", "san", "log", "rolls", "pgn", "keys", "cli"];
 
 /// The parts that were named, or all.
 fn parts() -> Vec<String> {
@@ -273,6 +275,7 @@ fn main() {
             "san" => san(&places),
             "log" => games(&mut random),
             "rolls" => rolls::rolls(&mut random),
+            "pgn" => pgn::pgn(&mut random),
             "keys" => lines("keys, a line of a file", &places, keys::times),
             _ => {
                 lines("menkhodur keys, a line of a file", &places, keys::menkhodur_times);

@@ -61,6 +61,27 @@ pub struct Ruling {
     pub laws_claim: u64,
 }
 
+/// What the check of PGN move text answers.
+#[repr(C)]
+#[derive(Clone, Copy, Debug, PartialEq, Eq)]
+pub struct PgnCount {
+    pub number: u64,
+    pub offset: u64,
+    pub moves: u64,
+}
+
+/// What the call for the next move answers.
+#[repr(C)]
+#[derive(Clone, Copy, Debug, PartialEq, Eq)]
+pub struct PgnMove {
+    pub number: u64,
+    pub offset: u64,
+    pub found: u64,
+    pub start: u64,
+    pub length: u64,
+    pub level: u64,
+}
+
 /// What the reader of rolls answers: how many actions it wrote, and the start.
 #[repr(C)]
 #[derive(Clone, Copy, PartialEq, Eq, Debug)]
@@ -122,6 +143,8 @@ extern "C" {
 
     fn menkhodur_roll_write(b: Record, a: *const u8, al: usize, n: u64, out: *mut u8, room: usize) -> Answer;
     fn menkhodur_roll_read(roll: *const u8, length: usize, a: *mut u8, al: usize) -> Roll;
+    fn menkhodur_pgn_check(text: *const u8, length: usize) -> PgnCount;
+    fn menkhodur_pgn_next(text: *const u8, length: usize, offset: u64, level: u64) -> PgnMove;
 }
 
 pub fn make_square(rank: u8, file: u8) -> Answer {
@@ -203,6 +226,14 @@ pub fn roll_write(b: Record, actions: &[u8], count: u64, out: &mut [u8]) -> Answ
 
 pub fn roll_read(roll: &[u8], actions: &mut [u8]) -> Roll {
     unsafe { menkhodur_roll_read(roll.as_ptr(), roll.len(), actions.as_mut_ptr(), actions.len()) }
+}
+
+pub fn pgn_check(text: &[u8]) -> PgnCount {
+    unsafe { menkhodur_pgn_check(text.as_ptr(), text.len()) }
+}
+
+pub fn pgn_next(text: &[u8], offset: u64, level: u64) -> PgnMove {
+    unsafe { menkhodur_pgn_next(text.as_ptr(), text.len(), offset, level) }
 }
 
 /// What stands on the board, as the host gives it to the log.

@@ -39,6 +39,42 @@ pub fn fen_read(text: &[u8]) -> Fen {
     fen
 }
 
+/// Of PGN move text: `*` in brackets ends the walk; a bracket in a comment counts as left open; the ninth level is not told where
+/// a move stands before it; the outermost open bracket is told, not the innermost.
+pub fn pgn_check(text: &[u8]) -> PgnCount {
+    let count = real::pgn_check(text);
+    let at = |byte: u8| text.iter().position(|b| *b == byte).unwrap_or(0);
+    if planted("pgn-result") && count.number == 23 && text[count.offset as usize] == b'*' {
+        return PgnCount { number: 0, offset: 0, moves: 0 };
+    }
+    if planted("pgn-comment") && count.number == 0 && text.windows(2).any(|two| two == b"{(") && count.moves == 1 {
+        return PgnCount { number: 21, offset: at(b'{') as u64 + 1, moves: 0 };
+    }
+    if planted("pgn-ninth") && count.number == 22 && text.contains(&b'N') {
+        return PgnCount { number: 21, ..count };
+    }
+    if planted("pgn-outermost") && count.number == 21 && text[count.offset as usize] == b'(' {
+        return PgnCount { offset: at(b'(') as u64, ..count };
+    }
+    count
+}
+
+/// An offset past the text is told before a level that is too deep; a move ends before its `=`; at level 8 a move is told at 7.
+pub fn pgn_next(text: &[u8], offset: u64, level: u64) -> PgnMove {
+    let mut next = real::pgn_next(text, offset, level);
+    if planted("pgn-place") && next.number == 22 && offset > text.len() as u64 {
+        next.number = 23;
+    }
+    if planted("pgn-short") && next.found == 1 {
+        let held = &text[next.start as usize..(next.start + next.length) as usize];
+        next.length = held.iter().position(|b| *b == b'=').unwrap_or(held.len()) as u64;
+    }
+    if planted("pgn-level") && next.level == 8 {
+        next.level = 7;
+    }
+    next
+}
+
 /// One byte behind the text is cleared.
 pub fn fen_write(b: Record, out: &mut [u8]) -> Answer {
     let answer = real::fen_write(b, out);

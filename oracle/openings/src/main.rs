@@ -8,6 +8,7 @@
 
 mod pgn;
 
+use both::abi;
 use both::games::{board_of, STARTS};
 use both::numbers::position_of;
 use chess::Board;
@@ -107,6 +108,50 @@ impl Player {
     }
 }
 
+/// The moves of a game's text outside brackets, one by one by the archive's own call, and their number by its check.
+fn walked(text: &str) -> Result<Vec<String>, String> {
+    let (bytes, mut moves) = (text.as_bytes(), vec![]);
+    let (mut offset, mut level, mut all) = (0, 0, 0);
+    loop {
+        let next = abi::pgn_next(bytes, offset, level);
+        if next.found == 0 {
+            let count = abi::pgn_check(bytes);
+            return match (next.number, count.number, count.moves) {
+                (0, 0, counted) if counted == all => Ok(moves),
+                _ => Err(format!("next ends with {:?}, check with {:?}, {} moves walked", next, count, all)),
+            };
+        }
+        let held = &text[next.start as usize..(next.start + next.length) as usize];
+        if next.level == 0 {
+            moves.push(held.to_string());
+        }
+        (offset, level, all) = (next.start + next.length, next.level, all + 1);
+    }
+}
+
+/// Each game's moves as the archive walks them, which must be those that `pgn`, a reader of words, finds.
+fn walked_games(text: &str) -> Vec<(usize, Vec<String>)> {
+    let games = pgn::games(text);
+    let walked: Vec<Vec<String>> = pgn::sections(text)
+        .iter()
+        .map(|(line, section)| {
+            walked(section).unwrap_or_else(|why| {
+                println!("differs: the move text that begins in line {}: {}", line, why);
+                exit(1);
+            })
+        })
+        .filter(|moves| !moves.is_empty())
+        .collect();
+    let words: Vec<&Vec<String>> = games.iter().map(|(_, moves)| moves).collect();
+    if walked.iter().ne(words) {
+        println!("differs: the walk finds other moves than the reader of words");
+        exit(1);
+    }
+    let moves: usize = walked.iter().map(Vec::len).sum();
+    println!("pgn: {} games, {} moves, walked as they are read by words", walked.len(), moves);
+    games.into_iter().zip(walked).map(|((line, _), moves)| (line, moves)).collect()
+}
+
 fn report(player: &Player) {
     for row in &player.tally.rows {
         println!("{:<20} {:>9} accepted {:>9} refused", row.label, row.accepted, row.refused);
@@ -130,7 +175,7 @@ fn main() {
         eprintln!("openings: {}: {}", path, why);
         exit(2);
     });
-    let games = pgn::games(&text);
+    let games = walked_games(&text);
     let mut player = Player { pair: Pair::new(), tally: Tally::default(), only_standard: 0, as_in_file: 0, otherwise: vec![] };
     let mut differ = 0;
     for (line, texts) in &games {

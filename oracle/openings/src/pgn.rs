@@ -39,6 +39,27 @@ pub fn games(text: &str) -> Vec<(usize, Vec<String>)> {
     all
 }
 
+/// The text between the tags, game by game, with the line in which it begins, comments and all. Comments that stand before a file's
+/// first tag are text too, without a move.
+pub fn sections(text: &str) -> Vec<(usize, String)> {
+    let mut all: Vec<(usize, String)> = vec![];
+    let mut inside = false;
+    for (i, line) in text.lines().enumerate() {
+        if line.starts_with('[') {
+            inside = false;
+            continue;
+        }
+        if !inside {
+            all.push((i + 1, String::new()));
+            inside = true;
+        }
+        let (_, section) = all.last_mut().expect("one was begun");
+        *section += line;
+        section.push('\n');
+    }
+    all
+}
+
 /// The moves of a random game from the initial position, by their squares, which any program that reads PGN takes.
 fn random_game(most: usize, random: &mut Random) -> Vec<String> {
     let (mut board, mut moves) = (board_of(STARTS[0]), vec![]);

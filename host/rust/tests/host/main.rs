@@ -9,6 +9,7 @@ mod load;
 mod must_use;
 mod page;
 mod paper;
+mod pgn;
 mod refused;
 mod refused_logs;
 mod rolls;
