@@ -32,7 +32,7 @@
 
 /* Rises by one with each landing that adds or changes a function. CHANGELOG.md tells what a host must change, and a struct that has
  * changed says beside it since which version it is so. */
-#define MENKHODUR_VERSION 7
+#define MENKHODUR_VERSION 8
 
 #ifdef __cplusplus
 extern "C" {
