@@ -18,8 +18,12 @@ pub const JSON: Flag = Flag { name: "json", value: None, about: "print one JSON 
 const LONGEST_KEY: usize = 85;
 const SHORTEST_KEY: usize = 25;
 
+/// Bytes of a page: few enough that its records are still near the processor when their keys are written. Pages one after the other are the page of
+/// all, which is proved.
+const PAGE: usize = 16_384;
+
 /// The most lines that a page of keys has; one with more lines makes itself room.
-const USUAL: usize = LONGEST / SHORTEST_KEY;
+const USUAL: usize = PAGE / SHORTEST_KEY;
 
 pub fn run(asked: &Asked) -> Result<Status, Stop> {
     let form = Form { check: asked.has(&CHECK), strict: asked.has(&STRICT), json: asked.has(&JSON) };
@@ -98,9 +102,14 @@ impl Lines for Keys {
     fn lines(&mut self, place: Place<'_>, text: &[u8]) -> Result<u64, Stop> {
         let before = self.tally.lines();
         let mut reader = std::mem::take(&mut self.reader);
-        let page = reader.read(text);
-        let plain = !self.form.check && !self.form.strict && !self.form.json;
-        let ended = if plain { self.plain(page) } else { self.told(page, place) };
+        let mut left = text;
+        let mut ended = Ok(());
+        while ended.is_ok() && !left.is_empty() {
+            let (front, rest) = left.split_at(page_of(left));
+            let line = place.line + (self.tally.lines() - before);
+            ended = self.page(reader.read(front), Place { line, ..place });
+            left = rest;
+        }
         self.reader = reader;
         self.progress.lines(self.tally.lines());
         ended.map(|()| self.tally.lines() - before)
@@ -115,7 +124,24 @@ impl Lines for Keys {
     }
 }
 
+/// How many bytes of a text are its next page: whole lines, as many as have place in [`PAGE`] bytes, or the first.
+fn page_of(text: &[u8]) -> usize {
+    let newline = |byte: &u8| *byte == b'\n';
+    if text.len() <= PAGE {
+        return text.len();
+    }
+    let (front, rest) = text.split_at(PAGE);
+    match front.iter().rposition(newline) {
+        Some(at) => at + 1,
+        None => rest.iter().position(newline).map_or(text.len(), |at| PAGE + at + 1),
+    }
+}
+
 impl Keys {
+    fn page(&mut self, page: Page<'_>, place: Place<'_>) -> Result<(), Stop> {
+        if self.form.check || self.form.strict || self.form.json { self.told(page, place) } else { self.plain(page) }
+    }
+
     /// As the proved program `keys`: a line a line. What the lines are is not looked at.
     fn plain(&mut self, page: Page<'_>) -> Result<(), Stop> {
         for (record, &[number, offset]) in page.records().iter().zip(page.numbers()) {

@@ -35,8 +35,8 @@ standard-rows = record {
   named-en-passant = record { answer = refl; text = refl };
   fileless = refl;
   straight-on = record { answer = refl; text = refl };
-  castling = refl;
   rook-on-e = refl;
+  castling = refl;
   rook-named = record { answer = refl; text = refl };
   no-resort = refl;
 }

@@ -44,9 +44,9 @@ pub record StandardRows : Type 0 where
   -- a pawn's `x` needs its file, also straight on
   pub fileless : Refuses straight (2788 ∷ []) "xd6"
   pub straight-on : Named straight (2787 ∷ []) 2787 "dxd6"
-  -- castling takes a check mark, and needs a king, of either colour; a listed pair twice is still taken
-  pub castling : Reads blackKing (388 ∷ 388 ∷ []) "O-O+" 388
+  -- castling needs a king, of either colour, and takes a check mark; a listed pair twice is still taken
   pub rook-on-e : Refuses rook (388 ∷ []) "O-O"
+  pub castling : Reads blackKing (388 ∷ 388 ∷ []) "O-O+" 388
   pub rook-named : Named rook (388 ∷ []) 388 "Rg1"
   -- and no last resort: document 01's namer says `O-O` here
   pub no-resort : standardNameAnswer rook (388 ∷ 388 ∷ []) 388 8 ≡ refused noName
