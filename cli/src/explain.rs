@@ -172,7 +172,8 @@ fn excerpt(text: &[u8], offset: usize) -> (String, usize) {
     (head + &tail, column)
 }
 
-fn pointed(text: &[u8], offset: usize) -> String {
+/// The text with a caret under a place.
+pub fn pointed(text: &[u8], offset: usize) -> String {
     let (shown, column) = excerpt(text, offset);
     format!("  {shown}\n  {}^\n", " ".repeat(column))
 }

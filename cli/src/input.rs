@@ -27,6 +27,10 @@ pub trait Lines {
     fn lines(&mut self, place: Place<'_>, text: &[u8]) -> Result<u64, Stop>;
     /// A line of more than `LONGEST` bytes.
     fn long(&mut self, place: Place<'_>) -> Result<(), Stop>;
+    /// The input has ended: it was read to its end, or a read failed and what was cut is dropped.
+    fn ended(&mut self, _whole: bool) -> Result<(), Stop> {
+        Ok(())
+    }
     /// The next bytes may take long: what waits goes out.
     fn flush(&mut self) -> Result<(), Stop>;
 }
@@ -80,12 +84,14 @@ fn read_input(word: &OsStr, room: &mut [u8], lines: &mut impl Lines) -> Result<b
             Err(error) => {
                 told::tell(&[&failed(word, &error)]);
                 cutter.tell_stopped(shown(word));
+                lines.ended(false)?;
                 lines.flush()?;
                 return Ok(false);
             }
         }
     }
     cutter.end(lines)?;
+    lines.ended(true)?;
     lines.flush()?;
     Ok(true)
 }

@@ -3,6 +3,7 @@
 mod completion;
 mod entry;
 mod explain;
+mod games;
 mod help;
 mod input;
 mod json;
@@ -10,6 +11,7 @@ mod keys;
 mod man;
 mod options;
 mod output;
+mod pgn;
 mod ruling;
 mod show;
 mod standard;

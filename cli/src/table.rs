@@ -2,9 +2,9 @@
 //! module of its own.
 
 use crate::options::{Argument, Command, Example, Flag, Takes};
-use crate::{completion, explain, keys, man, ruling, show};
+use crate::{completion, explain, keys, man, pgn, ruling, show};
 
-pub const ABOUT: &str = "FEN keys, explanations, rulings and stored logs";
+pub const ABOUT: &str = "FEN keys, explanations, PGN games, rulings and stored logs";
 
 pub const TEXT: &[&str] = &[
     "A chess archive files each position once, under its FEN text. Every judgement of this program, keys, numbers, offsets, names and \
@@ -87,6 +87,37 @@ pub const COMMANDS: &[Command] = &[
             about: "a rank with a pawn too few",
         }],
         run: explain::run,
+    },
+    Command {
+        name: "pgn",
+        about: "the games of PGN files, each with its moves counted, or what is wrong with its move text",
+        arguments: &[Argument {
+            name: "FILE",
+            takes: Takes::File,
+            least: 0,
+            most: None,
+            about: "games: tag pairs, then move text; standard input if none is named",
+        }],
+        flags: &[pgn::MOVES, pgn::JSON],
+        text: &[
+            "Prints for each game a line: its index, its line in the file, its number of moves and that of the moves in its variations; or its \
+             index, its line, and `! N LINE:COLUMN reason`, with the line and a caret under the byte: 21, a comment or bracket left open; 22, \
+             brackets deeper than 8 levels; 23, something that is no token, a result in brackets, a stray closing bracket. Columns count \
+             bytes from 1. Where several files are named, each line begins with `FILE: `.",
+            "A game ends with its result, or at the next tag pairs. Tag pairs, lines that begin with %, and comments that belong to no game are \
+             passed over. A line that begins with `[Event \"` begins a game even in a comment that was left open. What a move says is not \
+             asked, only that it may be one.",
+            "A game with a line of more than 131071 bytes gives `! long LINE`. One that a failed read cut is not told. The last line of \
+             standard error counts the games that were written whole.",
+            "An object of --json has file, game and line, and moves and variations (with --moves also list, each move with its level), or \
+             number, at (the line), column, text and reason.",
+        ],
+        statuses: &["no game was refused", "some game was"],
+        examples: &[
+            Example { command: "menkhodur pgn games.pgn", about: "one line a game" },
+            Example { command: "menkhodur pgn --moves - <game.pgn", about: "the moves of a game, each with the level of its brackets" },
+        ],
+        run: pgn::run,
     },
     Command {
         name: "ruling",

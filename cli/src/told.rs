@@ -33,10 +33,14 @@ impl Progress {
     }
 
     pub fn lines(&mut self, lines: u64) {
+        self.so_far(lines, "line");
+    }
+
+    pub fn so_far(&mut self, count: u64, what: &str) {
         let Some(next) = self.next else { return };
         let now = Instant::now();
         if now >= next {
-            tell(&[counted(lines, "line").as_bytes(), b" so far"]);
+            tell(&[counted(count, what).as_bytes(), b" so far"]);
             self.next = Some(now + EVERY);
         }
     }

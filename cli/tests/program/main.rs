@@ -5,4 +5,5 @@ mod explain;
 mod keys;
 mod logs;
 mod options;
+mod pgn;
 mod pipes;

@@ -77,6 +77,18 @@ fn a_full_device_is_trouble_and_nothing_is_counted() {
 
 // 5,000 lines, every third refused, and room for some of them.
 #[test]
+fn a_game_that_was_not_read_or_written_whole_is_not_counted() {
+    let ran = cut(program().args(["pgn"]), "1. e4 *\n1. d4 d5\n");
+    let told = "menkhodur: standard input: Resource temporarily unavailable\nmenkhodur: standard input: stopped after 2 lines\n\
+                menkhodur: 1 game, 1 accepted, 0 refused; input incomplete\n";
+    assert_eq!((ran.text(), ran.err.as_str(), ran.status), ("1 1 1 0\n", told, 2));
+    let ran = full(&["pgn"], "1. e4 *\n");
+    let told = "menkhodur: standard output: No space left on device\n\
+                menkhodur: 0 games, 0 accepted, 0 refused; output incomplete: these games were written whole\n";
+    assert_eq!((ran.err.as_str(), ran.status), (told, 2));
+}
+
+#[test]
 fn of_a_file_that_may_not_grow_only_whole_lines_are_counted() {
     let folder = Folder::new();
     let lines: String = (0..5_000).map(|i| if i % 3 == 0 { "x\n" } else { " w - -\n" }).collect();
