@@ -22,7 +22,7 @@ const THREE_LINES: &str = "K w - -\n9 w - -\nk b - h6";
 /// A text, and how many bytes and numbers its rooms are longer than its lines need (shorter if below 0).
 #[derive(Clone)]
 pub struct Lent {
-    text: String,
+    pub text: String,
     bytes: i64,
     numbers: i64,
 }

@@ -1,10 +1,11 @@
 //! Writes the crate's answers down: a script for the proved program `replay` and what that must print, a sample; and what the
-//! proved program `leaves` must print, everything in range. Every answer is the crate's, by the rules of `compare`; nothing here
-//! asks the archive.
+//! proved program `leaves` must print, everything in range; and pages of FENs for the tests of the host's side. Every answer is the
+//! crate's, by the rules of `compare`; nothing here asks the archive.
 //!
-//!     vectors SCRIPT PRINTED LEAVES      the three files to write; always the same bytes
+//!     vectors SCRIPT PRINTED LEAVES PAGES      the four files to write; always the same bytes
 
 mod leaves;
+mod pages;
 
 use both::games::{board_of, Positions};
 use both::numbers::{builder_of, move_of, position_of, result_number, MOST_MOVE};
@@ -273,15 +274,16 @@ fn make() -> Result<Vectors, String> {
 
 fn main() {
     let paths: Vec<String> = std::env::args().skip(1).collect();
-    let [script, printed, leaves] = &paths[..] else {
-        eprintln!("usage: vectors SCRIPT PRINTED LEAVES");
+    let [script, printed, leaves, pages] = &paths[..] else {
+        eprintln!("usage: vectors SCRIPT PRINTED LEAVES PAGES");
         std::process::exit(2);
     };
     let write = |path: &String, text: String| std::fs::write(path, text).map_err(|e| format!("{}: {}", path, e));
     let done = make().and_then(|v| {
         write(script, v.script)?;
         write(printed, v.printed)?;
-        write(leaves, leaves::printed())
+        write(leaves, leaves::printed())?;
+        write(pages, pages::written()?)
     });
     if let Err(why) = done {
         eprintln!("vectors: {}", why);
