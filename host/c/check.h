@@ -79,7 +79,7 @@ void check_ranges(const struct form *form);
 void check_base(void);
 void check_steps(void);
 void check_fen(const char *positions);
-void check_page(const char *positions);
+void check_page(const char *positions, const char *pages);
 void check_coordinates(void);
 void check_san(void);
 void check_standard(void);

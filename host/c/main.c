@@ -1,7 +1,8 @@
 /* Checks every function of the archive through the header: accepted answers, every refused answer that it can give, and every byte
  * that it was lent.
  *
- *     check POSITIONS [exact]      a file of FEN texts; with `exact`, parts without guards, for valgrind
+ *     check POSITIONS PAGES [exact]      a file of FEN texts, and one of pages with what they are owed; with `exact`, parts without
+ *                                        guards, for valgrind
  */
 #include "check.h"
 
@@ -59,15 +60,15 @@ static bool report_all(void)
 
 int main(int argc, char **argv)
 {
-    exact = argc > 2 && strcmp(argv[2], "exact") == 0;
-    if (argc < 2) {
-        fputs("usage: check POSITIONS [exact]\n", stderr);
+    exact = argc > 3 && strcmp(argv[3], "exact") == 0;
+    if (argc < 3) {
+        fputs("usage: check POSITIONS PAGES [exact]\n", stderr);
         return 2;
     }
     check_base();
     check_steps();
     check_fen(argv[1]);
-    check_page(argv[1]);
+    check_page(argv[1], argv[2]);
     check_coordinates();
     check_san();
     check_standard();

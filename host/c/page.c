@@ -1,4 +1,5 @@
-/* A page of FENs: order 7 of document 02. Lines are found by a splitter of the tests' own; what each of them is owed, the single reader says. */
+/* A page of FENs: order 7 of document 02. Lines are found by a splitter of the tests' own; what each of them is owed, the single reader says, and for the
+ * pages of a file the crate chess 3.2.0, which was asked before. */
 #include "check.h"
 
 #include <stdio.h>
@@ -45,13 +46,11 @@ static void owe(size_t count)
 
 /* ---- A call ---- */
 
-/* Rooms of so many bytes and so many numbers, and the text, all lent with guards. */
-static void check_call(const void *text, size_t length, size_t bytes, size_t told)
+/* Rooms of so many bytes and so many numbers, and the text, all lent with guards. What so many lines are owed is at hand. */
+static void check_owed(const void *text, size_t length, size_t count, size_t bytes, size_t told)
 {
     struct part lent = lend_bytes(text, length), records = lend(bytes), numbers = lend(8 * told);
-    size_t count = split(lent.bytes, length);
     bool fits = bytes >= RECORD * count && told >= TOLD * count;
-    owe(fits ? count : 0);
     expect_answer(fits ? MENKHODUR_ACCEPTED : MENKHODUR_OUTPUT_TOO_SHORT, count,
                   menkhodur_fen_page(lent.bytes, length, records.bytes, bytes, (uint64_t *)(void *)numbers.bytes, told));
     expect_unchanged("text", &lent);
@@ -60,6 +59,13 @@ static void check_call(const void *text, size_t length, size_t bytes, size_t tol
     give_back(&lent);
     give_back(&records);
     give_back(&numbers);
+}
+
+static void check_call(const void *text, size_t length, size_t bytes, size_t told)
+{
+    size_t count = split(text, length);
+    owe(count);
+    check_owed(text, length, count, bytes, told);
 }
 
 /* Both rooms exact, each of them longer, each of them one short, and none. */
@@ -263,7 +269,84 @@ static void check_file(const char *positions)
     check_page_of(text, length - 1);
 }
 
-void check_page(const char *positions)
+/* ---- Pages of which the crate was asked before ---- */
+
+/* A hexadecimal digit's number; 16 for any other byte. */
+static unsigned digit(char byte)
+{
+    static const char digits[] = "0123456789abcdef";
+    const char *at = byte ? strchr(digits, byte) : NULL;
+    return at ? (unsigned)(at - digits) : 16;
+}
+
+/* Undoes the escapes of what stands between two quotation marks; how many bytes that is. */
+static size_t unescape(uint8_t *to, const char *from, const char *end)
+{
+    uint8_t *start = to;
+    for (; from < end; from++) {
+        if (*from != '\\') *to++ = (uint8_t)*from;
+        else if (*++from != 'x') *to++ = (uint8_t)(*from == 'n' ? '\n' : *from == 'r' ? '\r' : *from);
+        else {
+            *to++ = (uint8_t)(16 * digit(from[1]) + digit(from[2]));
+            from += 2;
+        }
+    }
+    return (size_t)(to - start);
+}
+
+/* A row `NUMBER OFFSET RECORD "TEXT"`: owes line i its numbers and record, and puts its text; how many bytes that is. */
+static size_t take_row(char *row, size_t i, uint8_t *text)
+{
+    uint8_t *record = records_owed + RECORD * i;
+    char *at = row, *quote = strchr(row, '"'), *last = strrchr(row, '"');
+    size_t n = 0;
+    expect("quotation marks", 1, quote && quote < last);
+    if (quote >= last) return 0;
+    for (unsigned k = 0; k < TOLD; k++) numbers_owed[TOLD * i + k] = strtoull(at, &at, 10);
+    memset(record, 0, RECORD);
+    for (; at < quote; at++)
+        if (digit(*at) < 16 && n < RECORD) record[n++] = (uint8_t)digit(*at);
+    expect("numbers of a record", numbers_owed[TOLD * i] ? 0 : RECORD, n);
+    return unescape(text, quote + 1, last);
+}
+
+/* In rooms that fit or are longer, and in rooms a line, a byte or a number short. */
+static void check_told(const uint8_t *text, size_t length, size_t count)
+{
+    size_t bytes = RECORD * count, told = TOLD * count;
+    check_owed(text, length, count, bytes, told);
+    check_owed(text, length, count, bytes + RECORD, told + TOLD);
+    if (!count) return;
+    check_owed(text, length, count, bytes - RECORD, told);
+    check_owed(text, length, count, bytes, told - TOLD);
+    check_owed(text, length, count, bytes - 1, told);
+    check_owed(text, length, count, bytes, told - 1);
+}
+
+/* The file tells its form. */
+static void check_pages(const char *pages)
+{
+    static char row[8192];
+    static uint8_t text[64 * MOST_LINES];
+    unsigned owed = 0, seen = 0;
+    FILE *f = fopen(pages, "rb");
+    about(page, "file %s", pages);
+    expect("can be read", 1, f != NULL);
+    while (f && fgets(row, sizeof row, f)) {
+        size_t count, length = 0;
+        if (sscanf(row, "pages %u", &owed) == 1) continue;
+        if (sscanf(row, "page %zu", &count) != 1 && sscanf(row, "joined %zu", &count) != 1) continue;
+        if (count > MOST_LINES) break;
+        about(page, "%s, page %u", pages, ++seen);
+        for (size_t i = 0; i < count && fgets(row, sizeof row, f); i++) length += take_row(row, i, text + length);
+        check_told(text, length, count);
+    }
+    expect("pages", owed, seen);
+    expect("any page", 1, seen > 0);
+    if (f) fclose(f);
+}
+
+void check_page(const char *positions, const char *pages)
 {
     check_rows();
     check_bytes();
@@ -274,4 +357,5 @@ void check_page(const char *positions)
     check_random();
     check_joined();
     check_file(positions);
+    check_pages(pages);
 }

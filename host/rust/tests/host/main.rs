@@ -8,6 +8,7 @@ mod laws;
 mod load;
 mod must_use;
 mod page;
+mod pages;
 mod paper;
 mod pgn;
 mod refused;
