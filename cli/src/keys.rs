@@ -2,34 +2,23 @@
 
 use crate::input::{self, LONGEST, Lines, Place};
 use crate::json::Object;
+use crate::judged::{Judged, Judges, LONGEST_KEY};
 use crate::options::{Asked, Flag, Status, Stop};
 use crate::output::Output;
 use crate::standard::{self, Warning};
 use crate::told::{self, Progress};
-use menkhodur::lent::{self, Record};
-use menkhodur::{Error, Page, PageReader};
+use menkhodur::Error;
 use std::io::Write;
 
 pub const CHECK: Flag = Flag { name: "check", value: None, about: "print only the lines that are not their own key" };
 pub const STRICT: Flag = Flag { name: "strict", value: None, about: "refuse what `menkhodur explain` warns of, as `! strict OFFSET NAME`" };
 pub const JSON: Flag = Flag { name: "json", value: None, about: "print one JSON object a line" };
 
-/// Bytes of the longest key, and of the shortest.
-const LONGEST_KEY: usize = 85;
-const SHORTEST_KEY: usize = 25;
-
-/// Bytes of a page: few enough that its records are still near the processor when their keys are written. Pages one after the other are the page of
-/// all, which is proved.
-const PAGE: usize = 16_384;
-
-/// The most lines that a page of keys has; one with more lines makes itself room.
-const USUAL: usize = PAGE / SHORTEST_KEY;
-
 pub fn run(asked: &Asked) -> Result<Status, Stop> {
     let form = Form { check: asked.has(&CHECK), strict: asked.has(&STRICT), json: asked.has(&JSON) };
     let mut keys = Keys {
         form,
-        reader: PageReader::for_lines(USUAL),
+        judges: Judges::new(),
         output: Output::new()?,
         tally: Tally::default(),
         odd: vec![],
@@ -89,7 +78,7 @@ enum Said<'a> {
 
 struct Keys {
     form: Form,
-    reader: PageReader,
+    judges: Judges,
     output: Output<Tally>,
     tally: Tally,
     odd: Vec<Warning>,
@@ -101,16 +90,13 @@ struct Keys {
 impl Lines for Keys {
     fn lines(&mut self, place: Place<'_>, text: &[u8]) -> Result<u64, Stop> {
         let before = self.tally.lines();
-        let mut reader = std::mem::take(&mut self.reader);
-        let mut left = text;
+        let mut judges = std::mem::replace(&mut self.judges, Judges::none());
         let mut ended = Ok(());
-        while ended.is_ok() && !left.is_empty() {
-            let (front, rest) = left.split_at(page_of(left));
+        for (part, judged) in judges.judge(text) {
             let line = place.line + (self.tally.lines() - before);
-            ended = self.page(reader.read(front), Place { line, ..place });
-            left = rest;
+            ended = ended.and_then(|()| self.judged(part, judged, Place { line, ..place }));
         }
-        self.reader = reader;
+        self.judges = judges;
         self.progress.lines(self.tally.lines());
         ended.map(|()| self.tally.lines() - before)
     }
@@ -124,54 +110,38 @@ impl Lines for Keys {
     }
 }
 
-/// How many bytes of a text are its next page: whole lines, as many as have place in [`PAGE`] bytes, or the first.
-fn page_of(text: &[u8]) -> usize {
-    let newline = |byte: &u8| *byte == b'\n';
-    if text.len() <= PAGE {
-        return text.len();
-    }
-    let (front, rest) = text.split_at(PAGE);
-    match front.iter().rposition(newline) {
-        Some(at) => at + 1,
-        None => rest.iter().position(newline).map_or(text.len(), |at| PAGE + at + 1),
-    }
-}
-
 impl Keys {
-    fn page(&mut self, page: Page<'_>, place: Place<'_>) -> Result<(), Stop> {
-        if self.form.check || self.form.strict || self.form.json { self.told(page, place) } else { self.plain(page) }
+    fn judged(&mut self, text: &[u8], judged: &Judged, place: Place<'_>) -> Result<(), Stop> {
+        if self.form.check || self.form.strict || self.form.json { self.told(text, judged, place) } else { self.plain(judged) }
     }
 
     /// As the proved program `keys`: a line a line. What the lines are is not looked at.
-    fn plain(&mut self, page: Page<'_>) -> Result<(), Stop> {
-        for (record, &[number, offset]) in page.records().iter().zip(page.numbers()) {
+    fn plain(&mut self, judged: &Judged) -> Result<(), Stop> {
+        for answer in judged.answers() {
             let space = self.output.space(LONGEST_KEY + 1)?;
-            let length = if number == 0 { key_of(record, space) } else { refusal(number, offset, space) };
+            let length = match answer {
+                Ok(key) => {
+                    space[..key.len()].copy_from_slice(key);
+                    self.tally.accepted += 1;
+                    key.len()
+                }
+                Err(refused) => {
+                    self.tally.refused += 1;
+                    refusal(refused, space)
+                }
+            };
             space[length] = b'\n';
             self.output.advance(length + 1);
-            if number == 0 {
-                self.tally.accepted += 1;
-            } else {
-                self.tally.refused += 1;
-                self.output.status = Status::Found;
-            }
+            self.output.status = self.tally.status();
             self.output.mark(self.tally);
         }
         Ok(())
     }
 
-    fn told(&mut self, page: Page<'_>, mut place: Place<'_>) -> Result<(), Stop> {
-        let mut left = page.text();
-        let mut room = [0; LONGEST_KEY];
-        for (index, record) in page.records().iter().enumerate() {
-            let said = match page.get(index) {
-                Some(Err(refused)) => Said::Refused(refused),
-                _ => {
-                    let length = key_of(record, &mut room);
-                    Said::Key(&room[..length])
-                }
-            };
-            left = self.line(place, left, said)?;
+    fn told(&mut self, text: &[u8], judged: &Judged, mut place: Place<'_>) -> Result<(), Stop> {
+        let mut left = text;
+        for answer in judged.answers() {
+            left = self.line(place, left, answer.map_or_else(Said::Refused, Said::Key))?;
             place.line += 1;
         }
         Ok(())
@@ -243,14 +213,10 @@ impl Keys {
 }
 
 /// Writes the key of a record that the archive has read, and answers its length.
-fn key_of(record: &Record, room: &mut [u8]) -> usize {
-    lent::fen_write(record, room).expect("a record that was read has a key, and the room is long enough")
-}
-
 /// `! N OFFSET`, as the proved program `keys` has it.
-fn refusal(number: u64, offset: u64, mut room: &mut [u8]) -> usize {
+fn refusal(refused: Error, mut room: &mut [u8]) -> usize {
     let before = room.len();
-    write!(room, "! {number} {offset}").expect("two numbers fit where a key does");
+    write!(room, "! {} {}", refused.number(), refused.offset().unwrap_or_default()).expect("two numbers fit where a key does");
     before - room.len()
 }
 
@@ -260,7 +226,7 @@ fn answered(said: Said<'_>, made: &mut Vec<u8>) {
         Said::Key(key) => made.extend(key),
         Said::Refused(refused) => {
             let mut room = [0; LONGEST_KEY];
-            let length = refusal(refused.number(), refused.offset().unwrap_or_default() as u64, &mut room);
+            let length = refusal(refused, &mut room);
             made.extend(&room[..length]);
         }
         Said::Odd(warning) => made.extend(format!("! strict {} {}", warning.offset, warning.oddity.name()).bytes()),

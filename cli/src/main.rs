@@ -7,6 +7,7 @@ mod games;
 mod help;
 mod input;
 mod json;
+mod judged;
 mod keys;
 mod man;
 mod options;
