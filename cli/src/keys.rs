@@ -27,7 +27,7 @@ pub fn run(asked: &Asked) -> Result<Status, Stop> {
     };
     let mut whole = true;
     let ended = input::read(&asked.words, &mut keys, &mut whole);
-    keys.end(ended, whole)
+    keys.output.end(ended, whole, keys.tally, "lines", |tally| (tally.shown(form.check), tally.status()))
 }
 
 #[derive(Clone, Copy)]
@@ -192,23 +192,6 @@ impl Keys {
         self.output.put(&self.made)?;
         self.output.mark(self.tally);
         Ok(())
-    }
-
-    /// The last line of standard error. Counted is what was written whole.
-    fn end(mut self, read: Result<(), Stop>, whole: bool) -> Result<Status, Stop> {
-        let failed = match read.and_then(|()| self.output.flush()) {
-            Ok(()) => false,
-            Err(Stop::Trouble(message)) => {
-                told::tell(&[&message]);
-                self.tally = self.output.settled();
-                true
-            }
-            Err(Stop::Closed(status)) => return Ok(if whole { status } else { Status::Trouble }),
-        };
-        let incomplete: &[u8] = if whole { b"" } else { b"; input incomplete" };
-        let cut: &[u8] = if failed { b"; output incomplete: these lines were written whole" } else { b"" };
-        told::tell(&[self.tally.shown(self.form.check).as_bytes(), incomplete, cut]);
-        Ok(if whole && !failed { self.tally.status() } else { Status::Trouble })
     }
 }
 

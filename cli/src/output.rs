@@ -62,9 +62,28 @@ impl<T: Copy + Default> Output<T> {
         self.marks.push(Mark { end: self.ready, done });
     }
 
-    /// What was done as far as it got out.
-    pub fn settled(&self) -> T {
-        self.settled
+    /// The end of a run that counts: the last line of standard error shows what was written whole. `shown` makes words and a status of a tally.
+    pub fn end(
+        mut self,
+        read: Result<(), Stop>,
+        whole: bool,
+        tally: T,
+        what: &str,
+        shown: impl Fn(T) -> (String, Status),
+    ) -> Result<Status, Stop> {
+        let (tally, failed) = match read.and_then(|()| self.flush()) {
+            Ok(()) => (tally, false),
+            Err(Stop::Trouble(message)) => {
+                told::tell(&[&message]);
+                (self.settled, true)
+            }
+            Err(Stop::Closed(status)) => return Ok(if whole { status } else { Status::Trouble }),
+        };
+        let (words, status) = shown(tally);
+        let incomplete = if whole { "" } else { "; input incomplete" };
+        let cut = if failed { format!("; output incomplete: these {what} were written whole") } else { String::new() };
+        told::tell(&[words.as_bytes(), incomplete.as_bytes(), cut.as_bytes()]);
+        Ok(if whole && !failed { status } else { Status::Trouble })
     }
 
     pub fn flush(&mut self) -> Result<(), Stop> {

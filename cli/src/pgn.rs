@@ -18,7 +18,7 @@ pub fn run(asked: &Asked) -> Result<Status, Stop> {
     let mut pgn = Pgn { games: Games::default(), said, progress: Progress::new() };
     let mut whole = true;
     let ended = input::read(&asked.words, &mut pgn, &mut whole);
-    pgn.said.end(ended, whole)
+    pgn.said.output.end(ended, whole, pgn.said.tally, "games", |tally| (tally.shown(), tally.status()))
 }
 
 #[derive(Clone, Copy)]
@@ -38,6 +38,10 @@ struct Tally {
 impl Tally {
     fn games(&self) -> u64 {
         self.accepted + self.refused
+    }
+
+    fn shown(&self) -> String {
+        format!("{}, {} accepted, {} refused", told::counted(self.games(), "game"), self.accepted, self.refused)
     }
 
     fn status(&self) -> Status {
@@ -210,24 +214,5 @@ impl Said {
             }
         }
         .end()
-    }
-
-    /// The last line of standard error. Counted is what was written whole.
-    fn end(mut self, read: Result<(), Stop>, whole: bool) -> Result<Status, Stop> {
-        let failed = match read.and_then(|()| self.output.flush()) {
-            Ok(()) => false,
-            Err(Stop::Trouble(message)) => {
-                told::tell(&[&message]);
-                self.tally = self.output.settled();
-                true
-            }
-            Err(Stop::Closed(status)) => return Ok(if whole { status } else { Status::Trouble }),
-        };
-        let Tally { accepted, refused } = self.tally;
-        let counted = format!("{}, {accepted} accepted, {refused} refused", told::counted(self.tally.games(), "game"));
-        let incomplete: &[u8] = if whole { b"" } else { b"; input incomplete" };
-        let cut: &[u8] = if failed { b"; output incomplete: these games were written whole" } else { b"" };
-        told::tell(&[counted.as_bytes(), incomplete, cut]);
-        Ok(if whole && !failed { self.tally.status() } else { Status::Trouble })
     }
 }
