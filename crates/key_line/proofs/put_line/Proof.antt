@@ -70,7 +70,8 @@ write-fen-requires c κs = search needs
 
 add-end : tie.Need-add-end
 add-end c =
-    let long : length (c .before .before .before .before .before .before .before .before .before .before .args .out .now) < 18446744073709551616 = search needs in
+    let long : length (c .before .before .before .before .before .before .before .before .before .before .args .out .now)
+        < 18446744073709551616 = search needs in
     let a = c .before .before .before .before .before .before .before .before .before .before .args in
     let at-pre = c .before .before .before .before .before .before .before .before .before .before .pre in
     let at-read-fen = c .before .before .before .before .before .before .before .read-fen in
@@ -91,7 +92,8 @@ slice-write-out c =
 
 add-t16 : tie.Need-add-t16
 add-t16 c =
-    let long : length (c .before .before .before .before .before .before .before .before .before .before .args .out .now) < 18446744073709551616 = search needs in
+    let long : length (c .before .before .before .before .before .before .before .before .before .before .args .out .now)
+        < 18446744073709551616 = search needs in
     let a = c .before .before .before .before .before .before .before .before .before .before .args in
     let at-pre = c .before .before .before .before .before .before .before .before .before .before .pre in
     let at-read-fen = c .before .before .before .before .before .before .before .read-fen in

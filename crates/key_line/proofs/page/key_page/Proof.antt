@@ -54,7 +54,8 @@ put-line-requires c κs =
 
 add-accepted : tie.Need-add-accepted Inv-loop μ-loop
 add-accepted c =
-    let long : length (c .before .before .before .before .before .before .before .before .before .before .before .before .args .text .now) < 18446744073709551616 = search needs in
+    let long : length (c .before .before .before .before .before .before .before .before .before .before .before .before .args .text .now)
+        < 18446744073709551616 = search needs in
     let a = c .before .before .before .before .before .before .before .before .before .before .before .before .args in
     let at-loop = c .before .before .before .before .before .before .before .before .before .loop in
     let at-loop-test = c .before .before .before .before .before .before .before .before .loop-test in
@@ -84,7 +85,8 @@ sub-refused c =
 
 add-refused : tie.Need-add-refused Inv-loop μ-loop
 add-refused c =
-    let long : length (c .before .before .before .before .before .before .before .before .before .before .before .before .before .args .text .now) < 18446744073709551616 = search needs in
+    let long : length (c .before .before .before .before .before .before .before .before .before .before .before .before .before .args .text .now)
+        < 18446744073709551616 = search needs in
     let a = c .before .before .before .before .before .before .before .before .before .before .before .before .before .args in
     let at-loop = c .before .before .before .before .before .before .before .before .before .before .loop in
     let at-loop-test = c .before .before .before .before .before .before .before .before .before .loop-test in
@@ -97,7 +99,8 @@ add-refused c =
 
 add-taken : tie.Need-add-taken Inv-loop μ-loop
 add-taken c =
-    let long : length (c .before .before .before .before .before .before .before .before .before .before .before .before .before .args .text .now) < 18446744073709551616 = search needs in
+    let long : length (c .before .before .before .before .before .before .before .before .before .before .before .before .before .args .text .now)
+        < 18446744073709551616 = search needs in
     let a = c .before .before .before .before .before .before .before .before .before .before .before .before .before .args in
     let at-if1 = c .before .before .before .before .before .before .before .if1 in
     omega (arith, at-if1 .left)
