@@ -1,5 +1,5 @@
-pub mod AtPages
 pub mod AtSmallest
+pub mod AtSmallestPages
 pub mod Cases
 pub mod Tokens
 pub mod Lengths
