@@ -7,29 +7,35 @@ use mathlib.Core.List.{List, [], _∷_, _++_}
 use Prim.Native.Nat.{ℕ, suc, _+_, _*_, _<_, _≤_}
 use native.Mathlib.Omega.{arith}
 use lib.Dec.{eqb, leb, ltb}
-use lib.ListN.{length}
+use lib.ListN.{length, take, length-take}
 use borrow.Author.Tests.{eq-eqb, eqb-true, leb-true, ltb-true}
-use Rattle.square.specs.Answer.{notGood, partTooShort, gameOver, logFull, noOffer, noClaim, notListed, wrongSide}
+use Rattle.square.specs.Answer.{notGood, partTooShort, gameOver, logFull, noOffer, noClaim, notListed, wrongSide, wrongRecord}
+use Rattle.square.specs.Numbers.{among}
 use Rattle.square.specs.Parts.{item}
 use Rattle.square.proofs.Numbers.{both-left, both-right}
 use Rattle.square.proofs.Parts.{length-item}
 use Rattle.chess_move.specs.Number.{lastMove}
+use Rattle.board_builder.specs.BoardBuilder.{recordSize, numbersInRange}
+use Rattle.board_after.proofs.Records.{record-long}
+use Rattle.move_list.proofs.Listed.{listed-in-range}
 use Rattle.action.specs.declared.Action.{Action}
 use Rattle.action.specs.declared.Action.the-variants.{MakeMove, OfferDraw, AcceptDraw, DeclareDraw, Resign}
 use Rattle.action.specs.Layout.{actionSize, actionCheck}
 use Rattle.actions.specs.Part.{movesIn}
-use Rattle.position.specs.Layout.{Position, positionSize, side, positionAt}
+use Rattle.position.specs.Layout.{Position, positionSize, side, positionOf, positionAt}
 use Rattle.stored_position.specs.Bytes.{positionCheck, listsMove}
+use Rattle.stored_position.proofs.Checks.{position-fits}
 use Rattle.ending.specs.Ending.{resultAt}
 use Rattle.game_rules.specs.Limits.{limits, actionsLength, positionsLength}
-use Rattle.game_rules.specs.Rules.{Call, makeMove, offerDraw, acceptDraw, declareDraw, resign, isMove, actionMade, result, unless, firstRefusal, ownChecks, roomFor, answer}
+use Rattle.game_rules.specs.Rules.{Call, makeMove, offerDraw, acceptDraw, declareDraw, resign, isMove, actionMade, result, unless, firstRefusal, comesAfter, ownChecks, roomFor, answer}
 use Rattle.game_rules.specs.Good.{historyOf, sound, isGood}
 use Rattle.game_rules.specs.Calls.{longEnough, logCheck, callAnswer, counts}
-use Rattle.game_rules.proofs.Checks.{none-refuses, refusals-joined, test-held, accepted-number}
+use Rattle.game_rules.proofs.Checks.{none-refuses, refusals-joined, test-held, current-in-range, accepted-number}
 use Rattle.game_rules.proofs.Decide.{sound-good}
 use Rattle.game_rules.proofs.Log.{current-is, actions-at, moves-at, result-is, offer-is}
 use Rattle.game_rules.proofs.Rulings.{claim-is}
 use Rattle.good_log.specs.Steps.{otherCheck}
+use Rattle.good_log.proofs.Turns.{board-fits}
 use Rattle.game.specs.Answers.{openCheck, otherAnswer}
 
 pub record Ready (acts ps : List ℕ) (n m : ℕ) : Type 0 where
@@ -132,12 +138,32 @@ module _ (acts ps : List ℕ) (n m : ℕ) where
       rw (own-is r c e, room-is r c, e) (ap (λ (t : Bool). firstRefusal (otherCheck acts ps n m (actionMade c) ∷ unless t logFull ∷ [])) (sym (and-true (ltb n (limits .most-actions))))))
       ∙ sym (in-a-row c)
 
-  -- a move's checks: 11, 5, 6, 12, 13
+  -- the position on the board is in range, and so is a move that it lists
+  here-in-range : openCheck acts ps n m ≡ 0 → positionCheck (positionAt ps m) ≡ 0
+  here-in-range h =
+      let r = open-ready h in
+      rw (current-is limits acts ps n m (r .counted) (r .ok)) at (current-in-range limits (historyOf acts ps n) (sound-good limits acts ps n (r .ok) .0))
+
+  record-in-range : openCheck acts ps n m ≡ 0 → numbersInRange (take recordSize (item positionSize ps m)) ≡ true
+  unfolding positionOf
+  record-in-range h = board-fits (positionAt ps m) (here-in-range h)
+
+  pub record-there : openCheck acts ps n m ≡ 0 → recordSize ≤ length (item positionSize ps m)
+  record-there h = omega (arith, record-long (take recordSize (item positionSize ps m)) (record-in-range h), length-take recordSize (item positionSize ps m))
+
+  pub listed-number : (x : ℕ) → openCheck acts ps n m ≡ 0 → listsMove (item positionSize ps m) x ≡ true → x ≤ lastMove
+  unfolding listsMove
+  listed-number x h e =
+      listed-in-range x (positionAt ps m .moves) (position-fits (positionAt ps m) (here-in-range h) .list)
+      (both-right (eqb (length (item positionSize ps m)) positionSize) (among x (positionAt ps m .moves)) e)
+
+  -- a move's checks: 11, 5, 6, 12, 24, 13
   abbrev pub moveChecks : ℕ → Position → List ℕ
   moveChecks x q =
       unless (listsMove (item positionSize ps m) x) notListed
       ∷ positionCheck q
       ∷ unless (not (eqb (side q) (side (positionAt ps m)))) wrongSide
+      ∷ unless (comesAfter (positionAt ps m) x q) wrongRecord
       ∷ unless (ltb n (limits .most-actions) && ltb m (limits .most-moves)) logFull
       ∷ []
 
@@ -193,7 +219,8 @@ module _ (acts ps : List ℕ) (n m : ℕ) where
       let listed : _ = none-refuses (unless (listsMove (item positionSize ps m) x) notListed) _ (rows .1) in
       let fits : _ = none-refuses (positionCheck q) _ (listed .1) in
       let turned : _ = none-refuses (unless (not (eqb (side q) (side (positionAt ps m)))) wrongSide) _ (fits .1) in
-      let full : _ = none-refuses (unless (ltb n (limits .most-actions) && ltb m (limits .most-moves)) logFull) [] (turned .1) in
+      let after : _ = none-refuses (unless (comesAfter (positionAt ps m) x q) wrongRecord) _ (turned .1) in
+      let full : _ = none-refuses (unless (ltb n (limits .most-actions) && ltb m (limits .most-moves)) logFull) [] (after .1) in
       let r = open-ready acts ps n m (rows .0) in
       let roomy : ltb n (limits .most-actions) && ltb m (limits .most-moves) ≡ true = test-held _ logFull (omega arith) (full .0) in
       let few : n < limits .most-actions = ltb-true _ _ (both-left (ltb n (limits .most-actions)) (ltb m (limits .most-moves)) roomy) in

@@ -10,16 +10,18 @@ use native.Mathlib.Numerals.{add-one}
 use lib.Dec.{eqb, leb, ltb}
 use borrow.Author.Tests.{eq-eqb, ne-eqb, eqb-true, eqb-false, lt-ltb, le-ltb, lt-leb, le-leb, leb-true}
 use Rattle.square.specs.declared.Answer.{Answer}
-use Rattle.square.specs.Answer.{accepted, refused, gameOver, logFull, notListed, wrongSide, partTooShort}
+use Rattle.square.specs.Answer.{accepted, refused, gameOver, logFull, notListed, wrongSide, wrongRecord, partTooShort}
 use Rattle.square.specs.Parts.{item, written}
 use Rattle.square.proofs.Numbers.{both-right}
 use Rattle.board_builder.specs.declared.BoardBuilder.{BoardBuilder}
-use Rattle.board_builder.specs.BoardBuilder.{squares, sideAt, numbers}
+use Rattle.board_builder.specs.BoardBuilder.{squares, recordSize, sideAt, numbers}
 use Rattle.chess_move.specs.Number.{moveOf}
+use Rattle.board_after.specs.Leads.{leadsToBoard}
+use Rattle.board_after.proofs.Tests.{from-record}
 use Rattle.action.specs.declared.Action.{Action}
 use Rattle.action.specs.declared.Action.the-variants.{MakeMove}
 use Rattle.action.specs.Layout.{actionSize, actionBytes}
-use Rattle.position.specs.Layout.{Position, positionSize, side, positionAt}
+use Rattle.position.specs.Layout.{Position, positionSize, side, positionOf, positionAt}
 use Rattle.stored_position.specs.Bytes.{positionBytes, positionCheck, positionGiven, listsMove}
 use Rattle.stored_position.proofs.Checks.{behind}
 use Rattle.position.proofs.Fields.{side-at}
@@ -27,7 +29,7 @@ use Rattle.claim.specs.Claim.{claimAt}
 use Rattle.ending.specs.Ending.{resultAt}
 use Rattle.game_rules.specs.declared.Counts.{Counts}
 use Rattle.game_rules.specs.Limits.{limits, actionsLength, positionsLength}
-use Rattle.game_rules.specs.Rules.{makeMove, unless, firstRefusal, result, ended, claimStands}
+use Rattle.game_rules.specs.Rules.{makeMove, unless, comesAfter, firstRefusal, result, ended, claimStands}
 use Rattle.game_rules.specs.Good.{historyOf}
 use Rattle.game_rules.specs.Calls.{longEnough, logCheck, callAnswer, startAnswer, resultAnswer, claimAnswer, counts, countsAfter, actionsAfter, positionsAfter, positionsBegun, told}
 use Rattle.good_log.specs.Steps.{otherCheck}
@@ -150,7 +152,7 @@ module _ (acts ps : List ℕ) (n m x : ℕ) (action : Action) (e : x ≡ openChe
   other-passed y z f u h =
       passed-by (openCheck acts ps n m) x 0 (own ∷ full) e z (passed-by own y 0 full f u (held (ltb n (limits .most-actions)) logFull 0 [] (lt-ltb _ _ h) none-left))
 
--- then 11, 5 or 6, 12, 13 for move k to position q
+-- then 11, 5 or 6, 12, 24, 13 for move k to position q
 module _ (acts ps : List ℕ) (n m k x : ℕ) (q : Position) (e : x ≡ openCheck acts ps n m) where
   abbrev lists : Bool
   lists = listsMove (item positionSize ps m) k
@@ -164,8 +166,14 @@ module _ (acts ps : List ℕ) (n m k x : ℕ) (q : Position) (e : x ≡ openChec
   abbrev last : List ℕ
   last = unless room logFull ∷ []
 
+  abbrev follows : Bool
+  follows = comesAfter (positionAt ps m) k q
+
+  abbrev behind-turn : List ℕ
+  behind-turn = unless follows wrongRecord ∷ last
+
   abbrev later : List ℕ
-  later = unless turns wrongSide ∷ last
+  later = unless turns wrongSide ∷ behind-turn
 
   abbrev row : List ℕ
   row = unless lists notListed ∷ positionCheck q ∷ later
@@ -197,20 +205,27 @@ module _ (acts ps : List ℕ) (n m k x : ℕ) (q : Position) (e : x ≡ openChec
       fit u v f = listed v (passed-by (positionCheck q) y v later c u f)
 
       pub move-wrong-side : y ≡ 0 → side q ≡ side (positionAt ps m) → wrongSide ≡ answer
-      move-wrong-side u s = fit u wrongSide (failed turns wrongSide last refl (ap not (eq-eqb _ _ s)))
+      move-wrong-side u s = fit u wrongSide (failed turns wrongSide behind-turn refl (ap not (eq-eqb _ _ s)))
 
       module _ (u : y ≡ 0) (s : side q ≡ side (positionAt ps m) → ⊥) where
-        turned : (v : ℕ) → v ≡ firstRefusal last → v ≡ answer
-        turned v f = fit u v (held turns wrongSide v last (ap not (ne-eqb (side q) (side (positionAt ps m)) s)) f)
+        turned : (v : ℕ) → v ≡ firstRefusal behind-turn → v ≡ answer
+        turned v f = fit u v (held turns wrongSide v behind-turn (ap not (ne-eqb (side q) (side (positionAt ps m)) s)) f)
 
-        pub move-full : limits .most-actions ≤ n → logFull ≡ answer
-        move-full h = turned logFull (failed room logFull [] refl (ap (λ (t : Bool). t && ltb m (limits .most-moves)) (le-ltb n (limits .most-actions) h)))
+        pub move-wrong-record : follows ≡ false → wrongRecord ≡ answer
+        move-wrong-record f = turned wrongRecord (failed follows wrongRecord last refl f)
 
-        pub move-no-place : n < limits .most-actions → limits .most-moves ≤ m → logFull ≡ answer
-        move-no-place h g = turned logFull (failed room logFull [] refl (ap₂ _&&_ (lt-ltb n (limits .most-actions) h) (le-ltb m (limits .most-moves) g)))
+        module _ (t : follows ≡ true) where
+          followed : (v : ℕ) → v ≡ firstRefusal last → v ≡ answer
+          followed v f = turned v (held follows wrongRecord v last t f)
 
-        pub move-passed : n < limits .most-actions → m < limits .most-moves → 0 ≡ answer
-        move-passed h g = turned 0 (held room logFull 0 [] (ap₂ _&&_ (lt-ltb n (limits .most-actions) h) (lt-ltb m (limits .most-moves) g)) none-left)
+          pub move-full : limits .most-actions ≤ n → logFull ≡ answer
+          move-full h = followed logFull (failed room logFull [] refl (ap (λ (o : Bool). o && ltb m (limits .most-moves)) (le-ltb n (limits .most-actions) h)))
+
+          pub move-no-place : n < limits .most-actions → limits .most-moves ≤ m → logFull ≡ answer
+          move-no-place h g = followed logFull (failed room logFull [] refl (ap₂ _&&_ (lt-ltb n (limits .most-actions) h) (le-ltb m (limits .most-moves) g)))
+
+          pub move-passed : n < limits .most-actions → m < limits .most-moves → 0 ≡ answer
+          move-passed h g = followed 0 (held room logFull 0 [] (ap₂ _&&_ (lt-ltb n (limits .most-actions) h) (lt-ltb m (limits .most-moves) g)) none-left)
 
 -- the side of a board that is given, and that of the position in the log, as a byte
 module _ (b : BoardBuilder) (check : ℕ) (list ps p : List ℕ) (m x : ℕ) (long : length (b .pieces) ≡ squares) (here : p ≡ item positionSize ps m) (e : x ≡ getD p sideAt 0) where
@@ -226,6 +241,13 @@ module _ (b : BoardBuilder) (check : ℕ) (list ps p : List ℕ) (m x : ℕ) (lo
 
   pub other-side : (b .«side_to_move» ≡ x → ⊥) → side (positionGiven b check list) ≡ side (positionAt ps m) → ⊥
   other-side f g = f (sym given-side ∙ g ∙ sym log-side)
+
+-- the record that is given, and the one after the move from the position in the log
+pub record-tells : (b : BoardBuilder) (check : ℕ) (list ps p : List ℕ) (m x : ℕ) (t : Bool) → p ≡ item positionSize ps m
+    → recordSize ≤ length (item positionSize ps m) → t ≡ leadsToBoard p x b → t ≡ comesAfter (positionAt ps m) x (positionGiven b check list)
+unfolding positionOf
+record-tells b check list ps p m x t here long e =
+    e ∙ ap (λ (s : List ℕ). leadsToBoard s x b) here ∙ sym (from-record (item positionSize ps m) x long (numbers b))
 
 -- a start's checks: 16, then 5 or 6
 module _ (acts ps : List ℕ) (p : Position) where

@@ -17,6 +17,7 @@ use square::GAME_OVER;
 use square::LOG_FULL;
 use square::NOT_LISTED;
 use square::PART_TOO_SHORT;
+use square::WRONG_RECORD;
 use square::WRONG_SIDE;
 ghost use mathlib.Core.Path.{_≡_};
 ghost use Prim.Native.Nat.{_+_, _*_, _≤_};
@@ -131,7 +132,7 @@ pub fn resign(acts: &mut [u8], ps: &[u8], n: u64, m: u64, colour: u8) -> Counts
     act(acts, ps, n as usize, m as usize, Action::Resign(colour))
 }
 
-// Then 11, 5, 6, 12, 13 for a move `x` that leads to the position of `next`, `in_check` and `list`.
+// Then 11, 5, 6, 12, 24, 13 for a move `x` that leads to the position of `next`, `in_check` and `list`.
 fn move_answer(
     acts: &[u8],
     ps: &[u8],
@@ -158,6 +159,9 @@ fn move_answer(
     }
     if next.side_to_move == square::byte_at(p, SIDE_AT) {
         return WRONG_SIDE;
+    }
+    if !board_after::leads_to_board(p, x as u16, next) {
+        return WRONG_RECORD;
     }
     if MAX_ACTIONS <= n {
         return LOG_FULL;

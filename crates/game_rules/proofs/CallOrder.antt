@@ -2,7 +2,10 @@
 -- Assumes nothing.
 use mathlib.Core.Path.{refl}
 use Rattle.square.specs.Numbers.{same, allAtMost, among}
-use Rattle.board_builder.specs.BoardBuilder.{inRange, numbersInRange}
+use Rattle.square.specs.Piece.{kindOf}
+use Rattle.board_builder.specs.BoardBuilder.{numbers, inRange, numbersInRange}
+use Rattle.board_after.specs.After.{castles, rookMoved, takesInPassing, pawnRemoved, setDown, squaresAfter, rightsWithout, rightsAfter}
+use Rattle.board_after.specs.After.{twoApart, stepsTwice, fileAfter, afterParts, recordAfter}
 use Rattle.move_list.specs.MoveList.{listInRange}
 use Rattle.actions.specs.Part.{movesIn}
 use Rattle.position.specs.Layout.{movesFrom, positionOf}
@@ -15,7 +18,8 @@ use Rattle.game_rules.specs.Calls.{logCheck, callAnswer}
 use Rattle.game_rules.specs.CallOrder.{ChecksInOrder}
 
 pub checks-in-order : ChecksInOrder
-unfolding same allAtMost among inRange numbersInRange listInRange movesIn movesFrom positionOf times moveBytes positionBytes positionCheck isPosition
+unfolding same allAtMost among kindOf numbers inRange numbersInRange castles rookMoved takesInPassing pawnRemoved setDown squaresAfter rightsWithout
+    rightsAfter twoApart stepsTwice fileAfter afterParts recordAfter listInRange movesIn movesFrom positionOf times moveBytes positionBytes positionCheck isPosition
     resultOf offerIn current actions lastMade lastButOne result offerStands ruling claimStands firstRefusal answer historyOf sound isGood logCheck
     callAnswer
 checks-in-order = record {
@@ -26,6 +30,7 @@ checks-in-order = record {
   gives-5 = refl;
   gives-6 = refl;
   gives-12 = refl;
+  gives-24 = refl;
   gives-13 = refl;
   offer-gives-5 = refl;
   resignation-gives-5 = refl;

@@ -9,7 +9,7 @@ use native.Mathlib.Omega.{arith}
 use lib.Dec.{eqb, leb, ltb}
 use borrow.Author.Tests.{eqb-true, eqb-false, ne-eqb, ltb-true, not-true}
 use Rattle.square.specs.declared.Answer.{Answer}
-use Rattle.square.specs.Answer.{notListed, gameOver, wrongSide, logFull, noOffer, noClaim, notGood, partTooShort}
+use Rattle.square.specs.Answer.{notListed, gameOver, wrongSide, wrongRecord, logFull, noOffer, noClaim, notGood, partTooShort}
 use Rattle.square.specs.Numbers.{among}
 use Rattle.square.proofs.Numbers.{both-left, both-right}
 use Rattle.chess_move.specs.Number.{lastMove}
@@ -21,7 +21,7 @@ use Rattle.position.specs.Layout.{Position, side}
 use Rattle.stored_position.specs.Bytes.{positionCheck}
 use Rattle.stored_position.proofs.Checks.{position-fits}
 use Rattle.game_rules.specs.Limits.{Limits}
-use Rattle.game_rules.specs.Rules.{Call, makeMove, offerDraw, acceptDraw, declareDraw, resign, History, begun, after, isMove, actionMade, positionAfter, current, actions, moves, ended, offerStands, claimStands, unless, firstRefusal, ownChecks, roomFor, answer}
+use Rattle.game_rules.specs.Rules.{Call, makeMove, offerDraw, acceptDraw, declareDraw, resign, History, begun, after, isMove, actionMade, positionAfter, current, actions, moves, ended, offerStands, claimStands, unless, firstRefusal, comesAfter, ownChecks, roomFor, answer}
 use Rattle.game_rules.specs.Good.{Accepted, positionMade, callOf, historyOf, positionHere, isGood}
 use Rattle.game_rules.specs.Calls.{longEnough, logCheck, callAnswer, startAnswer}
 
@@ -117,15 +117,19 @@ pub record MovePasses (h : History) (m : ℕ) (p : Position) : Type 0 where
   pub listed : among m (current h .moves) ≡ true
   pub check : positionCheck p ≡ 0
   pub turn : eqb (side p) (side (current h)) ≡ false
+  pub after : comesAfter (current h) m p ≡ true
 
 pub move-says : (L : Limits) (h : History) (m : ℕ) (p : Position) → answer L h (makeMove m p) ≡ 0 → MovePasses h m p
 move-says L h m p e =
-    let a : _ = none-refuses (unless (among m (current h .moves)) notListed) (positionCheck p ∷ unless (not (eqb (side p) (side (current h)))) wrongSide ∷ []) (answer-says L h (makeMove m p) e .own) in
-    let b : _ = none-refuses (positionCheck p) (unless (not (eqb (side p) (side (current h)))) wrongSide ∷ []) (a .1) in
+    let last : List ℕ = unless (comesAfter (current h) m p) wrongRecord ∷ [] in
+    let a : _ = none-refuses (unless (among m (current h .moves)) notListed) (positionCheck p ∷ unless (not (eqb (side p) (side (current h)))) wrongSide ∷ last) (answer-says L h (makeMove m p) e .own) in
+    let b : _ = none-refuses (positionCheck p) (unless (not (eqb (side p) (side (current h)))) wrongSide ∷ last) (a .1) in
+    let d : _ = none-refuses (unless (not (eqb (side p) (side (current h)))) wrongSide) last (b .1) in
     record {
       listed = test-held (among m (current h .moves)) notListed (omega arith) (a .0);
       check = b .0;
-      turn = not-true (eqb (side p) (side (current h))) (test-held (not (eqb (side p) (side (current h)))) wrongSide (omega arith) (one-check _ (b .1)));
+      turn = not-true (eqb (side p) (side (current h))) (test-held (not (eqb (side p) (side (current h)))) wrongSide (omega arith) (d .0));
+      after = test-held (comesAfter (current h) m p) wrongRecord (omega arith) (one-check _ (d .1));
     }
 
 pub offer-says : (L : Limits) (h : History) (c : ℕ) → answer L h (offerDraw c) ≡ 0 → colourCheck c ≡ 0

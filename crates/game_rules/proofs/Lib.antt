@@ -2,6 +2,7 @@ pub mod CallOrder
 pub mod Checks
 pub mod Decide
 pub mod Keeps
+pub mod Follows
 pub mod Plays
 pub mod Used
 pub mod Hollow

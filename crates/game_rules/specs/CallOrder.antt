@@ -1,11 +1,12 @@
--- The order of the checks of a log call (document 01, "Answer numbers": 16, 9, 10, then for a move 11, 5, 6, 12, 13), at its smallest: each call breaks
--- the check of its row and all that come after it, so that any later check tested before it would give another number.
+-- The order of the checks of a log call (document 01, "Answer numbers": 16, 9, 10, then for a move 11, 5, 6, 12, 13; document 02, order 9: 24
+-- after 12 and before 13), at its smallest: each call breaks the check of its row and all that come after it, so that any later check tested before it
+-- would give another number.
 -- Assumes nothing.
 use mathlib.Core.Path.{_≡_}
 use mathlib.Core.List.{List, [], _∷_, _++_}
 use Prim.Native.Nat.{ℕ}
 use lib.ListN.{replicate}
-use Rattle.square.specs.Answer.{outOfRange, badList, notGood, gameOver, notListed, wrongSide, logFull, noOffer, noClaim, partTooShort}
+use Rattle.square.specs.Answer.{outOfRange, badList, notGood, gameOver, notListed, wrongSide, wrongRecord, logFull, noOffer, noClaim, partTooShort}
 use Rattle.position.specs.Layout.{Position}
 use Rattle.stored_position.specs.Bytes.{positionBytes}
 use Rattle.game_rules.specs.Limits.{Limits}
@@ -28,9 +29,14 @@ startBytes = positionBytes (onEmpty 0 0 (0 ∷ []))
 abbrev pub answered : List ℕ → Call → ℕ
 answered ps c = callAnswer noRoom [] ps 0 0 c
 
--- a next position that breaks 5, 6 and 12: an in-check byte of 2, an entry of 28,672, and white to move again
+-- a next position that breaks 5, 6, 12 and 24: an in-check byte of 2, an entry of 28,672, and white to move again, where an empty board with black to
+-- move is what move 0 leaves
 abbrev pub allWrong : Position
 allWrong = onEmpty 0 2 (28672 ∷ [])
+
+-- one that breaks 24: a pawn stands on a1
+abbrev pub pawnMore : Position
+pawnMore = record { board = 1 ∷ replicate 63 0 ++ (1 ∷ 0 ∷ 0 ∷ 0 ∷ []); check = 0; moves = [] }
 
 pub record ChecksInOrder : Type 0 where
   -- a part without a position: it is too short, no good log, and has no move to play
@@ -44,6 +50,7 @@ pub record ChecksInOrder : Type 0 where
   pub gives-5 : answered startBytes (makeMove 0 allWrong) ≡ outOfRange
   pub gives-6 : answered startBytes (makeMove 0 (onEmpty 0 0 (28672 ∷ []))) ≡ badList
   pub gives-12 : answered startBytes (makeMove 0 (onEmpty 0 0 [])) ≡ wrongSide
+  pub gives-24 : answered startBytes (makeMove 0 pawnMore) ≡ wrongRecord
   pub gives-13 : answered startBytes (makeMove 0 (onEmpty 1 0 [])) ≡ logFull
   -- for an offer or a resignation 5, 13; for the others 14 or 15, then 13
   pub offer-gives-5 : answered startBytes (offerDraw 2) ≡ outOfRange

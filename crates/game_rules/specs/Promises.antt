@@ -8,11 +8,13 @@ use Prim.Native.Nat.{ℕ, suc, _+_, _*_}
 use lib.Dec.{eqb}
 use lib.ListN.{take}
 use Rattle.square.specs.Answer.{accepted}
+use Rattle.board_after.specs.After.{recordAfter}
 use Rattle.action.specs.Layout.{actionSize}
 use Rattle.position.specs.Layout.{Position, positionSize}
 use Rattle.game_rules.specs.declared.Counts.{Counts}
 use Rattle.game_rules.specs.Limits.{Limits}
-use Rattle.game_rules.specs.Rules.{Call, isMove, History, begun, after, answer, result, ended, claimStands}
+use Rattle.game_rules.specs.Rules.{Call, makeMove, offerDraw, acceptDraw, declareDraw, resign}
+use Rattle.game_rules.specs.Rules.{isMove, History, begun, after, current, answer, result, ended, claimStands}
 use Rattle.game_rules.specs.Good.{Accepted, Holding, Good, historyOf, isGood}
 use Rattle.game_rules.specs.Calls.{longEnough, callAnswer, counts, countsAfter, actionsAfter, positionsAfter, startAnswer, positionsBegun, resultAnswer, claimAnswer}
 
@@ -90,6 +92,24 @@ abbrev pub AcceptedPlays : Type 0
 AcceptedPlays = (L : Limits) (h : History) (acts ps : List ℕ) → longEnough L acts ps ≡ true → Accepted L h
     → AllAnswered0 L h acts ps
     × Holding (played L h acts ps .acts) (played L h acts ps .ps) (played L h acts ps .counts .actions) (played L h acts ps .counts .moves) h
+
+-- order 9: "A logged move must then come with this record": so did each move of a history ..
+unfoldable pub Follows : History → Type 0
+Follows (begun p) = Unit {0}
+Follows (after h (makeMove m p)) = Follows h × (p .board ≡ recordAfter (current h .board) m)
+Follows (after h (offerDraw c)) = Follows h
+Follows (after h acceptDraw) = Follows h
+Follows (after h declareDraw) = Follows h
+Follows (after h (resign c)) = Follows h
+
+-- .. that a good log holds ..
+abbrev pub GoodLogsFollow : Type 0
+GoodLogsFollow = (L : Limits) (acts ps : List ℕ) (n m : ℕ) → Good L acts ps n m → Follows (historyOf acts ps n)
+
+-- .. and a move that is answered 0
+abbrev pub MovesComeWithTheirRecord : Type 0
+MovesComeWithTheirRecord = (L : Limits) (acts ps : List ℕ) (n m x : ℕ) (p : Position) → called L acts ps n m (makeMove x p) .counts .number ≡ 0
+    → p .board ≡ recordAfter (current (historyOf acts ps n) .board) x
 
 -- two logs whose parts are long enough and agree on the used bytes
 pub record SameUsed (L : Limits) (acts bacts ps qs : List ℕ) (n m : ℕ) : Type 0 where

@@ -4,9 +4,10 @@ use mathlib.Core.Bool.{Bool, true, false, cond, not, _&&_, _||_}
 use mathlib.Core.List.{List, [], _∷_, _++_}
 use Prim.Native.Nat.{ℕ, suc}
 use lib.Dec.{eqb, leb, ltb}
-use Rattle.square.specs.Answer.{notListed, gameOver, wrongSide, logFull, noOffer, noClaim}
-use Rattle.square.specs.Numbers.{among}
+use Rattle.square.specs.Answer.{notListed, gameOver, wrongSide, wrongRecord, logFull, noOffer, noClaim}
+use Rattle.square.specs.Numbers.{same, among}
 use Rattle.chess_move.specs.Number.{moveOf}
+use Rattle.board_after.specs.After.{recordAfter}
 use Rattle.action.specs.declared.Action.{Action}
 use Rattle.action.specs.declared.Action.the-variants.{MakeMove, OfferDraw, AcceptDraw, DeclareDraw, Resign}
 use Rattle.action.specs.declared.Stored.{Stored}
@@ -127,10 +128,18 @@ unfoldable pub firstRefusal : List ℕ → ℕ
 firstRefusal [] = 0
 firstRefusal (a ∷ rest) = cond (eqb a 0) (firstRefusal rest) a
 
--- a call's own checks: for a move 11, 5, 6, 12; for an offer or a resignation 5; for the others 14 or 15
+-- the record of a position is the one after a move from another
+abbrev pub comesAfter : Position → ℕ → Position → Bool
+comesAfter p m q = same (q .board) (recordAfter (p .board) m)
+
+-- a call's own checks: for a move 11, 5, 6, 12, 24; for an offer or a resignation 5; for the others 14 or 15
 abbrev pub ownChecks : History → Call → List ℕ
 ownChecks h (makeMove m p) =
-    unless (among m (current h .moves)) notListed ∷ positionCheck p ∷ unless (not (eqb (side p) (side (current h)))) wrongSide ∷ []
+    unless (among m (current h .moves)) notListed
+    ∷ positionCheck p
+    ∷ unless (not (eqb (side p) (side (current h)))) wrongSide
+    ∷ unless (comesAfter (current h) m p) wrongRecord
+    ∷ []
 ownChecks h (offerDraw c) = colourCheck c ∷ []
 ownChecks h acceptDraw = unless (offerStands h) noOffer ∷ []
 ownChecks h declareDraw = unless (claimStands h) noClaim ∷ []

@@ -1,7 +1,7 @@
 -- The pass over the log, action by action: it ends early exactly where the log is not good.
 -- Assumes nothing.
 use mathlib.Core.Path.{_≡_, refl, ap, sym, _∙_}
-use mathlib.Core.Bool.{Bool, true, false, cond, not, _&&_, _||_, and-true, and-false, false≢true}
+use mathlib.Core.Bool.{Bool, true, false, cond, _&&_, _||_, and-true, and-false, false≢true}
 use mathlib.Core.List.{List}
 use Prim.Native.Nat.{ℕ, zero, suc, _+_, _-_, _<_, _≤_, zero-le}
 use native.Mathlib.Numerals.{add-one}
@@ -13,13 +13,16 @@ use Rattle.square.proofs.Numbers.{both-left, both-right, most-each}
 use Rattle.square.specs.Parts.{item}
 use Rattle.chess_move.specs.Number.{lastMove}
 use Rattle.actions.specs.Part.{moveAt, movesIn, lastAction}
-use Rattle.position.specs.Layout.{positionSize, side, positionOf}
+use Rattle.position.specs.Layout.{positionSize}
 use Rattle.stored_position.specs.Bytes.{isPosition, listsMove, isPositionWith}
+use Rattle.stored_position.specs.ByParts.{recordFits}
+use Rattle.stored_position.proofs.Known.{no-record}
 use Rattle.ending.specs.Ending.{resultOfAction}
 use Rattle.game_rules.specs.Limits.{Limits, limits, actionsLength, positionsLength}
 use Rattle.game_rules.specs.Good.{nextSound, sound, isGood}
-use Rattle.good_log.specs.Steps.{moveLeads, moveMayStand, otherSound, otherMayStand}
+use Rattle.good_log.specs.Steps.{turnsTo, moveLeads, moveMayStand, otherSound, otherMayStand}
 use Rattle.good_log.proofs.Counted.{notSound, moveStep, step}
+use Rattle.good_log.proofs.Turns.{leads-in-range}
 use Rattle.good_log.proofs.Steps.{stepTo, step-is}
 use Rattle.good_log.proofs.Moves.{Left, movesAfter, move-goes-on, move-unsound, move-sound-by, sound-leaves, step-of-listed, step-after-end, other-sound-by, unsound}
 
@@ -240,6 +243,17 @@ pass-end acts ps n m i k over r =
     let e : n ≡ i = omega (arith, r .far) in
     rw (e, ← r .counted, r .ok)
 
+-- a start whose record is out of range
+pub no-start : (acts ps : List ℕ) (n m : ℕ) → recordFits (item positionSize ps 0) ≡ false → isGood limits acts ps n m ≡ false
+unfolding sound recordFits
+no-start acts ps n m e = spoiled acts ps n m 0 zero-le (no-record (item positionSize ps 0) e)
+
+-- a move that may stand leads to a record in range
+pub leads-on : (ps : List ℕ) (m k x : ℕ) → x ≤ lastMove → recordFits (item positionSize ps k) ≡ true → moveMayStand ps m k x ≡ true
+    → recordFits (item positionSize ps (k + 1)) ≡ true
+leads-on ps m k x h r e =
+    rw (add-one k) (leads-in-range (item positionSize ps k) r (item positionSize ps (suc k)) x h (both-right (ltb k m) _ e))
+
 -- action i, of which x is read
 module _
     (acts ps : List ℕ) (n m i k : ℕ) (g : Given acts ps n m) (at : Reaching acts ps n m i k) (before : i < n) (bytes : (j : ℕ) → getD acts j 0 < 256)
@@ -256,7 +270,7 @@ module _
       q = item positionSize ps (suc k)
 
       abbrev turned : Bool
-      turned = not (eqb (side (positionOf q)) (side (positionOf p)))
+      turned = turnsTo p x q
 
       moves-here : movesIn acts (suc i) ≡ suc k
       unfolding movesIn

@@ -8,7 +8,7 @@ use native.Mathlib.Omega.{arith}
 use lib.Dec.{eqb, leb, ltb}
 use lib.ListN.{length, drop}
 use borrow.Author.Tests.{eq-eqb, ne-eqb, eqb-true, eqb-false, le-leb, lt-leb, lt-ltb}
-use Rattle.square.specs.Answer.{notListed, noOffer, noClaim, wrongSide}
+use Rattle.square.specs.Answer.{notListed, noOffer, noClaim, wrongSide, wrongRecord}
 use Rattle.square.specs.Numbers.{allAtMost, same, among}
 use Rattle.square.specs.Parts.{item}
 use Rattle.square.proofs.Numbers.{most-take, most-drop}
@@ -27,7 +27,7 @@ use Rattle.actions.proofs.Counting.{value-most}
 use Rattle.position.specs.Layout.{Position, positionSize, side, positionAt}
 use Rattle.stored_position.specs.Bytes.{positionBytes, positionCheck, isPosition, listsMove}
 use Rattle.game_rules.specs.Limits.{Limits, limits}
-use Rattle.game_rules.specs.Rules.{Call, makeMove, History, moves, isMove, actionMade, result, ended, unless, firstRefusal, ownChecks, roomFor, answer}
+use Rattle.game_rules.specs.Rules.{Call, makeMove, History, moves, isMove, actionMade, result, ended, unless, firstRefusal, comesAfter, ownChecks, roomFor, answer}
 use Rattle.game_rules.specs.Good.{callOf, callAt, historyOf, positionHere, positionMade, wasMade, nextSound, sound}
 use Rattle.game_rules.proofs.Log.{actions-at, moves-at, made-back, Back, current-is, result-is, offer-is}
 use Rattle.game_rules.proofs.Checks.{nothing-refused}
@@ -48,18 +48,22 @@ own-alone a = go (eqb a 0) refl
     go true e = sym (eqb-true a 0 e)
     go false e = refl
 
-move-tests : (listed there turned : Bool) (a : ℕ)
-    → eqb (firstRefusal (0 ∷ unless listed notListed ∷ a ∷ unless turned wrongSide ∷ 0 ∷ [])) 0 && (true && there) ≡ listed && ((eqb a 0 && there) && turned)
+move-tests : (listed there turned after : Bool) (a : ℕ)
+    → eqb (firstRefusal (0 ∷ unless listed notListed ∷ a ∷ unless turned wrongSide ∷ unless after wrongRecord ∷ 0 ∷ [])) 0 && (true && there)
+    ≡ listed && ((eqb a 0 && there) && (turned && after))
 unfolding firstRefusal
-move-tests false there turned a = refl
-move-tests true there turned a = go (eqb a 0) refl turned there
+move-tests false there turned after a = refl
+move-tests true there turned after a = go (eqb a 0) refl turned after there
   where
-    go : (t : Bool) → eqb a 0 ≡ t → (turned there : Bool) → eqb (cond t (firstRefusal (unless turned wrongSide ∷ 0 ∷ [])) a) 0 && (true && there) ≡ ((t && there) && turned)
-    go true e true true = refl
-    go true e true false = refl
-    go true e false true = refl
-    go true e false false = refl
-    go false e turned there = rw e
+    go : (t : Bool) → eqb a 0 ≡ t → (turned after there : Bool)
+        → eqb (cond t (firstRefusal (unless turned wrongSide ∷ unless after wrongRecord ∷ 0 ∷ [])) a) 0 && (true && there) ≡ ((t && there) && (turned && after))
+    go true e true true true = refl
+    go true e true true false = refl
+    go true e true false true = refl
+    go true e true false false = refl
+    go true e false after true = refl
+    go true e false after false = refl
+    go false e turned after there = rw e
 
 over : (L : Limits) (h : History) (c : Call) → ended h ≡ true → eqb (answer L h c) 0 ≡ false
 unfolding answer firstRefusal
@@ -141,6 +145,7 @@ module _
           (among (numberAnswer x .value) (positionAt ps k .moves))
           (same (item positionSize ps (suc k)) (positionBytes q))
           (not (eqb (side q) (side (positionAt ps k))))
+          (comesAfter (positionAt ps k) (numberAnswer x .value) q)
           (positionCheck q))
 
       other-sound : (a : Action) → actionAt acts i ≡ Holds a → isMove (callOf (Holds a) q) ≡ false

@@ -2,7 +2,6 @@
 use action::ACTION_SIZE;
 use action::Action;
 use action::Stored;
-use board_builder::SIDE_AT;
 use chess_move::LAST_MOVE;
 use ending::GOES_ON;
 use game_rules::ACTIONS_LENGTH;
@@ -17,10 +16,14 @@ use square::NOT_LISTED;
 use square::OUT_OF_RANGE;
 use square::PART_TOO_SHORT;
 ghost use mathlib.Core.Path.{_≡_};
+ghost use mathlib.Core.Bool.{true};
 ghost use Prim.Native.Nat.{_≤_, _<_};
 ghost use lib.ListN.{length};
+ghost use Rattle.square.specs.Parts.{item};
 ghost use Rattle.chess_move.specs.Number.{lastMove};
 ghost use Rattle.action.specs.Layout.{colourCheck};
+ghost use Rattle.position.specs.Layout.{positionSize};
+ghost use Rattle.stored_position.specs.ByParts.{recordFits};
 ghost use Rattle.game_rules.specs.Limits.{limits, actionsLength, positionsLength};
 ghost use Rattle.game_rules.specs.Rules.{unless};
 ghost use Rattle.game_rules.specs.Good.{isGood};
@@ -61,21 +64,22 @@ fn other_fits(acts: &[u8], ps: &[u8], i: usize, k: usize, stored: Stored) -> boo
     }
 }
 
-// Whether a position lists a move, and the side to move is another one after it. That what stands after it is a position is asked when it is left.
+// Whether a position whose record is in range lists a move, and what stands after it has the record after the move, whose side is another one. That
+// what stands there is a position is asked when it is left.
 fn move_leads(p: &[u8], m: u64, q: &[u8]) -> bool
-    requires { ⌜ m ≤ lastMove ⌝ }
+    requires { ⌜ (m ≤ lastMove) × (recordFits (now p) ≡ true) ⌝ }
     ensures { λ r. ⌜ r ≡ moveLeads (now (p .entry)) m (now (q .entry)) ⌝ }
 {
-    if !stored_position::is_position_with(p, m as u16) {
+    if !stored_position::is_rest_with(p, m as u16) {
         return false;
     }
-    square::byte_at(q, SIDE_AT) != square::byte_at(p, SIDE_AT)
+    board_after::leads_to(p, m as u16, q)
 }
 
 // Whether move `x` was accepted as the next one, with `k` made before it and `m` in all. Whether the list before it was empty is not asked: no such list
 // has it. By `<=` and not `==`, so that the compiler sees that the position after it lies in the part.
 fn move_may_stand(ps: &[u8], m: usize, k: usize, x: u64) -> bool
-    requires { ⌜ (m ≤ limits .most-moves) × (x ≤ lastMove) ⌝ }
+    requires { ⌜ (m ≤ limits .most-moves) × (x ≤ lastMove) × (recordFits (item positionSize (now ps) k) ≡ true) ⌝ }
     ensures { λ r. ⌜ r ≡ moveMayStand (now (ps .entry)) m k x ⌝ }
 {
     if m <= k {
@@ -110,11 +114,15 @@ fn other_may_stand(acts: &[u8], ps: &[u8], n: usize, i: usize, k: usize) -> bool
 }
 
 // Whether some sequence of accepted calls from a start makes the log. Each position is looked at when a move leaves it, with its list, and the last one at
-// the end. No turn finds its action past the part: it is tested so that the compiler sees that the action's bytes are there.
+// the end; but records only once, the first: each other one is in range since it is the one after a move. No turn finds its action past the part: it is
+// tested so that the compiler sees that the action's bytes are there.
 fn is_good(acts: &[u8], ps: &[u8], n: usize, m: usize) -> bool
     requires { ⌜ (n ≤ limits .most-actions) × (m ≤ limits .most-moves) × (actionsLength limits ≤ length (now acts)) × (positionsLength limits ≤ length (now ps)) ⌝ }
     ensures { λ r. ⌜ r ≡ isGood limits (now (acts .entry)) (now (ps .entry)) n m ⌝ }
 {
+    if !stored_position::has_record(position::at(ps, 0)) {
+        return false;
+    }
     let mut k: usize = 0;
     let mut i: usize = 0;
     while i < n {

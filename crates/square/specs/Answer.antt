@@ -56,7 +56,7 @@ notListed = 11
 abbrev pub wrongSide : ℕ
 wrongSide = 12
 
--- 13: 2,048 actions reached, or for a move 1,024 moves
+-- 13: the log has as many actions as it may have, or for a move as many moves
 abbrev pub logFull : ℕ
 logFull = 13
 
@@ -99,6 +99,10 @@ tooDeep = 22
 -- order 8: an unknown token, a result in brackets, a stray closing bracket or an offset past the text
 abbrev pub unknownToken : ℕ
 unknownToken = 23
+
+-- order 9: the record given with a move is not the one after it
+abbrev pub wrongRecord : ℕ
+wrongRecord = 24
 
 -- 0 and the answer
 abbrev pub accepted : ℕ → Answer

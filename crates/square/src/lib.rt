@@ -78,6 +78,8 @@ pub const TOO_DEEP: u64 = 22;
 
 pub const UNKNOWN_TOKEN: u64 = 23;
 
+pub const WRONG_RECORD: u64 = 24;
+
 pub fn accepted(value: u64) -> Answer
     ensures { λ r. ⌜ r ≡ accepted value ⌝ }
 {

@@ -15,7 +15,7 @@ use Rattle.square.proofs.Numbers.{both-left}
 use Rattle.square.proofs.Bounds.{gather, bound-at, bound-parts, bound-overlap}
 use Rattle.chess_move.specs.Number.{lastMove, ofBytes}
 use Rattle.position.specs.Layout.{movesAt, movesFrom}
-use Rattle.stored_position.specs.Bytes.{listFits, listFitsWith}
+use Rattle.stored_position.specs.ByParts.{listFits, listFitsWith}
 use Rattle.stored_position.proofs.Listing.{movesLeft, moveHere, one-less, lists-end}
 
 -- from where on a list that is shorter than a block uses no byte

@@ -9,8 +9,10 @@ use Rattle.stored_position.proofs.to_bytes.Reads as to-bytes
 use Rattle.stored_position.proofs.to_bytes.Kinds as to-bytes·k
 use Rattle.stored_position.proofs.is_position.Reads as is-position
 use Rattle.stored_position.proofs.is_position.Kinds as is-position·k
-use Rattle.stored_position.proofs.is_position_with.Reads as is-position-with
-use Rattle.stored_position.proofs.is_position_with.Kinds as is-position-with·k
+use Rattle.stored_position.proofs.has_record.Reads as has-record
+use Rattle.stored_position.proofs.has_record.Kinds as has-record·k
+use Rattle.stored_position.proofs.is_rest_with.Reads as is-rest-with
+use Rattle.stored_position.proofs.is_rest_with.Kinds as is-rest-with·k
 use Rattle.stored_position.proofs.lists.Reads as lists
 use Rattle.stored_position.proofs.lists.Kinds as lists·k
 
@@ -26,8 +28,11 @@ to-bytes-out κs a x y e f p q = p .1 ∙ sym (q .1)
 pub is-position-answer : OneAnswer is-position·k.ps is-position·k.r is-position.Learnt
 is-position-answer κs a x y e f p q = p ∙ sym q
 
-pub is-position-with-answer : OneAnswer is-position-with·k.ps is-position-with·k.r is-position-with.Learnt
-is-position-with-answer κs a x y e f p q = p ∙ sym q
+pub has-record-answer : OneAnswer has-record·k.ps has-record·k.r has-record.Learnt
+has-record-answer κs a x y e f p q = p ∙ sym q
+
+pub is-rest-with-answer : OneAnswer is-rest-with·k.ps is-rest-with·k.r is-rest-with.Learnt
+is-rest-with-answer κs a x y e f p q = p ∙ sym q
 
 pub lists-answer : OneAnswer lists·k.ps lists·k.r lists.Learnt
 lists-answer κs a x y e f p q = p ∙ sym q

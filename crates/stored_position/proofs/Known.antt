@@ -3,12 +3,12 @@
 use mathlib.Core.Path.{_≡_, refl, ap, ap₂, sym, _∙_}
 use mathlib.Core.Bool.{Bool, true, false, _&&_, and-comm, false≢true}
 use mathlib.Core.List.{List, [], _∷_, _++_}
-use Prim.Native.Nat.{ℕ, zero, suc, _+_, _*_, _-_, _≤_}
+use Prim.Native.Nat.{ℕ, zero, suc, _+_, _*_, _-_, _≤_, _<_}
 use native.Mathlib.Omega.{arith}
 use lib.Dec.{eqb, leb, eqb·suc-zero, leb·suc-zero}
-use lib.ListN.{length, take, drop, getD, replicate, length-drop, take-append-drop}
+use lib.ListN.{length, take, drop, getD, replicate, length-take, length-drop, take-append-drop}
 use lib.Seq.{drop-cons, drop-drop}
-use borrow.Author.Tests.{eq-eqb, eqb-true, eqb-false, le-leb, leb-true, leb-false}
+use borrow.Author.Tests.{eq-eqb, ne-eqb, eqb-true, eqb-false, le-leb, leb-true, leb-false}
 use Rattle.square.specs.Numbers.{allAtMost, same, among}
 use Rattle.square.proofs.Numbers.{both-left, both-right}
 use Rattle.square.proofs.Same.{same-lengths}
@@ -17,7 +17,8 @@ use Rattle.chess_move.specs.Number.{lastMove}
 use Rattle.move_list.specs.MoveList.{longestList, listInRange}
 use Rattle.position.specs.Layout.{checkAt, lengthAt, movesAt, positionSize, movesFrom, positionOf}
 use Rattle.position.proofs.Moves.{AllBytes, length-moves, take-two}
-use Rattle.stored_position.specs.Bytes.{moveBytes, positionBytes, positionCheck, isPosition, frontFits, listFits, listFitsWith, listsMove, isPositionWith}
+use Rattle.stored_position.specs.Bytes.{moveBytes, positionBytes, positionCheck, isPosition, listsMove, isPositionWith}
+use Rattle.stored_position.specs.ByParts.{frontFits, listFits, listFitsWith, recordFits, restFits, restFitsWith}
 use Rattle.stored_position.proofs.Bytes.{length-position}
 use Rattle.stored_position.proofs.Checks.{position-fits, bad-board, bad-check, by-list}
 
@@ -145,3 +146,29 @@ module _ (s : List ℕ) where
   pub by-front-with : (m : ℕ) → AllBytes s → frontFits s ≡ true → isPositionWith s m ≡ listFitsWith s (getD s lengthAt 0) m
   unfolding isPositionWith listFitsWith listsMove positionOf
   by-front-with m b e = ap₂ _&&_ (by-front b e) (ap (λ (t : Bool). t && among m (movesFrom s movesAt (getD s lengthAt 0))) (eq-eqb _ _ (front-whole e)))
+
+  pub rest-whole : restFits s ≡ true → length s ≡ positionSize
+  rest-whole e = eqb-true _ _ (both-left (eqb (length s) positionSize) (leb (getD s checkAt 0) 1) e)
+
+  pub rest-so : (m : ℕ) → restFits s ≡ true → listFitsWith s (getD s lengthAt 0) m ≡ restFitsWith s m
+  unfolding restFitsWith
+  rest-so m e = rw e
+
+  pub short-record : length s < recordSize → false ≡ recordFits s
+  unfolding recordFits numbersInRange
+  short-record h = rw (ne-eqb (length (take recordSize s)) recordSize (λ e. omega (arith, length-take recordSize s, e)))
+
+  -- of a record in range, the rest tells a position that lists a move
+  pub by-rest-with : (m : ℕ) → AllBytes s → numbersInRange (take recordSize s) ≡ true → isPositionWith s m ≡ restFitsWith s m
+  unfolding restFitsWith frontFits
+  by-rest-with m b r = go (eqb (length s) positionSize) refl (leb (getD s checkAt 0) 1) refl
+    where
+      go : (a : Bool) → eqb (length s) positionSize ≡ a → (t : Bool) → leb (getD s checkAt 0) 1 ≡ t
+          → isPositionWith s m ≡ (a && t) && listFitsWith s (getD s lengthAt 0) m
+      go true e true f = by-front-with m b (rw (e, f, r))
+      go true e false f = not-front-with m (rw (e, f, r))
+      go false e t f = not-front-with m (rw e)
+
+  pub no-record : numbersInRange (take recordSize s) ≡ false → isPosition s ≡ false
+  unfolding positionOf
+  no-record e = not-in-range s 4 (bad-board (positionOf s) e)

@@ -3,16 +3,16 @@
 -- Assumes nothing.
 use mathlib.Core.Bool.{Bool, cond, _&&_}
 use mathlib.Core.List.{List, [], _∷_, _++_}
-use Prim.Native.Nat.{ℕ, _+_, _*_, _-_}
+use Prim.Native.Nat.{ℕ, _*_, _-_}
 use lib.Dec.{eqb, leb}
-use lib.ListN.{length, take, drop, getD, replicate}
+use lib.ListN.{length, replicate}
 use Rattle.square.specs.Answer.{outOfRange, badList}
-use Rattle.square.specs.Numbers.{allAtMost, same, among}
+use Rattle.square.specs.Numbers.{same, among}
 use Rattle.board_builder.specs.declared.BoardBuilder.{BoardBuilder}
-use Rattle.board_builder.specs.BoardBuilder.{recordSize, numbers, numbersInRange}
-use Rattle.chess_move.specs.Number.{lastMove, lowByte, highByte}
+use Rattle.board_builder.specs.BoardBuilder.{numbers, numbersInRange}
+use Rattle.chess_move.specs.Number.{lowByte, highByte}
 use Rattle.move_list.specs.MoveList.{longestList, listInRange}
-use Rattle.position.specs.Layout.{Position, checkAt, movesAt, positionSize, movesFrom, positionOf}
+use Rattle.position.specs.Layout.{Position, positionSize, positionOf}
 
 unfoldable pub moveBytes : List ℕ → List ℕ
 moveBytes [] = []
@@ -34,18 +34,6 @@ positionGiven b check list = record { board = numbers b; check = check; moves = 
 -- bytes that are exactly those of a position in range
 unfoldable pub isPosition : List ℕ → Bool
 isPosition s = eqb (positionCheck (positionOf s)) 0 && same s (positionBytes (positionOf s))
-
--- all but the list: as many bytes as a position has, the record, the in-check byte
-unfoldable pub frontFits : List ℕ → Bool
-frontFits s = eqb (length s) positionSize && (numbersInRange (take recordSize s) && leb (getD s checkAt 0) 1)
-
--- so many entries of a position are moves, and what is past them is 0
-unfoldable pub listFits : List ℕ → ℕ → Bool
-listFits s entries = allAtMost 0 (drop (movesAt + 2 * entries) s) && allAtMost lastMove (movesFrom s movesAt entries)
-
--- and a move is one of them
-unfoldable pub listFitsWith : List ℕ → ℕ → ℕ → Bool
-listFitsWith s entries m = listFits s entries && among m (movesFrom s movesAt entries)
 
 -- whole bytes of a position whose list has the move
 unfoldable pub listsMove : List ℕ → ℕ → Bool

@@ -22,7 +22,8 @@ ghost use Rattle.board_builder.specs.BoardBuilder.{recordSize, numbers};
 ghost use Rattle.move_list.specs.MoveList.{longestList};
 ghost use Rattle.chess_move.specs.Number.{lastMove, ofBytes};
 ghost use Rattle.position.specs.Layout.{movesAt, positionSize, movesFrom};
-ghost use Rattle.stored_position.specs.Bytes.{moveBytes, positionBytes, positionCheck, positionGiven, isPosition, frontFits, listFits, listFitsWith, listsMove, isPositionWith};
+ghost use Rattle.stored_position.specs.Bytes.{moveBytes, positionBytes, positionCheck, positionGiven, isPosition, listsMove};
+ghost use Rattle.stored_position.specs.ByParts.{frontFits, listFits, listFitsWith, recordFits, restFits, restFitsWith};
 
 // Entries that are looked at together, whether used or not, where the list is shorter, as nearly every list is: a length that is known to the compiler
 // makes straight code of the loops, and no branch hangs on the list's length. The large block is for the few lists that the small one does not hold.
@@ -232,11 +233,30 @@ pub fn is_position(s: &[u8]) -> bool
     is_list(s, s[LENGTH_AT] as usize)
 }
 
-// Whether they are, and the position lists a move.
-pub fn is_position_with(s: &[u8], m: u16) -> bool
-    ensures { λ r. ⌜ r ≡ isPositionWith (now (s .entry)) m ⌝ }
+// Whether the record in front is in range.
+pub fn has_record(s: &[u8]) -> bool
+    ensures { λ r. ⌜ r ≡ recordFits (now (s .entry)) ⌝ }
 {
-    if !is_front(s) {
+    if s.len() < RECORD_SIZE {
+        return false;
+    }
+    board_builder::numbers_in_range(&s[..RECORD_SIZE])
+}
+
+fn is_rest(s: &[u8]) -> bool
+    ensures { λ r. ⌜ r ≡ restFits (now (s .entry)) ⌝ }
+{
+    if s.len() != POSITION_SIZE {
+        return false;
+    }
+    s[CHECK_AT] <= 1
+}
+
+// Whether all but the record is that of a position, and the position lists a move.
+pub fn is_rest_with(s: &[u8], m: u16) -> bool
+    ensures { λ r. ⌜ r ≡ restFitsWith (now (s .entry)) m ⌝ }
+{
+    if !is_rest(s) {
         return false;
     }
     let entries = s[LENGTH_AT] as usize;

@@ -5,7 +5,7 @@ use native.Mathlib.Omega.{arith}
 use lib.ListN.{take, length-take}
 use borrow.Author.Tests.{eq-eqb, ne-eqb, not-true, not-false}
 use Rattle.board_builder.specs.BoardBuilder.{recordSize, numbersInRange}
-use Rattle.stored_position.specs.Bytes.{frontFits}
+use Rattle.stored_position.specs.ByParts.{frontFits}
 use Rattle.stored_position.proofs.is_front.Statement.{statement}
 use Rattle.stored_position.proofs.is_front.Tie as tie
 

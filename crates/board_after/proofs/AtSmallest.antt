@@ -1,0 +1,36 @@
+-- The sentences of order 9 at their smallest, each row computed.
+-- Assumes nothing.
+use mathlib.Core.Path.{refl}
+use Rattle.square.specs.Piece.{kindOf}
+use Rattle.board_after.specs.After.{colourStep, enemyPawn, twoApart, castles, corner, rookMoved, takesInPassing, pawnRemoved, setDown}
+use Rattle.board_after.specs.After.{squaresAfter, rightsWithout, rightsAfter, stepsTwice, stoodBefore, stoodBehind, fileAfter, afterParts}
+use Rattle.board_after.specs.AtSmallest.{Rows}
+
+pub rows : Rows
+unfolding kindOf colourStep enemyPawn twoApart castles corner rookMoved takesInPassing pawnRemoved setDown squaresAfter rightsWithout rightsAfter
+    stepsTwice stoodBefore stoodBehind fileAfter afterParts
+rows = record {
+  moved = refl;
+  takes = refl;
+  promoted = refl;
+  any-promoted = refl;
+  castling = refl;
+  queen-side = refl;
+  anywhere = refl;
+  no-rook = refl;
+  one-file = refl;
+  no-king = refl;
+  passing = refl;
+  clears-any = refl;
+  not-empty = refl;
+  rights = refl;
+  double = refl;
+  double-behind = refl;
+  alone = refl;
+  own-pawn = refl;
+  single = refl;
+  no-pawn = refl;
+  edge = refl;
+  last = refl;
+  empty = refl;
+}

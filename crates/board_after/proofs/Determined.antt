@@ -1,0 +1,19 @@
+-- Each public function's contract, as the toolchain reads it off the source, permits one answer.
+-- Assumes nothing.
+use mathlib.Core.Path.{sym, _∙_}
+use Rattle.square.specs.Determined.{OneAnswer}
+use Rattle.board_after.proofs.board_after.Reads as board-after
+use Rattle.board_after.proofs.board_after.Kinds as board-after·k
+use Rattle.board_after.proofs.leads_to.Reads as leads-to
+use Rattle.board_after.proofs.leads_to.Kinds as leads-to·k
+use Rattle.board_after.proofs.leads_to_board.Reads as leads-to-board
+use Rattle.board_after.proofs.leads_to_board.Kinds as leads-to-board·k
+
+pub board-after-answer : OneAnswer board-after·k.ps board-after·k.r board-after.Learnt
+board-after-answer κs a x y e f p q = p ∙ sym q
+
+pub leads-to-answer : OneAnswer leads-to·k.ps leads-to·k.r leads-to.Learnt
+leads-to-answer κs a x y e f p q = p ∙ sym q
+
+pub leads-to-board-answer : OneAnswer leads-to-board·k.ps leads-to-board·k.r leads-to-board.Learnt
+leads-to-board-answer κs a x y e f p q = p ∙ sym q

@@ -1,0 +1,9 @@
+pub mod AtSmallest
+pub mod Rights
+pub mod Squares
+pub mod Stay
+pub mod Differ
+pub mod Records
+pub mod Ranges
+pub mod Tests
+pub mod Determined

@@ -1,0 +1,61 @@
+use borrow.Author.Needs.{needs}
+use Rattle.board_after.specs.After.{afterParts}
+use Rattle.board_after.proofs.after.Statement.{statement}
+use Rattle.board_after.proofs.after.Tie as tie
+use Rattle.board_after.proofs.after.Reads as reads
+use Rattle.board_after.proofs.after.Lts as lts
+use Rattle.board_after.proofs.file_after.Reads as file-after-reads
+use Rattle.board_after.proofs.move_men.Reads as move-men-reads
+use Rattle.board_after.proofs.rights_after.Reads as rights-after-reads
+use Rattle.board_after.proofs.side_after.Reads as side-after-reads
+
+-- src/lib.rt:220:15
+array-read-man : tie.Need-array-read-man
+array-read-man c = search needs
+
+-- src/lib.rt:221:27
+slice-aggregate-file-after : tie.Need-slice-aggregate-file-after
+slice-aggregate-file-after c = search needs
+
+-- src/lib.rt:221:9
+file-after-requires : tie.Need-file-after-requires
+file-after-requires c κs = search needs
+
+-- src/lib.rt:222:14
+slice-aggregate-move-men : tie.Need-slice-aggregate-move-men
+slice-aggregate-move-men c = search needs
+
+-- src/lib.rt:222:5
+move-men-requires : tie.Need-move-men-requires
+move-men-requires c κs = search needs
+
+-- src/lib.rt:225:23
+side-after-requires : tie.Need-side-after-requires
+side-after-requires c κs = search needs
+
+-- src/lib.rt:226:30
+rights-after-requires : tie.Need-rights-after-requires
+rights-after-requires c κs = search needs
+
+-- src/lib.rt:227:30
+rights-after-requires-2 : tie.Need-rights-after-requires-2
+rights-after-requires-2 c κs = search needs
+
+-- src/lib.rt:215:1
+returns : tie.Need-returns
+unfolding afterParts
+returns c = simp (c .before .before .before .before .move-men .ensures, c .before .before .before .before .before .before .file-after .ensures, c .before .before .side-after .ensures, c .before .rights-after .ensures, c .rights-after2 .ensures)
+
+pub after-spec : {M : Type 1} → statement M
+after-spec =
+    tie.close
+    (tie.spec
+    array-read-man
+    slice-aggregate-file-after
+    file-after-requires
+    slice-aggregate-move-men
+    move-men-requires
+    side-after-requires
+    rights-after-requires
+    rights-after-requires-2
+    returns)

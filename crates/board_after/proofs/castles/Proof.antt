@@ -1,0 +1,39 @@
+use borrow.Author.Needs.{needs}
+use mathlib.Core.Path.{ap, ap₂, _∙_}
+use mathlib.Core.Bool.{Bool, _&&_}
+use lib.Dec.{eqb}
+use Prim.Native.Nat.{ℕ, _/_}
+use Rattle.board_after.specs.After.{castles}
+use Rattle.board_after.proofs.Squares.{two-on-rank}
+use Rattle.board_after.proofs.castles.Statement.{statement}
+use Rattle.board_after.proofs.castles.Tie as tie
+use Rattle.board_after.proofs.castles.Reads as reads
+use Rattle.board_after.proofs.castles.Lts as lts
+use Rattle.board_after.proofs.two_apart.Reads as two-apart-reads
+use Rattle.square.proofs.both.Reads as both-reads
+use Rattle.square.proofs.kind_of.Reads as kind-of-reads
+
+-- src/lib.rt:58:9
+two-apart-requires : tie.Need-two-apart-requires
+two-apart-requires c κs = search needs
+
+-- src/lib.rt:60:9
+kind-of-requires : tie.Need-kind-of-requires
+kind-of-requires c κs = search needs
+
+-- src/lib.rt:61:9
+both-requires : tie.Need-both-requires
+both-requires c κs = search needs
+
+-- src/lib.rt:59:5
+both-requires-2 : tie.Need-both-requires-2
+both-requires-2 c κs = search needs
+
+-- src/lib.rt:54:1
+returns : tie.Need-returns
+unfolding castles
+returns c = c .both2 .ensures ∙ ap₂ (λ (x : ℕ) (t : Bool). eqb x 6 && t) (c .before .before .kind-of .ensures) (c .before .both .ensures ∙ ap (λ (t : Bool). eqb (c .before .before .before .before .args .source / 8) (c .before .before .before .before .args .dest / 8) && t) (c .before .before .before .two-apart .ensures) ∙ two-on-rank (c .before .before .before .before .args .source) (c .before .before .before .before .args .dest) (c .before .before .before .before .pre .0) (c .before .before .before .before .pre .1))
+
+pub castles-spec : {M : Type 1} → statement M
+castles-spec =
+    tie.close (tie.spec two-apart-requires kind-of-requires both-requires both-requires-2 returns)

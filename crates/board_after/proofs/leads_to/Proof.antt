@@ -1,0 +1,44 @@
+use mathlib.Core.Path.{_∙_}
+use native.Mathlib.Omega.{arith}
+use lib.ListN.{take, length-take}
+use Rattle.board_after.proofs.Tests.{none-before, none-after, from-record}
+use Rattle.board_after.proofs.leads_to.Statement.{statement}
+use Rattle.board_after.proofs.leads_to.Tie as tie
+use Rattle.board_after.proofs.leads_to.Reads as reads
+use Rattle.board_after.proofs.leads_to.Lts as lts
+use Rattle.board_after.proofs.follows.Reads as follows-reads
+
+-- src/lib.rt:382:9
+returns : tie.Need-returns
+returns c = none-before (c .before .before .before .args .p .now) (c .before .before .before .args .m) (take 68 (c .before .before .before .args .q .now)) (c .if1 .taken)
+
+-- src/lib.rt:385:9
+returns-2 : tie.Need-returns-2
+returns-2 c = none-after (c .before .before .before .before .args .p .now) (c .before .before .before .before .args .m) (c .before .if1 .left) (c .before .before .before .before .args .q .now) (c .if2 .taken)
+
+-- src/lib.rt:387:13
+slice-aggregate-follows : tie.Need-slice-aggregate-follows
+slice-aggregate-follows c = simp length-take (omega (arith, c .before .before .if1 .left))
+
+-- src/lib.rt:387:35
+slice-aggregate-follows-2 : tie.Need-slice-aggregate-follows-2
+slice-aggregate-follows-2 c = simp length-take (omega (arith, c .before .before .if2 .left))
+
+-- src/lib.rt:387:5
+follows-requires : tie.Need-follows-requires
+follows-requires c κs = (simp length-take (omega (arith, c .before .before .before .if1 .left)), simp length-take (omega (arith, c .before .before .if2 .left)))
+
+-- src/lib.rt:378:1
+returns-3 : tie.Need-returns-3
+returns-3 c = c .follows .ensures ∙ from-record (c .before .before .before .before .before .before .before .args .p .now) (c .before .before .before .before .before .before .before .args .m) (c .before .before .before .before .if1 .left) (take 68 (c .before .before .before .before .before .before .before .args .q .now))
+
+pub leads-to-spec : {M : Type 1} → statement M
+leads-to-spec =
+    tie.close
+    (tie.spec
+    returns
+    returns-2
+    slice-aggregate-follows
+    slice-aggregate-follows-2
+    follows-requires
+    returns-3)

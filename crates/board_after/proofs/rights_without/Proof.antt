@@ -1,0 +1,50 @@
+use borrow.Author.Needs.{needs}
+use native.Mathlib.Omega.{arith}
+use Rattle.board_after.specs.After.{rightsWithout}
+use Rattle.board_after.proofs.Rights.{gone-is, gone-small, less-of}
+use Rattle.board_after.proofs.rights_without.Statement.{statement}
+use Rattle.board_after.proofs.rights_without.Tie as tie
+use Rattle.board_after.proofs.rights_without.Reads as reads
+use Rattle.board_after.proofs.rights_without.Lts as lts
+use Rattle.board_after.proofs.without.Reads as without-reads
+use Rattle.castle_rights.proofs.square_to_castle_rights.Reads as square-to-castle-rights-reads
+
+-- src/lib.rt:149:16
+square-to-castle-rights-requires : tie.Need-square-to-castle-rights-requires
+square-to-castle-rights-requires c κs = search needs
+
+-- src/lib.rt:149:16
+cast-gone : tie.Need-cast-gone
+cast-gone c = omega (arith, gone-small (c .before .before .args .color) (c .before .before .args .square) (c .before .square-to-castle-rights .result) (c .before .before .pre .0) (c .before .before .pre .1) (c .before .square-to-castle-rights .ensures))
+
+-- src/lib.rt:150:5
+without-requires : tie.Need-without-requires
+without-requires c κs = search needs
+
+-- src/lib.rt:150:41
+without-requires-2 : tie.Need-without-requires-2
+without-requires-2 c κs = search needs
+
+-- src/lib.rt:150:37
+mul-result : tie.Need-mul-result
+mul-result c = search needs
+
+-- src/lib.rt:150:5
+add-result : tie.Need-add-result
+add-result c = search needs
+
+-- src/lib.rt:145:1
+returns : tie.Need-returns
+returns c = less-of (c .before .before .before .before .args .color) (c .before .before .before .before .args .rights) (c .before .before .before .before .args .square) _ (gone-is (c .before .before .before .before .args .color) (c .before .before .before .before .args .square) (c .before .before .before .square-to-castle-rights .result) (c .before .before .before .before .pre .0) (c .before .before .before .before .pre .1) (c .before .before .before .square-to-castle-rights .ensures)) _ _ (c .before .without .ensures) (c .without2 .ensures)
+
+pub rights-without-spec : {M : Type 1} → statement M
+rights-without-spec =
+    tie.close
+    (tie.spec
+    square-to-castle-rights-requires
+    cast-gone
+    without-requires
+    without-requires-2
+    mul-result
+    add-result
+    returns)

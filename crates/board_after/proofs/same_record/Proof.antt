@@ -1,0 +1,44 @@
+use borrow.Author.Needs.{needs}
+use mathlib.Core.Path.{_≡_, sym, _∙_}
+use lib.ListN.{length}
+use borrow.Author.Needs.{length-unmapped}
+use Rattle.board_builder.specs.BoardBuilder.{numbers}
+use Rattle.board_after.proofs.Records.{off-side, off-white, off-black, off-file, by-squares}
+use Rattle.board_after.proofs.same_record.Statement.{statement}
+use Rattle.board_after.proofs.same_record.Tie as tie
+use Rattle.board_after.proofs.same_record.Reads as reads
+use Rattle.board_after.proofs.same_record.Lts as lts
+use Rattle.board_after.proofs.same_squares.Reads as same-squares-reads
+
+-- src/lib.rt:415:9
+returns : tie.Need-returns
+unfolding numbers
+returns c = let ha : length (c .before .before .before .args .a .pieces) ≡ 64 = search (length-unmapped, c .before .before .before .good) in let hb : length (c .before .before .before .args .b .pieces) ≡ 64 = search (length-unmapped, c .before .before .before .good) in let h = ha ∙ sym hb in off-side (c .before .before .before .args .a .pieces) _ _ _ _ (c .before .before .before .args .b) h (c .if1 .taken)
+
+-- src/lib.rt:418:9
+returns-2 : tie.Need-returns-2
+unfolding numbers
+returns-2 c = let ha : length (c .before .before .before .before .before .before .args .a .pieces) ≡ 64 = search (length-unmapped, c .before .before .before .before .before .before .good) in let hb : length (c .before .before .before .before .before .before .args .b .pieces) ≡ 64 = search (length-unmapped, c .before .before .before .before .before .before .good) in let h = ha ∙ sym hb in off-white (c .before .before .before .before .before .before .args .a .pieces) _ _ _ _ (c .before .before .before .before .before .before .args .b) h (c .if2 .taken)
+
+-- src/lib.rt:421:9
+returns-3 : tie.Need-returns-3
+unfolding numbers
+returns-3 c = let ha : length (c .before .before .before .before .before .before .before .before .before .args .a .pieces) ≡ 64 = search (length-unmapped, c .before .before .before .before .before .before .before .before .before .good) in let hb : length (c .before .before .before .before .before .before .before .before .before .args .b .pieces) ≡ 64 = search (length-unmapped, c .before .before .before .before .before .before .before .before .before .good) in let h = ha ∙ sym hb in off-black (c .before .before .before .before .before .before .before .before .before .args .a .pieces) _ _ _ _ (c .before .before .before .before .before .before .before .before .before .args .b) h (c .if3 .taken)
+
+-- src/lib.rt:424:9
+returns-4 : tie.Need-returns-4
+unfolding numbers
+returns-4 c = let ha : length (c .before .before .before .before .before .before .before .before .before .before .before .before .args .a .pieces) ≡ 64 = search (length-unmapped, c .before .before .before .before .before .before .before .before .before .before .before .before .good) in let hb : length (c .before .before .before .before .before .before .before .before .before .before .before .before .args .b .pieces) ≡ 64 = search (length-unmapped, c .before .before .before .before .before .before .before .before .before .before .before .before .good) in let h = ha ∙ sym hb in off-file (c .before .before .before .before .before .before .before .before .before .before .before .before .args .a .pieces) _ _ _ _ (c .before .before .before .before .before .before .before .before .before .before .before .before .args .b) h (c .if4 .taken)
+
+-- src/lib.rt:428:5
+same-squares-requires : tie.Need-same-squares-requires
+same-squares-requires c κs = search needs
+
+-- src/lib.rt:411:1
+returns-5 : tie.Need-returns-5
+unfolding numbers
+returns-5 c = let ha : length (c .before .before .before .before .before .before .before .before .before .before .before .before .before .before .before .args .a .pieces) ≡ 64 = search (length-unmapped, c .before .before .before .before .before .before .before .before .before .before .before .before .before .before .before .good) in let hb : length (c .before .before .before .before .before .before .before .before .before .before .before .before .before .before .before .args .b .pieces) ≡ 64 = search (length-unmapped, c .before .before .before .before .before .before .before .before .before .before .before .before .before .before .before .good) in let h = ha ∙ sym hb in c .same-squares .ensures ∙ by-squares (c .before .before .before .before .before .before .before .before .before .before .before .before .before .before .before .args .a .pieces) _ _ _ _ (c .before .before .before .before .before .before .before .before .before .before .before .before .before .before .before .args .b) h (c .before .before .before .before .before .before .before .before .before .before .before .before .if1 .left) (c .before .before .before .before .before .before .before .before .before .if2 .left) (c .before .before .before .before .before .before .if3 .left) (c .before .before .before .if4 .left)
+
+pub same-record-spec : {M : Type 1} → statement M
+same-record-spec =
+    tie.close (tie.spec returns returns-2 returns-3 returns-4 same-squares-requires returns-5)

@@ -1,0 +1,38 @@
+use borrow.Author.Needs.{needs}
+use mathlib.Core.Path.{ap, ap₂, _∙_}
+use mathlib.Core.Bool.{Bool, _||_}
+use lib.Dec.{eqb}
+use Rattle.board_after.specs.Differ.{touchesMore}
+use Rattle.board_after.proofs.touches_more.Statement.{statement}
+use Rattle.board_after.proofs.touches_more.Tie as tie
+use Rattle.board_after.proofs.touches_more.Reads as reads
+use Rattle.board_after.proofs.touches_more.Lts as lts
+use Rattle.board_after.proofs.castles.Reads as castles-reads
+use Rattle.board_after.proofs.takes_in_passing.Reads as takes-in-passing-reads
+use Rattle.square.proofs.either.Reads as either-reads
+
+-- src/lib.rt:278:9
+takes-in-passing-requires : tie.Need-takes-in-passing-requires
+takes-in-passing-requires c κs = search needs
+
+-- src/lib.rt:280:9
+castles-requires : tie.Need-castles-requires
+castles-requires c κs = search needs
+
+-- src/lib.rt:281:9
+either-requires : tie.Need-either-requires
+either-requires c κs = search needs
+
+-- src/lib.rt:279:5
+either-requires-2 : tie.Need-either-requires-2
+either-requires-2 c κs = search needs
+
+-- src/lib.rt:274:1
+returns : tie.Need-returns
+unfolding touchesMore
+returns c = c .either2 .ensures ∙ ap₂ _||_ (c .before .before .castles .ensures) (c .before .either .ensures ∙ ap (λ (t : Bool). t || eqb (c .before .before .before .before .before .args .source) (c .before .before .before .before .before .args .dest)) (c .before .before .before .takes-in-passing .ensures))
+
+pub touches-more-spec : {M : Type 1} → statement M
+touches-more-spec =
+    tie.close
+    (tie.spec takes-in-passing-requires castles-requires either-requires either-requires-2 returns)

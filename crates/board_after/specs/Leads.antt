@@ -1,0 +1,22 @@
+-- How the log asks whether a stored record is the one after a move: of bytes that hold a record in front.
+-- Assumes nothing.
+use mathlib.Core.Bool.{Bool, _&&_}
+use mathlib.Core.List.{List}
+use Prim.Native.Nat.{ℕ}
+use lib.Dec.{leb}
+use lib.ListN.{length, take}
+use Rattle.square.specs.Numbers.{same}
+use Rattle.board_builder.specs.declared.BoardBuilder.{BoardBuilder}
+use Rattle.board_builder.specs.BoardBuilder.{numbers, recordSize}
+use Rattle.board_after.specs.After.{recordAfter}
+
+-- these numbers are the record after a move from the record in the first 68 bytes of p; fewer bytes hold none
+unfoldable pub comesFrom : List ℕ → ℕ → List ℕ → Bool
+comesFrom p m record68 = leb recordSize (length p) && same record68 (recordAfter (take recordSize p) m)
+
+-- those in the first 68 of other bytes, and those of a board
+abbrev pub leadsTo : List ℕ → ℕ → List ℕ → Bool
+leadsTo p m q = comesFrom p m (take recordSize q)
+
+abbrev pub leadsToBoard : List ℕ → ℕ → BoardBuilder → Bool
+leadsToBoard p m next = comesFrom p m (numbers next)

@@ -1,0 +1,15 @@
+-- The record after a move is a key: what the call of order 9 hands out, accepted or refused for its move, is written as one FEN that reads back.
+-- Assumes nothing.
+use mathlib.Core.Path.{_≡_}
+use mathlib.Core.List.{List}
+use Prim.Native.Nat.{ℕ, _≤_}
+use lib.ListN.{length}
+use Rattle.square.specs.Answer.{outOfRange}
+use Rattle.board_builder.specs.declared.BoardBuilder.{BoardBuilder}
+use Rattle.fen_text.specs.Read.{readFen}
+use Rattle.fen_text.specs.Promises.{fenWriter, BackAgain}
+use Rattle.board_after.specs.After.{afterAnswer}
+
+abbrev pub NextIsAKey : Type 0
+NextIsAKey = (b : BoardBuilder) (m : ℕ) (out : List ℕ) → (afterAnswer b m .number ≡ outOfRange → ⊥) → 85 ≤ length out
+    → BackAgain fenWriter readFen (afterAnswer b m .board) out
