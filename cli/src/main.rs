@@ -1,6 +1,7 @@
 //! menkhodur: the proved archive for a shell. `menkhodur --help` tells the commands; `table.rs` is where one is added.
 
 mod completion;
+mod diff;
 mod entry;
 mod explain;
 mod games;

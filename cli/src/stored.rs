@@ -2,8 +2,8 @@
 
 use crate::input;
 use crate::options::Stop;
-use menkhodur::lent::{self, ACTION_BYTES, ACTIONS_PART, POSITION_BYTES, POSITIONS_PART};
-use menkhodur::{Counts, Error, Log};
+use menkhodur::lent::{self, ACTION_BYTES, ACTIONS_PART, POSITION_BYTES, POSITIONS_PART, Record};
+use menkhodur::{Board, Counts, Error, Log};
 use std::ffi::{OsStr, OsString};
 use std::fmt;
 use std::io::Read;
@@ -33,6 +33,11 @@ pub enum Fault {
 
 pub enum Why {
     Refused(Error),
+    /// The position that the file has after a move, and the one that the move leads to.
+    Record {
+        held: Board,
+        owed: Board,
+    },
     Kind(u8),
     NoPosition,
     Bytes,
@@ -105,7 +110,18 @@ impl Stored {
             (5, _) => lent::game_resign(&mut actions, &positions, counts, colour),
             (kind, _) => return Why::Kind(kind),
         };
-        call.map_or_else(Why::Refused, |_| Why::Bytes)
+        match (call, after) {
+            (Ok(_), _) => Why::Bytes,
+            (Err(Error::WrongRecord), Some(after)) => self.record(counts, made, &after.record).unwrap_or(Why::Refused(Error::WrongRecord)),
+            (Err(refused), _) => Why::Refused(refused),
+        }
+    }
+
+    /// The two positions after a move that came with the wrong one.
+    fn record(&self, counts: Counts, made: u64, held: &Record) -> Option<Why> {
+        let before = lent::stored_position(&self.positions, counts.moves as usize)?;
+        let owed = lent::board_after(&before.record, made).ok()?;
+        Some(Why::Record { held: Board::from_numbers(held).ok()?, owed: Board::from_numbers(&owed).ok()? })
     }
 }
 
@@ -141,6 +157,7 @@ impl fmt::Display for Why {
     fn fmt(&self, f: &mut fmt::Formatter<'_>) -> fmt::Result {
         match self {
             Why::Refused(refused) => write!(f, "{refused}"),
+            Why::Record { held, owed } => write!(f, "{}: it is {held}, and the move leads to {owed}", Error::WrongRecord),
             Why::Kind(kind) => write!(f, "there is no action of kind {kind}"),
             Why::NoPosition => f.write_str("the position after it is missing"),
             Why::Bytes => f.write_str("a byte of it, or of the position after it, is not 0 where it must be"),

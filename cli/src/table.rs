@@ -2,9 +2,9 @@
 //! module of its own.
 
 use crate::options::{Argument, Command, Example, Flag, Takes};
-use crate::{completion, explain, keys, man, pgn, ruling, show};
+use crate::{completion, diff, explain, keys, man, pgn, ruling, show};
 
-pub const ABOUT: &str = "FEN keys, explanations, PGN games, rulings and stored logs";
+pub const ABOUT: &str = "FEN keys, explanations, PGN games, rulings, stored logs and what differs between games";
 
 pub const TEXT: &[&str] = &[
     "A chess archive files each position once, under its FEN text. Every judgement of this program, keys, numbers, offsets, names and \
@@ -152,6 +152,34 @@ pub const COMMANDS: &[Command] = &[
         statuses: &["the log is good"],
         examples: &[Example { command: "menkhodur show game.actions game.positions", about: "every action of a game" }],
         run: show::run,
+    },
+    Command {
+        name: "diff",
+        about: "what differs between two games, by their rolls",
+        arguments: &[
+            Argument {
+                name: "FIRST",
+                takes: Takes::File,
+                least: 1,
+                most: Some(1),
+                about: "a roll: a game's start and its actions as bytes",
+            },
+            Argument { name: "SECOND", takes: Takes::File, least: 1, most: Some(1), about: "another; - may stand for one of the two" },
+        ],
+        flags: &[diff::NAMES],
+        text: &[
+            "Prints a line for each of these that differs, in this order: the squares of the start, keyed by number (a1 is 0, e4 is 28, h8 is \
+             63), side, white, black, ep, then the first action that differs, keyed action and its index from 0. A line is its key, then the \
+             first and the second game's number: a man from 1, the white pawn, to 12, the black king; the side to move, 0 or 1; castling \
+             rights, 1 for the king's side and 2 for the queen's; the file of en passant from 1; and of an action its code in a roll + 16 \
+             times its move, 0 if there is none. Nothing is printed exactly if the rolls are equal, byte for byte.",
+            "With --names each line goes on, behind a tab, with the same in words, as in `e4: white pawn, nothing`.",
+            "Of a roll that is refused only the number is printed: 5, a number of the start out of range; 13, more actions or moves than a log \
+             has; 17, all else. Where both would be refused it is the first one's. Standard error tells which roll, and why.",
+        ],
+        statuses: &["the rolls are equal", "they differ"],
+        examples: &[Example { command: "menkhodur diff --names here.roll there.roll", about: "two sites' copies of a game" }],
+        run: diff::run,
     },
     Command {
         name: "completion",

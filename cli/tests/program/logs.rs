@@ -1,7 +1,7 @@
 //! `menkhodur show` and `menkhodur ruling`, on games of the crate with what the crate says of them (oracle/logs).
 
 use crate::common::{Folder, expect, run};
-use menkhodur::lent::{ACTION_BYTES, POSITION_BYTES};
+use menkhodur::lent::{ACTION_BYTES, ACTIONS_PART, MAX_ACTIONS, MAX_MOVES, POSITION_BYTES, POSITIONS_PART};
 use std::collections::HashMap;
 use std::fs;
 use std::path::PathBuf;
@@ -49,9 +49,9 @@ fn games() -> Vec<Game> {
     names.iter().map(|name| Game::of(name)).collect()
 }
 
-/// The longest game: 1,024 moves.
+/// The longest game: as many moves as a log holds, and an offer after each.
 fn longest() -> Game {
-    games().into_iter().find(|game| game.moves() == 1_024).expect("a game of 1,024 moves")
+    games().into_iter().find(|game| game.moves() == MAX_MOVES).expect("a game of the most moves")
 }
 
 fn done(told: &HashMap<String, String>) -> &str {
@@ -284,9 +284,19 @@ fn the_first_action_that_does_not_stand_is_told() {
     see_fault(40, 9, "action 9 does not stand: the position after the move has the wrong side to move (answer 12)", |_, p| {
         p[5 * POSITION_BYTES + 64] = 0
     });
+    let wrong = |held: &str| {
+        let told = "the position after the move is not the one that the move leads to (answer 24)";
+        let owed = "rnbqkbnr/pppppppp/8/8/8/2N5/PPPPPPPP/R1BQKBNR b KQkq - 0 1";
+        format!("action 9 does not stand: {told}: it is {held}, and the move leads to {owed}")
+    };
+    let knight_twice = wrong("rnbqkbnr/pppppppp/8/8/8/2N5/PPPPPPPP/RNBQKBNR b KQkq - 0 1");
+    see_fault(40, 9, &knight_twice, |_, p| p[5 * POSITION_BYTES + 1] = 2);
+    let right_lost = wrong("rnbqkbnr/pppppppp/8/8/8/2N5/PPPPPPPP/R1BQKBNR b KQq - 0 1");
+    see_fault(40, 9, &right_lost, |_, p| p[5 * POSITION_BYTES + 66] = 2);
     see_fault(40, 12, "action 12 does not stand: no draw can be claimed (answer 15)", |a, _| a[44..48].copy_from_slice(&[4, 0, 0, 0]));
     see_fault(40, 22, "action 22 does not stand: the game is over (answer 10)", |a, _| a[80..84].copy_from_slice(&[5, 0, 0, 0]));
-    see_fault(2048, 2048, "action 2048 does not stand: there is no action of kind 0", |a, _| a[4 * 2047] = 0);
+    let last = format!("action {MAX_ACTIONS} does not stand: there is no action of kind 0");
+    see_fault(MAX_ACTIONS, MAX_ACTIONS, &last, |a, _| a[ACTIONS_PART - 4] = 0);
 }
 
 #[test]
@@ -318,8 +328,8 @@ fn files_of_another_size_are_trouble() {
     ruling(&empty, &empty, &format!("{empty}: it is empty, and a log has a start"));
     ruling(&none, &start, &format!("{none}: No such file or directory"));
     ruling(&folder.path(""), &start, &format!("{}: Is a directory", folder.path("")));
-    ruling("/dev/zero", &start, "/dev/zero: more than 8192 bytes, the most that the actions of a log have");
-    ruling(&empty, "/dev/zero", "/dev/zero: more than 594500 bytes, the most that the positions of a log have");
+    ruling("/dev/zero", &start, &format!("/dev/zero: more than {ACTIONS_PART} bytes, the most that the actions of a log have"));
+    ruling(&empty, "/dev/zero", &format!("/dev/zero: more than {POSITIONS_PART} bytes, the most that the positions of a log have"));
     // 580 zeros are an empty board with an empty list: a stalemate.
     let ran = run(&["ruling", &empty, &start], b"");
     assert!(ran.text().contains("\nresult       stalemate, after 0 actions and 0 moves\n"), "{}", ran.text());
@@ -331,7 +341,7 @@ fn a_number_of_actions_must_be_one_of_the_log() {
     let game = longest();
     let ruling =
         |at: &str, told: &str| expect(&game.words(&["ruling", "--at", at]), "", ("", &format!("menkhodur: --at {at}: {told}\n"), 2));
-    ruling("2049", "the log has 2048 actions");
+    ruling(&(MAX_ACTIONS + 1).to_string(), &format!("the log has {MAX_ACTIONS} actions"));
     ruling("-1", "a number of actions is wanted");
     ruling("x", "a number of actions is wanted");
 }

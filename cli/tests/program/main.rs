@@ -1,6 +1,7 @@
 //! The built program, from outside: every command, every status, bad bytes and files, pipes and devices.
 
 mod common;
+mod diff;
 mod explain;
 mod keys;
 mod logs;

@@ -3,12 +3,12 @@
 use crate::common::{Folder, expect, run};
 use std::process::Command;
 
-const COMMANDS: [&str; 7] = ["keys", "explain", "pgn", "ruling", "show", "completion", "man"];
+const COMMANDS: [&str; 8] = ["keys", "explain", "pgn", "ruling", "show", "diff", "completion", "man"];
 
 #[test]
 fn what_is_not_known_is_trouble_and_named() {
     for (words, told) in [
-        (vec![], "a command is wanted: keys, explain, pgn, ruling, show, completion, man; see menkhodur --help"),
+        (vec![], "a command is wanted: keys, explain, pgn, ruling, show, diff, completion, man; see menkhodur --help"),
         (vec!["nope"], "unknown command nope; see menkhodur --help"),
         (vec!["--nope"], "unknown option --nope; see menkhodur --help"),
         (vec!["keys", "--nope"], "unknown option --nope; see menkhodur keys --help"),

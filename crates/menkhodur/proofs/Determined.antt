@@ -23,6 +23,8 @@ use Rattle.menkhodur.proofs.menkhodur_castle_rights.Reads as menkhodur-
 use Rattle.menkhodur.proofs.menkhodur_castle_rights.Kinds as menkhodur-castle-rights·k
 use Rattle.menkhodur.proofs.menkhodur_en_passant.Reads as menkhodur-en-passant
 use Rattle.menkhodur.proofs.menkhodur_en_passant.Kinds as menkhodur-en-passant·k
+use Rattle.menkhodur.proofs.menkhodur_board_after.Reads as menkhodur-board-after
+use Rattle.menkhodur.proofs.menkhodur_board_after.Kinds as menkhodur-board-after·k
 use Rattle.menkhodur.proofs.menkhodur_fen_read.Reads as menkhodur-fen-read
 use Rattle.menkhodur.proofs.menkhodur_fen_read.Kinds as menkhodur-fen-read·k
 use Rattle.menkhodur.proofs.menkhodur_fen_page.Reads as menkhodur-fen-page
@@ -65,6 +67,8 @@ use Rattle.menkhodur.proofs.menkhodur_roll_write.Reads as menkhodur-rol
 use Rattle.menkhodur.proofs.menkhodur_roll_write.Kinds as menkhodur-roll-write·k
 use Rattle.menkhodur.proofs.menkhodur_roll_read.Reads as menkhodur-roll-read
 use Rattle.menkhodur.proofs.menkhodur_roll_read.Kinds as menkhodur-roll-read·k
+use Rattle.menkhodur.proofs.menkhodur_roll_differences.Reads as menkhodur-roll-differences
+use Rattle.menkhodur.proofs.menkhodur_roll_differences.Kinds as menkhodur-roll-differences·k
 use Rattle.menkhodur.proofs.menkhodur_pgn_check.Reads as menkhodur-pgn-check
 use Rattle.menkhodur.proofs.menkhodur_pgn_check.Kinds as menkhodur-pgn-check·k
 use Rattle.menkhodur.proofs.menkhodur_pgn_next.Reads as menkhodur-pgn-next
@@ -99,6 +103,9 @@ menkhodur-castle-rights-answer κs a x y e f p q = p ∙ sym q
 
 pub menkhodur-en-passant-answer : OneAnswer menkhodur-en-passant·k.ps menkhodur-en-passant·k.r menkhodur-en-passant.Learnt
 menkhodur-en-passant-answer κs a x y e f p q = p ∙ sym q
+
+pub menkhodur-board-after-answer : OneAnswer menkhodur-board-after·k.ps menkhodur-board-after·k.r menkhodur-board-after.Learnt
+menkhodur-board-after-answer κs a x y e f p q = p ∙ sym q
 
 pub menkhodur-fen-read-answer : OneAnswer menkhodur-fen-read·k.ps menkhodur-fen-read·k.r menkhodur-fen-read.Learnt
 menkhodur-fen-read-answer κs a x y e f p q = p ∙ sym q
@@ -213,6 +220,13 @@ menkhodur-roll-read-answer κs a x y e f p q = p .0 ∙ sym (q .0)
 
 pub menkhodur-roll-read-acts : OnePart menkhodur-roll-read·k.ps menkhodur-roll-read·k.r (λ κs x e. now (e .1 .0)) menkhodur-roll-read.Learnt
 menkhodur-roll-read-acts κs a x y e f p q = p .1 ∙ sym (q .1)
+
+pub menkhodur-roll-differences-answer : OneAnswer menkhodur-roll-differences·k.ps menkhodur-roll-differences·k.r menkhodur-roll-differences.Learnt
+menkhodur-roll-differences-answer κs a x y e f p q = p .0 ∙ sym (q .0)
+
+pub menkhodur-roll-differences-out : OnePart menkhodur-roll-differences·k.ps menkhodur-roll-differences·k.r
+    (λ κs x e. now (e .1 .1 .0)) menkhodur-roll-differences.Learnt
+menkhodur-roll-differences-out κs a x y e f p q = p .1 ∙ sym (q .1)
 
 pub menkhodur-pgn-check-answer : OneAnswer menkhodur-pgn-check·k.ps menkhodur-pgn-check·k.r menkhodur-pgn-check.Learnt
 menkhodur-pgn-check-answer κs a x y e f p q = p ∙ sym q

@@ -18,6 +18,7 @@ ghost use Rattle.castle_rights.specs.CastleRights.{addRights, removeRights, squ
 ghost use Rattle.board_builder.specs.Steps.{setPiece, clearSquare, setSide, setRights, setEnPassant};
 ghost use Rattle.fen_text.specs.Read.{readFen};
 ghost use Rattle.fen_text.specs.Page.{pageAnswer, recordsLeft, toldLeft};
+ghost use Rattle.board_after.specs.After.{afterAnswer};
 ghost use Rattle.chess_move.specs.Coordinate.{readMove, moveText, moveCheck};
 ghost use Rattle.san_text.specs.Paper.{fromSan, nameAnswer, nameBytes};
 ghost use Rattle.san_text.specs.Standard.{fromSanStandard, standardNameAnswer, standardNameBytes};
@@ -29,6 +30,7 @@ ghost use Rattle.game_rules.specs.Calls.{callAnswer, counts, countsAfter, actio
 ghost use Rattle.laws.specs.Ruling.{rulingAnswer, lawsAnswer};
 ghost use Rattle.pgn_text.specs.Walk.{check, next};
 ghost use Rattle.roll_text.specs.Calls.{writeCheck, gameText, judged, rollAnswer, rollOver};
+ghost use Rattle.differences_text.specs.Calls.{differencesAnswer, differencesRoom};
 
 #[no_mangle]
 pub extern "C" fn menkhodur_version() -> u64
@@ -98,6 +100,13 @@ pub extern "C" fn menkhodur_en_passant(b: BoardBuilder, file: u8) -> Stepped
     ensures { λ r. ⌜ r ≡ setEnPassant b file ⌝ }
 {
     b.en_passant(file)
+}
+
+#[no_mangle]
+pub extern "C" fn menkhodur_board_after(b: BoardBuilder, m: u64) -> Stepped
+    ensures { λ r. ⌜ r ≡ afterAnswer b m ⌝ }
+{
+    board_after::board_after(b, m)
 }
 
 #[no_mangle]
@@ -302,6 +311,14 @@ pub extern "C" fn menkhodur_roll_read(roll: &[u8], acts: &mut [u8]) -> Roll
     ensures bytes { λ r. ⌜ now (acts .exit) ≡ rollOver (judged limits (now (roll .entry)) (length (now (acts .entry)))) (now (acts .entry)) ⌝ }
 {
     roll_reader::read(roll, acts)
+}
+
+#[no_mangle]
+pub extern "C" fn menkhodur_roll_differences(first: &[u8], second: &[u8], out: &mut [u8]) -> Answer
+    ensures answer { λ r. ⌜ r ≡ differencesAnswer limits (now (first .entry)) (now (second .entry)) (length (now (out .entry))) ⌝ }
+    ensures bytes { λ r. ⌜ now (out .exit) ≡ differencesRoom limits (now (first .entry)) (now (second .entry)) (now (out .entry)) ⌝ }
+{
+    differences::differences(first, second, out)
 }
 
 #[no_mangle]

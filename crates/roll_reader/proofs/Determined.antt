@@ -5,9 +5,14 @@ use denote.Ref.{now}
 use Rattle.square.specs.Determined.{OneAnswer, OnePart}
 use Rattle.roll_reader.proofs.read.Reads as read
 use Rattle.roll_reader.proofs.read.Kinds as read·k
+use Rattle.roll_reader.proofs.check.Reads as check
+use Rattle.roll_reader.proofs.check.Kinds as check·k
 
 pub read-answer : OneAnswer read·k.ps read·k.r read.Learnt
 read-answer κs a x y e f p q = p .0 ∙ sym (q .0)
 
 pub read-part : OnePart read·k.ps read·k.r (λ κs x e. now (e .1 .0)) read.Learnt
 read-part κs a x y e f p q = p .1 ∙ sym (q .1)
+
+pub check-answer : OneAnswer check·k.ps check·k.r check.Learnt
+check-answer κs a x y e f p q = p ∙ sym q

@@ -10,6 +10,7 @@ use game_rules::MAX_MOVES;
 use roll_text::Entry;
 use roll_text::Number;
 use roll_text::Roll;
+use square::Answer;
 use square::BAD_ROLL;
 use square::front;
 use square::LOG_FULL;
@@ -25,7 +26,8 @@ ghost use Rattle.board_builder.specs.BoardBuilder.{recordSize, boardOf};
 ghost use Rattle.action.specs.Layout.{fields};
 ghost use Rattle.game_rules.specs.Limits.{limits};
 ghost use Rattle.roll_text.specs.Number.{readGroups, readNumber};
-ghost use Rattle.roll_text.specs.Roll.{largestNumbers, readNumbers, refusal, isCode, readEntry, readActions};
+ghost use Rattle.roll_text.specs.Roll.{largestNumbers, readNumbers, refusal, isCode, readEntry, readActions, readRoll};
+ghost use Rattle.roll_reader.specs.Checked.{checked};
 ghost use Rattle.roll_reader.specs.Short.{ShortMove};
 ghost use Rattle.roll_text.specs.Calls.{frontNumber, actsNumber, actsOver, isActs, rollAnswer, rollOver, judged};
 
@@ -343,5 +345,30 @@ pub fn read(s: &[u8], part: &mut [u8]) -> Roll
             }
         }
         Number::Bad => refusal(BAD_ROLL),
+    }
+}
+
+// What is wrong with a roll, as `read` tells it with a part that is long enough, or 0 with how many actions the roll has. Nothing is written.
+pub fn check(s: &[u8]) -> Answer
+    ensures { λ r. ⌜ r ≡ checked (readRoll limits (now (s .entry))) ⌝ }
+{
+    let wrong = judge_record(s);
+    if wrong != 0 {
+        return square::refused(wrong);
+    }
+    let behind = rest(s, RECORD_SIZE);
+    let count = read_number(behind);
+    match count {
+        Number::Got(n, size) => {
+            if (MAX_ACTIONS as u64) < n {
+                return square::refused(LOG_FULL);
+            }
+            let bad = judge_actions(rest(behind, size), n as usize, MAX_MOVES);
+            if bad != 0 {
+                return square::refused(bad);
+            }
+            square::accepted(n)
+        }
+        Number::Bad => square::refused(BAD_ROLL),
     }
 }

@@ -1,0 +1,145 @@
+use borrow.Author.Needs.{needs}
+use mathlib.Core.Path.{sym}
+use Rattle.square.proofs.Pushes.{put-as}
+use Rattle.differences.proofs.Keys.{key-square, key-side, key-white, key-black, key-file, fits-as}
+use Rattle.differences.proofs.push_key.Statement.{statement}
+use Rattle.differences.proofs.push_key.Tie as tie
+
+push-number-requires : tie.Need-push-number-requires
+push-number-requires c κs =
+    let a = c .before .before .before .args in
+    let at-pre = c .before .before .before .pre in
+    let at-if1 = c .before .if1 in
+    fits-as (a .n) _ (key-square (a .i) (at-if1 .taken)) (at-pre)
+
+same-length : tie.Need-same-length
+same-length c = search needs
+
+returns : tie.Need-returns
+returns c =
+    let a = c .before .before .before .before .before .before .args in
+    let at-if1 = c .before .before .before .before .if1 in
+    let at-push-number = c .before .before .push-number in
+    put-as (sym (key-square (a .i) (at-if1 .taken))) (at-push-number .ensures)
+
+slice-aggregate-push-word : tie.Need-slice-aggregate-push-word
+slice-aggregate-push-word c = search needs
+
+push-word-requires : tie.Need-push-word-requires
+push-word-requires c κs =
+    let a = c .before .before .before .before .before .args in
+    let at-pre = c .before .before .before .before .before .pre in
+    let at-if1 = c .before .before .before .if1 in
+    let at-if2 = c .before .before .if2 in
+    fits-as (a .n) _ (key-side (a .i) (at-if1 .left) (at-if2 .taken)) (at-pre)
+
+same-length-2 : tie.Need-same-length-2
+same-length-2 c = search needs
+
+returns-2 : tie.Need-returns-2
+returns-2 c =
+    let a = c .before .before .before .before .before .before .before .before .args in
+    let at-if1 = c .before .before .before .before .before .before .if1 in
+    let at-if2 = c .before .before .before .before .before .if2 in
+    let at-push-word = c .before .before .push-word in
+    put-as (sym (key-side (a .i) (at-if1 .left) (at-if2 .taken))) (at-push-word .ensures)
+
+slice-aggregate-push-word-2 : tie.Need-slice-aggregate-push-word-2
+slice-aggregate-push-word-2 c = search needs
+
+push-word-requires-2 : tie.Need-push-word-requires-2
+push-word-requires-2 c κs =
+    let a = c .before .before .before .before .before .before .args in
+    let at-pre = c .before .before .before .before .before .before .pre in
+    let at-if1 = c .before .before .before .before .if1 in
+    let at-if2 = c .before .before .before .if2 in
+    let at-if3 = c .before .before .if3 in
+    fits-as (a .n) _ (key-white (a .i) (at-if1 .left) (at-if2 .left) (at-if3 .taken)) (at-pre)
+
+same-length-3 : tie.Need-same-length-3
+same-length-3 c = search needs
+
+returns-3 : tie.Need-returns-3
+returns-3 c =
+    let a = c .before .before .before .before .before .before .before .before .before .args in
+    let at-if1 = c .before .before .before .before .before .before .before .if1 in
+    let at-if2 = c .before .before .before .before .before .before .if2 in
+    let at-if3 = c .before .before .before .before .before .if3 in
+    let at-push-word2 = c .before .before .push-word2 in
+    put-as (sym (key-white (a .i) (at-if1 .left) (at-if2 .left) (at-if3 .taken))) (at-push-word2 .ensures)
+
+slice-aggregate-push-word-3 : tie.Need-slice-aggregate-push-word-3
+slice-aggregate-push-word-3 c = search needs
+
+push-word-requires-3 : tie.Need-push-word-requires-3
+push-word-requires-3 c κs =
+    let a = c .before .before .before .before .before .before .before .args in
+    let at-pre = c .before .before .before .before .before .before .before .pre in
+    let at-if1 = c .before .before .before .before .before .if1 in
+    let at-if2 = c .before .before .before .before .if2 in
+    let at-if3 = c .before .before .before .if3 in
+    let at-if4 = c .before .before .if4 in
+    fits-as (a .n) _ (key-black (a .i) (at-if1 .left) (at-if2 .left) (at-if3 .left) (at-if4 .taken)) (at-pre)
+
+same-length-4 : tie.Need-same-length-4
+same-length-4 c = search needs
+
+returns-4 : tie.Need-returns-4
+returns-4 c =
+    let a = c .before .before .before .before .before .before .before .before .before .before .args in
+    let at-if1 = c .before .before .before .before .before .before .before .before .if1 in
+    let at-if2 = c .before .before .before .before .before .before .before .if2 in
+    let at-if3 = c .before .before .before .before .before .before .if3 in
+    let at-if4 = c .before .before .before .before .before .if4 in
+    let at-push-word3 = c .before .before .push-word3 in
+    put-as (sym (key-black (a .i) (at-if1 .left) (at-if2 .left) (at-if3 .left) (at-if4 .taken))) (at-push-word3 .ensures)
+
+slice-aggregate-push-word-4 : tie.Need-slice-aggregate-push-word-4
+slice-aggregate-push-word-4 c = search needs
+
+push-word-requires-4 : tie.Need-push-word-requires-4
+push-word-requires-4 c κs =
+    let a = c .before .before .before .before .before .before .before .args in
+    let at-pre = c .before .before .before .before .before .before .before .pre in
+    let at-if1 = c .before .before .before .before .before .if1 in
+    let at-if2 = c .before .before .before .before .if2 in
+    let at-if3 = c .before .before .before .if3 in
+    let at-if4 = c .before .before .if4 in
+    fits-as (a .n) _ (key-file (a .i) (at-if1 .left) (at-if2 .left) (at-if3 .left) (at-if4 .left)) (at-pre)
+
+same-length-5 : tie.Need-same-length-5
+same-length-5 c = search needs
+
+returns-5 : tie.Need-returns-5
+returns-5 c =
+    let a = c .before .before .before .before .before .before .before .before .before .before .args in
+    let at-if1 = c .before .before .before .before .before .before .before .before .if1 in
+    let at-if2 = c .before .before .before .before .before .before .before .if2 in
+    let at-if3 = c .before .before .before .before .before .before .if3 in
+    let at-if4 = c .before .before .before .before .before .if4 in
+    let at-push-word4 = c .before .before .push-word4 in
+    put-as (sym (key-file (a .i) (at-if1 .left) (at-if2 .left) (at-if3 .left) (at-if4 .left))) (at-push-word4 .ensures)
+
+pub push-key-spec : {M : Type 1} → statement M
+push-key-spec =
+    tie.close
+    (tie.spec
+    push-number-requires
+    same-length
+    returns
+    slice-aggregate-push-word
+    push-word-requires
+    same-length-2
+    returns-2
+    slice-aggregate-push-word-2
+    push-word-requires-2
+    same-length-3
+    returns-3
+    slice-aggregate-push-word-3
+    push-word-requires-3
+    same-length-4
+    returns-4
+    slice-aggregate-push-word-4
+    push-word-requires-4
+    same-length-5
+    returns-5)

@@ -1,0 +1,11 @@
+pub mod AtRows
+pub mod Lines
+pub mod Numbers
+pub mod Longest
+pub mod Games
+pub mod Refusals
+pub mod NoLine
+pub mod Told
+pub mod Tells
+pub mod Reached
+pub mod Never16

@@ -1,0 +1,35 @@
+-- What the call answers to two rolls and leaves in the room that is lent to it.
+-- Assumes nothing.
+use Prim.Native.Nat.{ℕ}
+use mathlib.Core.List.{List, [], _∷_, _++_}
+use Rattle.square.specs.declared.Answer.{Answer}
+use Rattle.square.specs.Answer.{writeAnswer, writeBytes}
+use Rattle.game_rules.specs.Limits.{Limits}
+use Rattle.game_rules.specs.Rules.{firstRefusal}
+use Rattle.roll_text.specs.Roll.{Rolled, refusal, rolled, readRoll}
+use Rattle.roll_text.specs.Calls.{rollAnswer}
+use Rattle.differences_text.specs.Differences.{Difference, startDifferences, actionNumbers, actionDifference, linesText}
+
+-- of two games as the roll reader reads them
+unfoldable pub differences : Rolled → Rolled → List Difference
+differences (refusal k) y = []
+differences (rolled xs n bs) (refusal k) = []
+differences (rolled xs n bs) (rolled ys m cs) = startDifferences 0 xs ys ++ actionDifference 0 (actionNumbers n bs) (actionNumbers m cs)
+
+-- of two rolls
+abbrev pub rollDifferences : Limits → List ℕ → List ℕ → List Difference
+rollDifferences L s t = differences (readRoll L s) (readRoll L t)
+
+-- "those of the roll reader, first roll first": without 16, since the parts for the actions are the call's own
+unfoldable pub differencesCheck : Limits → List ℕ → List ℕ → ℕ
+differencesCheck L s t = firstRefusal (rollAnswer (readRoll L s) .number ∷ rollAnswer (readRoll L t) .number ∷ [])
+
+unfoldable pub differencesText : Limits → List ℕ → List ℕ → List ℕ
+differencesText L s t = linesText (rollDifferences L s t)
+
+-- the refusals, then 7 with the length needed, else 0 with the length
+abbrev pub differencesAnswer : Limits → List ℕ → List ℕ → ℕ → Answer
+differencesAnswer L s t room = writeAnswer (differencesCheck L s t) (differencesText L s t) room
+
+abbrev pub differencesRoom : Limits → List ℕ → List ℕ → List ℕ → List ℕ
+differencesRoom L s t out = writeBytes (differencesCheck L s t) (differencesText L s t) out

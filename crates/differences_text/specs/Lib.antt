@@ -1,0 +1,4 @@
+pub mod Differences
+pub mod Calls
+pub mod Promises
+pub mod AtRows

@@ -1,0 +1,4 @@
+// What differs between two games (document 02, order 10): definitions and theorems in specs/ and proofs/. The code that meets them is in crate differences.
+
+// The longest text: 64 squares, the four other start numbers and one action, each number in as many digits as it may have.
+pub const MAX_DIFFERENCES: usize = 628;

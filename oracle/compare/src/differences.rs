@@ -1,0 +1,199 @@
+//! `differences`: rolls of the crate's games beside copies with something changed, and beside anything else. What is owed comes from
+//! `what_differs`, which was written from the paper: the crate has no such call.
+
+use crate::damage;
+use crate::lent::check_bytes;
+use crate::part::{Part, Tally};
+use crate::records;
+use crate::roll::{self, largest};
+use crate::rolls::roll_of;
+use crate::rollwork;
+use crate::script;
+use crate::texts;
+use crate::what_differs;
+use both::abi::{self, Record};
+use both::numbers::{color_of, move_of, MOST_MOVE};
+use both::random::Random;
+use chess::Action;
+
+/// Two rolls, and how many bytes the lent room is longer than the text.
+#[derive(Clone)]
+pub struct Input {
+    pub first: Vec<u8>,
+    pub second: Vec<u8>,
+    pub off: i64,
+}
+
+/// The longest room that is lent: some bytes more than the longest text.
+const OFFS: [i64; 8] = [0, 0, 0, 1, 40, -1, -2, -1_000];
+
+pub struct Differences {
+    /// The last game that was played, as its start and its actions.
+    game: (Record, Vec<Action>),
+}
+
+impl Differences {
+    pub fn new() -> Differences {
+        Differences { game: (records::EMPTY, vec![]) }
+    }
+}
+
+fn any_action(random: &mut Random) -> Action {
+    let color = color_of(random.below(2) as u8);
+    match random.below(8) {
+        0 => Action::OfferDraw(color),
+        1 => *random.pick(&[Action::AcceptDraw, Action::DeclareDraw]),
+        2 => Action::Resign(color),
+        _ => Action::MakeMove(move_of(random.below(MOST_MOVE as usize + 1) as u16)),
+    }
+}
+
+/// The copy with one thing changed: a start number, an action changed, put in, left out, or the actions cut off; or none.
+fn change(start: &mut Record, actions: &mut Vec<Action>, random: &mut Random) {
+    let at = random.below(actions.len().max(1));
+    match random.below(12) {
+        0..=2 => start.0[random.below(64)] = random.below(13) as u8,
+        3 | 4 => {
+            let place = 64 + random.below(4);
+            start.0[place] = random.below(largest(place) as usize + 1) as u8;
+        }
+        5 | 6 if !actions.is_empty() => actions[at] = any_action(random),
+        7 if actions.len() < 1_000 => actions.insert(at, any_action(random)),
+        8 if actions.len() < 1_000 => actions.push(any_action(random)),
+        9 if !actions.is_empty() => drop(actions.remove(at)),
+        10 => actions.truncate(at),
+        _ => (),
+    }
+}
+
+fn compare(input: &Input, tally: &mut Tally) -> Result<(), String> {
+    let owed = what_differs::owed(&input.first, &input.second);
+    let (first, second) = (input.first.clone(), input.second.clone());
+    let shown = |bytes: &[u8]| format!("{:?}", String::from_utf8_lossy(bytes));
+    let text = owed.as_deref().map(str::as_bytes).map_err(|number| *number);
+    // Without a text the room is measured from 0, so it is lent some bytes that must stay.
+    let off = if text.is_ok() { input.off } else { input.off + 200 };
+    let yes = check_bytes(text, off, |out| abi::roll_differences(&first, &second, out), shown)?;
+    if first != input.first || second != input.second {
+        return Err("a lent roll was changed".to_string());
+    }
+    tally.count("differences", yes);
+    Ok(())
+}
+
+/// The roll of the empty record with the number at a place changed.
+fn with(place: usize, number: u8) -> Vec<u8> {
+    let mut roll = vec![0; 69];
+    roll[place] = number;
+    roll
+}
+
+/// A roll of as many offers, and then a move.
+fn offers_and(count: usize, number: u16) -> Vec<u8> {
+    let mut actions = vec![Action::OfferDraw(color_of(0)); count];
+    actions.push(Action::MakeMove(move_of(number)));
+    roll::write(&records::EMPTY, &actions)
+}
+
+/// Each number of a start at each value against the empty record and against one more; each action's code against each other's.
+fn single() -> impl Iterator<Item = (Vec<u8>, Vec<u8>)> {
+    let numbers = (0..68).flat_map(|place| {
+        (0..=largest(place)).flat_map(move |x| [(with(place, x), vec![0; 69]), (with(place, x), with(place, (x + 1).min(largest(place))))])
+    });
+    let codes: Vec<Vec<u8>> = [&[0][..], &[1, 4], &[1, 5], &[1, 6], &[1, 8], &[1, 10], &[1, 11], &[1, 2, 0], &[1, 2, 1], &[1, 2, 255, 223, 1]]
+        .iter().map(|codes| [vec![0; 68], codes.to_vec()].concat()).collect();
+    let other = codes.clone();
+    let pairs = codes.into_iter().flat_map(move |a| other.clone().into_iter().map(move |b| (a.clone(), b)));
+    let indices = [0, 9, 10, 99, 100, 999, 1_000, 2_047].into_iter()
+        .flat_map(|n| [(offers_and(n, 0), offers_and(n, MOST_MOVE)), (offers_and(n, MOST_MOVE), offers_and(n.max(1) - 1, 7))]);
+    numbers.chain(pairs).chain(indices)
+}
+
+/// The longest text there is: every square with two digits on both sides, and a late move.
+fn longest() -> [Vec<u8>; 2] {
+    let of = |man: u8, rest: [u8; 4], number: u16| {
+        let mut start = Record([man; 68]);
+        start.0[64..].copy_from_slice(&rest);
+        let mut actions = vec![Action::AcceptDraw; 1_500];
+        actions.push(Action::MakeMove(move_of(number)));
+        roll::write(&start, &actions)
+    };
+    [of(10, [0; 4], MOST_MOVE), of(12, [1, 3, 3, 8], MOST_MOVE - 1)]
+}
+
+/// Rolls that are refused, with each of the reader's numbers, and good ones.
+fn mixed() -> Vec<Vec<u8>> {
+    let too_many = [vec![0; 68], vec![129, 16]].concat();
+    let moves = [vec![0; 68], vec![129, 8], [2, 0].repeat(1_025)].concat();
+    vec![vec![], vec![13], vec![0; 68], vec![0; 70], too_many, moves, [vec![0; 68], vec![1, 7]].concat(), vec![0; 69], with(28, 1)]
+}
+
+impl Part for Differences {
+    type Input = Input;
+    const NAME: &'static str = "differences";
+
+    fn fixed(&self) -> Box<dyn Iterator<Item = Input>> {
+        let every_room = |(first, second): (Vec<u8>, Vec<u8>)| OFFS.map(|off| Input { first: first.clone(), second: second.clone(), off });
+        let [long, longer] = longest();
+        let rooms = (-700..40).map(move |off| Input { first: long.clone(), second: longer.clone(), off });
+        let mixed = mixed().into_iter().flat_map(|a| mixed().into_iter().map(move |b| (a.clone(), b)));
+        let games: Vec<Vec<u8>> = script::told().iter().map(roll_of).collect();
+        let other = games.clone();
+        let games = games.into_iter().flat_map(move |a| other.clone().into_iter().map(move |b| (a.clone(), b)));
+        Box::new(single().chain(mixed).chain(games).flat_map(every_room).chain(rooms).chain(rollwork::numbers().step_by(7).map(|roll| Input {
+            first: roll,
+            second: vec![0; 69],
+            off: 0,
+        })))
+    }
+
+    fn random(&mut self, random: &mut Random) -> Option<Input> {
+        if random.once_in(24) || self.game.1.is_empty() {
+            self.game = crate::rolls::game_of(&script::random(random));
+        }
+        let off = *random.pick(&OFFS);
+        let (mut start, mut actions) = self.game.clone();
+        let mut first = roll::write(&start, &actions);
+        for _ in 0..random.below(4) {
+            change(&mut start, &mut actions, random);
+        }
+        let mut second = roll::write(&start, &actions);
+        match random.below(24) {
+            0 => first = damage::twice(&first, random),
+            1 => second = damage::twice(&second, random),
+            2 => (first, second) = (damage::twice(&first, random), damage::twice(&second, random)),
+            3 => {
+                let given = rollwork::random(random);
+                first = roll::owed_write(&given.start, &given.part, given.count).unwrap_or_default();
+            }
+            4..=7 => std::mem::swap(&mut first, &mut second),
+            _ => (),
+        }
+        Some(Input { first, second, off })
+    }
+
+    fn compare(&self, input: &Input, tally: &mut Tally) -> Result<(), String> {
+        compare(input, tally)
+    }
+
+    fn smaller(&self, input: &Input) -> Vec<Input> {
+        let (first, second) = (&input.first, &input.second);
+        let firsts = rollwork::smaller_rolls(first).into_iter().map(|first| Input { first, ..input.clone() });
+        let seconds = rollwork::smaller_rolls(second).into_iter().map(|second| Input { second, ..input.clone() });
+        // Both at once: a start number that is the same on both sides, or an action left out of both.
+        let cut = |roll: &[u8]| texts::cut_lists(&roll[68.min(roll.len())..]);
+        let join = |roll: &[u8], behind: Vec<u8>| [&roll[..68.min(roll.len())], &behind[..]].concat();
+        let both = cut(first).into_iter().zip(cut(second)).map(|(a, b)| Input { first: join(first, a), second: join(second, b), ..*input });
+        let zeros = (0..68.min(first.len()).min(second.len())).filter(|at| first[*at] != 0 && first[*at] == second[*at]).map(|at| {
+            let (mut first, mut second) = (first.clone(), second.clone());
+            (first[at], second[at]) = (0, 0);
+            Input { first, second, ..*input }
+        });
+        let rooms = (input.off != 0).then(|| Input { off: 0, ..input.clone() });
+        firsts.chain(seconds).chain(both).chain(zeros).chain(rooms).collect()
+    }
+
+    fn show(&self, input: &Input) -> String {
+        format!("{} against {}, room {:+}", crate::rolls::show_bytes(&input.first), crate::rolls::show_bytes(&input.second), input.off)
+    }
+}
