@@ -9,9 +9,9 @@ pub record Limits : Type 0 where
   pub most-actions : ℕ
   pub most-moves : ℕ
 
--- 2,048 actions, 1,024 moves
+-- 8,192 actions, 4,096 moves (document 02, order 11)
 abbrev pub limits : Limits
-limits = record { most-actions = 2048; most-moves = 1024 }
+limits = record { most-actions = 8192; most-moves = 4096 }
 
 -- the bytes of the two parts: a start and one position after each move
 abbrev pub actionsLength : Limits → ℕ

@@ -4,9 +4,9 @@ use position::POSITION_SIZE;
 
 // The limits of a log, and the bytes of its two parts.
 
-pub const MAX_ACTIONS: usize = 2_048;
+pub const MAX_ACTIONS: usize = 8_192;
 
-pub const MAX_MOVES: usize = 1_024;
+pub const MAX_MOVES: usize = 4_096;
 
 pub const ACTIONS_LENGTH: usize = ACTION_SIZE * MAX_ACTIONS;
 

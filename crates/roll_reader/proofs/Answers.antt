@@ -15,7 +15,7 @@ use Rattle.board_builder.specs.declared.BoardBuilder.{BoardBuilder}
 use Rattle.board_builder.specs.BoardBuilder.{board, boardOf}
 use Rattle.chess_move.specs.Number.{lastMove}
 use Rattle.action.specs.Layout.{fields}
-use Rattle.game_rules.specs.Limits.{Limits, limits}
+use Rattle.game_rules.specs.Limits.{Limits, limits, actionsLength}
 use Rattle.roll_text.specs.declared.Number.{Number}
 use Rattle.roll_text.specs.declared.Number.the-variants.{Got, Bad}
 use Rattle.roll_text.specs.declared.Entry.{Entry}
@@ -36,11 +36,11 @@ over-refusal x k part e = rw e refl
 
 -- ---- 16
 
-pub short-part : (s : List ℕ) (room : ℕ) → room < 8192 → judged limits s room ≡ refusal partTooShort
+pub short-part : (s : List ℕ) (room : ℕ) → room < actionsLength limits → judged limits s room ≡ refusal partTooShort
 unfolding judged
 short-part s room h = simp (lt-ltb _ _ h)
 
-long-part : (s : List ℕ) (room : ℕ) → 8192 ≤ room → judged limits s room ≡ readRoll limits s
+long-part : (s : List ℕ) (room : ℕ) → actionsLength limits ≤ room → judged limits s room ≡ readRoll limits s
 unfolding judged
 long-part s room h = simp (le-ltb _ _ h)
 
@@ -51,15 +51,15 @@ unfolding withFront frontNumber
 front-refused L (stopped k) h = refl
 front-refused L (front xs s) h = absurd (h refl)
 
-pub bad-record : (s : List ℕ) (room wrong : ℕ) → 8192 ≤ room → wrong ≡ frontNumber (readNumbers largestNumbers s) → (wrong ≡ 0 → ⊥) → judged limits s
-    room ≡ refusal wrong
+pub bad-record : (s : List ℕ) (room wrong : ℕ) → actionsLength limits ≤ room → wrong ≡ frontNumber (readNumbers largestNumbers s) → (wrong ≡ 0 → ⊥)
+    → judged limits s room ≡ refusal wrong
 unfolding readRoll
 bad-record s room wrong h e n = long-part s room h ∙ front-refused limits (readNumbers largestNumbers s) (λ z. n (e ∙ z)) ∙ ap refusal (sym e)
 
 -- ---- the count
 
-module _ (s behind : List ℕ) (room wrong : ℕ) (count : Number) (h : 8192 ≤ room) (e : wrong ≡ frontNumber (readNumbers largestNumbers s)) (passed : wrong ≡ 0)
-    (rest : behind ≡ drop 68 s) (reads : count ≡ readNumber behind) where
+module _ (s behind : List ℕ) (room wrong : ℕ) (count : Number) (h : actionsLength limits ≤ room)
+    (e : wrong ≡ frontNumber (readNumbers largestNumbers s)) (passed : wrong ≡ 0) (rest : behind ≡ drop 68 s) (reads : count ≡ readNumber behind) where
   at-count : (x : Number) → count ≡ x → judged limits s room ≡ withCount limits (take 68 s) x (drop 68 s)
   unfolding readRoll withFront
   at-count x f =
@@ -73,12 +73,12 @@ module _ (s behind : List ℕ) (room wrong : ℕ) (count : Number) (h : 8192 ≤
   unfolding withCount
   no-count f = at-count Bad f
 
-  pub over-count : (n size : ℕ) → count ≡ Got n size → 2048 < n → judged limits s room ≡ refusal logFull
+  pub over-count : (n size : ℕ) → count ≡ Got n size → limits .most-actions < n → judged limits s room ≡ refusal logFull
   unfolding withCount
   over-count n size f k = at-count (Got n size) f ∙ simp (lt-leb _ _ k)
 
-  pub at-actions : (n size : ℕ) (text : List ℕ) → count ≡ Got n size → n ≤ 2048 → text ≡ drop size behind → judged limits s room ≡ withActions (take 68
-      s) n (readActions n 1024 text)
+  pub at-actions : (n size : ℕ) (text : List ℕ) → count ≡ Got n size → n ≤ limits .most-actions → text ≡ drop size behind
+      → judged limits s room ≡ withActions (take 68 s) n (readActions n (limits .most-moves) text)
   unfolding withCount
   at-actions n size text f k t =
       let d : text ≡ drop size (drop 68 s) = t ∙ ap (drop size) rest in

@@ -123,7 +123,7 @@ fn action_size(acts: &[u8], at: usize) -> usize
 
 // One more than the length of the text of `n` actions, or 0 if one of them is no action in range.
 fn actions_size(acts: &[u8], n: usize) -> usize
-    requires { ⌜ (4 * n ≤ length (now acts)) × (n ≤ 2048) ⌝ }
+    requires { ⌜ (4 * n ≤ length (now acts)) × (n ≤ limits .most-actions) ⌝ }
     ensures { λ r. ⌜ (r ≡ actionsSize n (now (acts .entry))) × (r ≤ 1 + 4 * n) ⌝ }
 {
     let mut k: usize = 1;

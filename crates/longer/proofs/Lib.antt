@@ -1,0 +1,5 @@
+pub mod AtSmallest
+pub mod Reading
+pub mod Rolls
+pub mod Logs
+pub mod Both

@@ -1,0 +1,3 @@
+pub mod TwoLimits
+pub mod Promises
+pub mod AtSmallest
