@@ -5,10 +5,13 @@
  *     gcc -std=c11 -O2 bench/host.c target/staticlib/libmenkhodur.a -o target/bench_host && target/bench_host examples/positions.fen
  *
  * FEN: the positions of the file, each different. Lists: the moves of the men of such a position by the way they go (checks,
- * castling and captures in passing left out), of positions with 30 to 38 of them. Logs: 300 and 1,024 moves through such positions, the
- * last eight a round of knights, so that a claim stands by two earlier equal positions, and an offer at the end: every call is accepted.
+ * castling and captures in passing left out), of positions with 30 to 38 of them. Logs: 300, 1,024 and 4,096 such moves from the initial position, each
+ * with the record after it (host/c/after_rule.h), none of them a capture and about 30 of them a pawn's; the last eight are two men there and back,
+ * twice, so that a claim stands by two earlier equal positions, and an offer is at the end: every call is accepted. Logs of this kind are the same
+ * to an archive of before version 9, which has no board_after: -DBEFORE leaves its row out.
  */
 #define _POSIX_C_SOURCE 199309L
+#include "../host/c/after_rule.h"
 #include "../host/menkhodur.h"
 
 #include <stdio.h>
@@ -30,6 +33,7 @@ struct scene {
 struct log {
     uint8_t actions[MENKHODUR_ACTIONS_LENGTH], positions[MENKHODUR_POSITIONS_LENGTH];
     uint64_t action_count, move_count;
+    struct scene now, next; /* the last position, and the one after the move that goes on */
 };
 
 static char lines[MOST][128];
@@ -38,7 +42,7 @@ static menkhodur_board boards[MOST];
 static struct scene scenes[MOST];
 static size_t scene_count;
 static uint8_t coordinates[MOST][MENKHODUR_LONGEST_COORDINATE];
-static struct log logs[2], *log_in_use;
+static struct log logs[3], *log_in_use;
 static volatile uint64_t sink;
 
 static unsigned any(unsigned below)
@@ -154,48 +158,74 @@ static void must(uint64_t number, const char *what)
     exit(1);
 }
 
-static struct scene scene_for(uint8_t side)
+static struct scene initial_scene(void)
 {
-    for (;;) {
-        struct scene *s = &scenes[any((unsigned)scene_count)];
-        if (s->board.side_to_move == side) return *s;
-    }
-}
-
-/* The position `k` moves into the knights' round, its list with the move that goes on. */
-static struct scene round_scene(uint64_t k)
-{
-    static const uint8_t from[4] = { 6, 62, 21, 45 }, to[4] = { 21, 45, 6, 62 };
     static const char start[] = "rnbqkbnr/pppppppp/8/8/8/8/PPPPPPPP/RNBQKBNR w KQkq -";
-    struct scene s;
-    s.board = menkhodur_fen_read((const uint8_t *)start, sizeof start - 1).board;
-    for (uint64_t i = 0; i < k % 4; i++) {
-        s.board.pieces[to[i]] = s.board.pieces[from[i]];
-        s.board.pieces[from[i]] = 0;
-        s.board.side_to_move ^= 1;
-    }
+    struct scene s = { .board = menkhodur_fen_read((const uint8_t *)start, sizeof start - 1).board };
     make_list(&s);
-    s.move = from[k % 4] + 64u * to[k % 4];
     return s;
 }
 
-static struct scene log_scene(uint64_t k, uint64_t moves)
+static struct scene scene_after(const struct scene *s, uint64_t move)
 {
-    return k + 8 < moves ? scene_for((uint8_t)(k % 2)) : round_scene(k + 8 - moves);
+    struct scene next = { .board = after_of(s->board, move) };
+    make_list(&next);
+    return next;
+}
+
+/* A move to an empty square: a pawn's now and then, if there is one, and else that of a knight, a bishop or a queen. */
+static uint64_t quiet_move(const struct scene *s, int pawn)
+{
+    uint64_t found = 0;
+    for (unsigned tries = 0; tries < 400; tries++) {
+        uint64_t move = s->list[any((unsigned)s->entries)];
+        int kind = (s->board.pieces[move % 64] - 1) % 6 + 1;
+        if (s->board.pieces[move / 64 % 64]) continue;
+        if (kind == 1 ? pawn : !pawn && (kind == 2 || kind == 3 || kind == 5)) return move;
+        if (kind == 2 || kind == 3 || kind == 5) found = move;
+    }
+    must(found == 0, "a quiet move");
+    return found;
+}
+
+static menkhodur_counts log_move(struct log *l, menkhodur_counts c, uint64_t move)
+{
+    struct scene next = scene_after(&l->now, move);
+    c = menkhodur_game_make_move(l->actions, sizeof l->actions, l->positions, sizeof l->positions, c.actions, c.moves, move, next.board, 0, next.list,
+                                 next.entries);
+    must(c.number, "a move");
+    l->now = next;
+    return c;
+}
+
+static uint64_t back(uint64_t move)
+{
+    return move / 64 + 64 * (move % 64);
+}
+
+/* Two men go there and back, twice; the first move is the one that goes on. */
+static menkhodur_counts log_round(struct log *l, menkhodur_counts c)
+{
+    uint64_t white = quiet_move(&l->now, 0), black;
+    struct scene after = scene_after(&l->now, white);
+    black = quiet_move(&after, 0);
+    for (int turn = 0; turn < 2; turn++) {
+        c = log_move(l, log_move(l, c, white), black);
+        c = log_move(l, log_move(l, c, back(white)), back(black));
+    }
+    l->now.move = white;
+    l->next = scene_after(&l->now, white);
+    return c;
 }
 
 static void make_log(struct log *l, uint64_t moves)
 {
-    struct scene now = log_scene(0, moves);
-    menkhodur_counts c = menkhodur_game_start(l->actions, sizeof l->actions, l->positions, sizeof l->positions, now.board, 0, now.list, now.entries);
+    menkhodur_counts c;
+    l->now = initial_scene();
+    c = menkhodur_game_start(l->actions, sizeof l->actions, l->positions, sizeof l->positions, l->now.board, 0, l->now.list, l->now.entries);
     must(c.number, "a start");
-    while (c.moves < moves) {
-        struct scene next = log_scene(c.moves + 1, moves);
-        c = menkhodur_game_make_move(l->actions, sizeof l->actions, l->positions, sizeof l->positions, c.actions, c.moves, now.move, next.board, 0,
-                                     next.list, next.entries);
-        must(c.number, "a move");
-        now = next;
-    }
+    while (c.moves < moves - 8) c = log_move(l, c, quiet_move(&l->now, any((unsigned)moves / 32) == 0 && c.moves + 9 < moves));
+    c = log_round(l, c);
     c = menkhodur_game_offer_draw(l->actions, sizeof l->actions, l->positions, sizeof l->positions, c.actions, c.moves, 0);
     must(c.number, "an offer");
     l->action_count = c.actions;
@@ -216,6 +246,9 @@ static uint64_t clear_square(size_t i) { return menkhodur_clear_square(boards[i 
 static uint64_t side_to_move(size_t i) { return menkhodur_side_to_move(boards[i % line_count], i % 2).number; }
 static uint64_t castle_rights(size_t i) { return menkhodur_castle_rights(boards[i % line_count], i % 2, i / 2 % 4).number; }
 static uint64_t en_passant(size_t i) { return menkhodur_en_passant(boards[i % line_count], i % 9).number; }
+#ifndef BEFORE
+static uint64_t board_after(size_t i) { return menkhodur_board_after(scenes[i % scene_count].board, scenes[i % scene_count].move).number; }
+#endif
 static uint64_t fen_read(size_t i) { return menkhodur_fen_read((const uint8_t *)lines[i % line_count], lengths[i % line_count]).number; }
 static uint64_t move_read(size_t i) { return menkhodur_move_read(coordinates[i % scene_count], 4).value; }
 
@@ -266,12 +299,12 @@ static uint64_t game_start(size_t i)
                                 s->entries).number;
 }
 
-/* The counts are not handed on, so that every call finds the same log. At 1,024 moves a move is refused with 13, after all other checks. */
+/* The counts are not handed on, so that every call finds the same log. At 4,096 moves a move is refused with 13, after all other checks. */
 static uint64_t game_make_move(size_t i)
 {
-    static struct scene now, next;
-    if (i == 0) now = round_scene(8), next = round_scene(9);
-    return menkhodur_game_make_move(PARTS, COUNTS, now.move, next.board, 0, next.list, next.entries).number;
+    const struct scene *next = &log_in_use->next;
+    (void)i;
+    return menkhodur_game_make_move(PARTS, COUNTS, log_in_use->now.move, next->board, 0, next->list, next->entries).number;
 }
 
 static uint64_t game_offer_draw(size_t i) { return menkhodur_game_offer_draw(PARTS, COUNTS, i % 2).number; }
@@ -311,7 +344,11 @@ static void print_base(void)
     static const struct row rows[] = {
         { "make_square", make_square }, { "rights_add", rights_add }, { "rights_remove", rights_remove }, { "square_rights", square_rights },
         { "piece", piece }, { "clear_square", clear_square }, { "side_to_move", side_to_move }, { "castle_rights", castle_rights },
-        { "en_passant", en_passant }, { "fen_read", fen_read }, { "fen_write", fen_write }, { "move_read", move_read },
+        { "en_passant", en_passant },
+#ifndef BEFORE
+        { "board_after", board_after },
+#endif
+        { "fen_read", fen_read }, { "fen_write", fen_write }, { "move_read", move_read },
         { "move_write", move_write }, { "san_read", san_read }, { "san_name", san_name }, { "san_read_standard", san_read_standard },
         { "san_name_standard", san_name_standard }, { "game_start", game_start },
     };
@@ -332,9 +369,10 @@ static void print_log(void)
         { "game_accept_draw", game_accept_draw }, { "game_declare_draw", game_declare_draw }, { "game_result", game_result },
         { "game_can_declare_draw", game_can_declare_draw },
     };
-    printf("%-24s %12s %12s\n", "function", "300 moves", "1,024 moves");
+    printf("%-24s %12s %12s %12s\n", "function", "300 moves", "1,024 moves", "4,096 moves");
     for (size_t i = 0; i < sizeof rows / sizeof *rows; i++)
-        printf("%-24s %12.0f %12.0f\n", rows[i].name, best_on(&logs[0], rows[i].call), best_on(&logs[1], rows[i].call));
+        printf("%-24s %12.0f %12.0f %12.0f\n", rows[i].name, best_on(&logs[0], rows[i].call), best_on(&logs[1], rows[i].call),
+               best_on(&logs[2], rows[i].call));
 }
 
 /* What the table says of the calls: accepted, but for the move that is one too many. */
@@ -342,7 +380,7 @@ static void check_calls(void)
 {
     log_in_use = &logs[0];
     must(game_make_move(0) + game_can_declare_draw(0) + game_declare_draw(0) + game_accept_draw(0) + game_resign(0) + game_offer_draw(0), "a call");
-    log_in_use = &logs[1];
+    log_in_use = &logs[2];
     must(game_make_move(0) - MENKHODUR_LOG_FULL + game_can_declare_draw(0) + game_declare_draw(0), "a call on the long log");
 }
 
@@ -354,6 +392,7 @@ int main(int argc, char **argv)
     for (size_t i = 0; i < scene_count; i++) entries += scenes[i].entries;
     make_log(&logs[0], 300);
     make_log(&logs[1], 1024);
+    make_log(&logs[2], MENKHODUR_MAX_MOVES);
     check_calls();
     printf("%zu positions; %zu with lists, %.1f entries each; best of %d rounds\n", line_count, scene_count,
            (double)entries / (double)scene_count, ROUNDS);

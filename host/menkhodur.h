@@ -1,9 +1,9 @@
 /* The host's side of target/staticlib/libmenkhodur.a, for C (from C99) and C++ (from C++11).
  *
  * Numbers, records, moves, logs and texts are those of docs/papers/01-scope.md ("document 01"), rolls, the refusals of FEN texts, the
- * offsets in texts, the ruling of the Laws, the standard's form of SAN, pages of FENs and PGN move text those of docs/papers/02-change-requests.md
- * ("document 02"); the names and the order of the parameters are those of docs/papers/HOST-ABI.md. tools/abi compares them, and the
- * constants below, with the crates.
+ * offsets in texts, the ruling of the Laws, the standard's form of SAN, pages of FENs, PGN move text, the board after a move and what differs between
+ * two rolls those of docs/papers/02-change-requests.md ("document 02"); the names and the order of the parameters are those of
+ * docs/papers/HOST-ABI.md. tools/abi compares them, and the constants below, with the crates.
  *
  * What every function does: it answers for every value of its numbers, it ends, it keeps nothing between calls and allocates
  * nothing, and it reads and writes only what it was lent. A refused call (a number other than 0) changes no lent byte.
@@ -32,7 +32,7 @@
 
 /* Rises by one with each landing that adds or changes a function. CHANGELOG.md tells what a host must change, and a struct that has
  * changed says beside it since which version it is so. */
-#define MENKHODUR_VERSION 8
+#define MENKHODUR_VERSION 11
 
 #ifdef __cplusplus
 extern "C" {
@@ -52,7 +52,7 @@ enum {
     MENKHODUR_GAME_OVER = 10,
     MENKHODUR_NOT_LISTED = 11,
     MENKHODUR_WRONG_SIDE = 12,      /* next position has the wrong side to move */
-    MENKHODUR_LOG_FULL = 13,        /* 2,048 actions reached, or for a move 1,024 moves; a roll with more */
+    MENKHODUR_LOG_FULL = 13,        /* 8,192 actions reached, or for a move 4,096 moves; a roll with more */
     MENKHODUR_NO_OFFER = 14,
     MENKHODUR_NO_CLAIM = 15,
     MENKHODUR_PART_TOO_SHORT = 16,
@@ -62,7 +62,8 @@ enum {
     MENKHODUR_BAD_SIDE = 20,        /* in a FEN text: a second token that is no side to move */
     MENKHODUR_LEFT_OPEN = 21,       /* in PGN move text: a comment or bracket left open */
     MENKHODUR_TOO_DEEP = 22,        /* in PGN move text: brackets deeper than 8, or a place that is */
-    MENKHODUR_UNKNOWN_TOKEN = 23    /* in PGN move text: also a result in brackets, a stray closing bracket, an offset past the text */
+    MENKHODUR_UNKNOWN_TOKEN = 23,   /* in PGN move text: also a result in brackets, a stray closing bracket, an offset past the text */
+    MENKHODUR_WRONG_RECORD = 24     /* a logged move came with another record than menkhodur_board_after gives */
 };
 
 /* Results of a game: the order of `GameResult`, 0 for none. */
@@ -87,8 +88,8 @@ enum {
 
 /* Limits. */
 enum {
-    MENKHODUR_MAX_ACTIONS = 2048,
-    MENKHODUR_MAX_MOVES = 1024,
+    MENKHODUR_MAX_ACTIONS = 8192,
+    MENKHODUR_MAX_MOVES = 4096,
     MENKHODUR_LONGEST_LIST = 255,
     MENKHODUR_LAST_MOVE = 28671,
     MENKHODUR_CLAIM_COUNT = 100, /* moves of either side, fifty of each, from which on a count lets a draw be claimed */
@@ -175,8 +176,8 @@ enum {
     MENKHODUR_POSITION_IN_CHECK = 68,
     MENKHODUR_POSITION_ENTRIES = 69,
     MENKHODUR_POSITION_MOVES = 70,
-    MENKHODUR_ACTIONS_LENGTH = 8192,    /* 2,048 actions */
-    MENKHODUR_POSITIONS_LENGTH = 594500 /* 1,025 positions */
+    MENKHODUR_ACTIONS_LENGTH = 32768,    /* 8,192 actions */
+    MENKHODUR_POSITIONS_LENGTH = 2376260 /* 4,097 positions */
 };
 
 /* Bytes of texts. No text ends in a 0 byte: its length is the answer's value. A coordinate text has 4 bytes, or 5 with a promotion. */
@@ -190,9 +191,14 @@ enum {
     MENKHODUR_LONGEST_COORDINATE = 5
 };
 
-/* Bytes of the longest roll: 68 numbers of one byte, a count of two, 1,024 moves of four and 1,024 other actions of one. */
+/* Bytes of the longest roll: 68 numbers of one byte, a count of two, 4,096 moves of four and 4,096 other actions of one. */
 enum {
-    MENKHODUR_LONGEST_ROLL = 5190
+    MENKHODUR_LONGEST_ROLL = 20550
+};
+
+/* Bytes of the longest text that menkhodur_roll_differences writes: a room of so many is never too short. */
+enum {
+    MENKHODUR_MAX_DIFFERENCES = 628
 };
 
 /* What a page of FENs takes of its two rooms for each line. */
@@ -288,8 +294,8 @@ menkhodur_answer menkhodur_rights_remove(uint8_t rights, uint8_t removed);
 menkhodur_answer menkhodur_square_rights(uint8_t colour, uint8_t square);
 
 /* ---- The board record --------------------------------------------------------------------------------------------------------- */
-/* Each step answers 0 with the record in which one number is set, or 5 with the record exactly as given: if one of the record's own
- * 68 numbers is out of range, or a parameter is. */
+/* Each of the first five, a step, answers 0 with the record in which one number is set, or 5 with the record exactly as given: if one of the
+ * record's own 68 numbers is out of range, or a parameter is. */
 
 /* Sets a square to the code of a man. 5 also: square over 63; code 0 or over 12 (menkhodur_clear_square empties a square). */
 menkhodur_stepped menkhodur_piece(menkhodur_board b, uint8_t square, uint8_t code);
@@ -305,6 +311,19 @@ menkhodur_stepped menkhodur_castle_rights(menkhodur_board b, uint8_t colour, uin
 
 /* Sets the en passant file 1 to 8, or clears it with 0. 5 also: file over 8. */
 menkhodur_stepped menkhodur_en_passant(menkhodur_board b, uint8_t file);
+
+/* The board after a move (document 02, order 9): what menkhodur_game_make_move asks for. 0: the record after it. For a legal move that is the
+ * original's; for any other the same rule runs as written, and whether a move is legal is not asked:
+ *   - The man of the source is set down, last, on the destination; with a promotion that piece of his colour is, whatever man he is. The
+ *     source is empty. If it was empty before, both squares are.
+ *   - A king that goes two files along its rank: what stood in that side's corner of the rank goes to the square passed over.
+ *   - A pawn that changes files to an empty square: the square on its old rank and new file is emptied.
+ *   - Both sides lose the rights that menkhodur_square_rights gives for the source and for the destination.
+ *   - The other side is to move.
+ *   - The en passant file is that of a pawn that goes two ranks on one file and arrives beside a pawn of the other colour than its own; else
+ *     it is 0.
+ * Refused, with the record exactly as given: 5: a record number out of range; 6: a move over 28,671, at any size. */
+menkhodur_stepped menkhodur_board_after(menkhodur_board b, uint64_t move);
 
 /* ---- FEN ---------------------------------------------------------------------------------------------------------------------- */
 
@@ -381,10 +400,11 @@ menkhodur_answer menkhodur_san_read_standard(menkhodur_board b, const uint16_t *
 menkhodur_answer menkhodur_san_name_standard(menkhodur_board b, const uint16_t *list, size_t entries, uint64_t move, uint8_t *out, size_t room);
 
 /* ---- The game log ------------------------------------------------------------------------------------------------------------- */
-/* A log lies in two lent parts, actions and positions, of at least 8,192 and 594,500 bytes, and its two counts travel by value: hand
+/* A log lies in two lent parts, actions and positions, of at least 32,768 and 2,376,260 bytes, and its two counts travel by value: hand
  * each call the counts that the one before returned. Bytes past the used actions and positions are not looked at. In every call
  *     16  one of the parts is shorter than that;
- *      9  the log is not good (no sequence of accepted calls from a start makes it), or a count is over its limit, at any size;
+ *      9  the log is not good (no sequence of accepted calls from a start makes it; since version 9, then, every move came with the record
+ *         that menkhodur_board_after gives), or a count is over its limit, at any size;
  *     10  (not in a query) the game is over
  * stand before the call's own numbers, in this order. An accepted call writes the 4 bytes of its action behind the used ones, a move
  * also the 580 bytes of its position, and returns the counts after it. A refused call writes nothing and returns the counts as given.
@@ -401,29 +421,29 @@ menkhodur_counts menkhodur_game_start(uint8_t *actions, size_t actions_length, u
 
 /* Plays a move of the current position's list; `next`, `in_check` and `list` are the position after it. Refused, in this order: 16;
  * 9; 10; 11: the move is not in the current list, at any size; 5: a number of `next` or the in-check byte out of range; 6: more than
- * 255 entries, or an entry over 28,671; 12: `next` has the side to move of the current position; 13: 2,048 actions or 1,024 moves
- * are reached. */
+ * 255 entries, or an entry over 28,671; 12: `next` has the side to move of the current position; 24 (since version 9): `next` is not the
+ * record that menkhodur_board_after gives for the current one and the move; 13: 8,192 actions or 4,096 moves are reached. */
 menkhodur_counts menkhodur_game_make_move(uint8_t *actions, size_t actions_length, uint8_t *positions, size_t positions_length,
                                           uint64_t action_count, uint64_t move_count, uint64_t move,
                                           menkhodur_board next, uint8_t in_check, const uint16_t *list, size_t entries);
 
-/* Offers a draw in the name of a colour. Refused, in this order: 16; 9; 10; 5: colour over 1; 13: 2,048 actions are reached. The
+/* Offers a draw in the name of a colour. Refused, in this order: 16; 9; 10; 5: colour over 1; 13: 8,192 actions are reached. The
  * positions are left alone. */
 menkhodur_counts menkhodur_game_offer_draw(uint8_t *actions, size_t actions_length, const uint8_t *positions, size_t positions_length,
                                            uint64_t action_count, uint64_t move_count, uint8_t colour);
 
-/* Resigns in the name of a colour. Refused, in this order: 16; 9; 10; 5: colour over 1; 13: 2,048 actions are reached. The positions
+/* Resigns in the name of a colour. Refused, in this order: 16; 9; 10; 5: colour over 1; 13: 8,192 actions are reached. The positions
  * are left alone. */
 menkhodur_counts menkhodur_game_resign(uint8_t *actions, size_t actions_length, const uint8_t *positions, size_t positions_length,
                                        uint64_t action_count, uint64_t move_count, uint8_t colour);
 
 /* Accepts the offer that stands: the last action, by either colour, or the last but one by the side not to move. Refused, in this
- * order: 16; 9; 10; 14: none stands; 13: 2,048 actions are reached. The positions are left alone. */
+ * order: 16; 9; 10; 14: none stands; 13: 8,192 actions are reached. The positions are left alone. */
 menkhodur_counts menkhodur_game_accept_draw(uint8_t *actions, size_t actions_length, const uint8_t *positions, size_t positions_length,
                                             uint64_t action_count, uint64_t move_count);
 
 /* Declares the draw that may be claimed (menkhodur_game_can_declare_draw). Refused, in this order: 16; 9; 10; 15: no claim stands;
- * 13: 2,048 actions are reached. The positions are left alone. */
+ * 13: 8,192 actions are reached. The positions are left alone. */
 menkhodur_counts menkhodur_game_declare_draw(uint8_t *actions, size_t actions_length, const uint8_t *positions, size_t positions_length,
                                              uint64_t action_count, uint64_t move_count);
 
@@ -454,15 +474,15 @@ menkhodur_ruling menkhodur_game_ruling(const uint8_t *actions, size_t actions_le
 /* A roll is a game without its positions, for a store (document 02, order 1): the 68 numbers of the start's record in the order of
  * menkhodur_board, the count of the actions, then for each action its kind * 2 + its colour and, for a move, the move's number. Every
  * number is written in groups of seven bits, a byte each, the lowest group first, the top bit set on all but the last, in the fewest
- * groups. So a roll has 69 to 5,190 bytes, and a code of an action is 2 for a move, 4 or 5 for an offer by white or black, 6 for an
+ * groups. So a roll has 69 to 20,550 bytes, and a code of an action is 2 for a move, 4 or 5 for an offer by white or black, 6 for an
  * accepted draw, 8 for a declared one, 10 or 11 for a resignation. One start with one list of actions has one roll, and every roll that
  * is read is written back as it came.
- * The actions lie in a part as a log has them, of at least 8,192 bytes. Only bounds are judged: whether the actions make a game, only a
+ * The actions lie in a part as a log has them, of at least 32,768 bytes. Only bounds are judged: whether the actions make a game, only a
  * log with its positions can tell. */
 
 /* Writes the roll of a start and of the first `action_count` actions. 0: it is at the front of `out`, and the value is its length; the
- * bytes of `out` behind it are left alone. Refused, in this order, with all of `out` left alone: 16: `actions` is shorter than 8,192
- * bytes; 5: a record number out of range; 13: the count is over 2,048, at any size, or more than 1,024 of the counted actions are moves;
+ * bytes of `out` behind it are left alone. Refused, in this order, with all of `out` left alone: 16: `actions` is shorter than 32,768
+ * bytes; 5: a record number out of range; 13: the count is over 8,192, at any size, or more than 4,096 of the counted actions are moves;
  * 17: the bytes of a counted action are not an action's: kind, colour or move is out of range, or a field that the kind does not use is
  * not 0; 7: `room` is shorter than the roll, whose length is the value. The actions are left alone; those past the count are not looked
  * at. */
@@ -471,11 +491,21 @@ menkhodur_answer menkhodur_roll_write(menkhodur_board b, const uint8_t *actions,
 
 /* Reads a roll. 0: the board is the start, the answer's `actions` is the count, and that many actions of 4 bytes are at the front of the
  * part; the bytes of the part behind them are left alone. Refused, with all of the part left alone, a count of 0 and a board of 68 zeros:
- * 16: the part is shorter than 8,192 bytes; then whichever comes first from the left: 5: a record number out of range; 13: a count over
- * 2,048, or the code of a 1,025th move; 17: the roll ends too early, or goes on behind its last action; a number is not in the fewest
+ * 16: the part is shorter than 32,768 bytes; then whichever comes first from the left: 5: a record number out of range; 13: a count over
+ * 8,192, or the code of a 4,097th move; 17: the roll ends too early, or goes on behind its last action; a number is not in the fewest
  * groups, or has more than five, before its size is judged; a code is no action's; a move's number is over 28,671. The roll is left
  * alone. */
 menkhodur_roll menkhodur_roll_read(const uint8_t *roll, size_t length, uint8_t *actions, size_t actions_length);
+
+/* What differs between two games (document 02, order 10). 0: the text is at the front of `out`, and the value is its length, 0 exactly if
+ * the two rolls are equal, byte for byte; the bytes of `out` behind it are left alone. It has a line for each number of the start that
+ * differs, in this order: the squares, keyed by number, `side`, `white`, `black`, `ep`; then one for the first action that differs, keyed
+ * `action` and its index from 0. A line is its key, the first and the second game's number, in decimal with single spaces between, and a
+ * newline byte: `28 1 0`. An action's number is 0 if there is none, else its code in a roll + 16 * its move. Refused, with all of `out` left
+ * alone: the numbers of menkhodur_roll_read, first roll first, but for 16, for no part is lent; then 7: `room` is shorter than the text, whose
+ * length is the value. Both rolls are left alone. */
+menkhodur_answer menkhodur_roll_differences(const uint8_t *first, size_t first_length, const uint8_t *second, size_t second_length,
+                                            uint8_t *out, size_t room);
 
 /* ---- PGN move text ------------------------------------------------------------------------------------------------------------ */
 /* The moves of a game as PGN has them, without tag pairs (document 02, order 8). A text is made of move numbers (digits, then any

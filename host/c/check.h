@@ -78,6 +78,7 @@ void check_ranges(const struct form *form);
 /* The checks, by subject. */
 void check_base(void);
 void check_steps(void);
+void check_after(void);
 void check_fen(const char *positions);
 void check_page(const char *positions, const char *pages);
 void check_coordinates(void);
@@ -89,6 +90,7 @@ void check_games(void);
 void check_rulings(void);
 void check_nulls(void);
 void check_rolls(void);
+void check_differences(void);
 void check_pgn(void);
 void check_layout(void);
 void check_overlaps(void);

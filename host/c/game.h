@@ -2,6 +2,7 @@
 #ifndef GAME_H
 #define GAME_H
 
+#include "after_rule.h"
 #include "check.h"
 
 struct position {

@@ -67,6 +67,13 @@ static bool lists(const struct position *p, uint64_t move)
     return false;
 }
 
+static bool same_board(menkhodur_board b, menkhodur_board c)
+{
+    for (unsigned which = 0; which < 68; which++)
+        if (*number_of(&b, which) != *number_of(&c, which)) return false;
+    return true;
+}
+
 static bool bad_list(const struct position *p)
 {
     bool bad = p->entries > MENKHODUR_LONGEST_LIST;
@@ -79,7 +86,8 @@ static uint64_t move_number(const struct record *r, struct request q)
     if (!lists(&r->at[r->moves], q.move)) return MENKHODUR_NOT_LISTED;
     if (!in_range(q.next)) return MENKHODUR_OUT_OF_RANGE;
     if (bad_list(q.next)) return MENKHODUR_BAD_LIST;
-    return q.next->board.side_to_move == r->at[r->moves].board.side_to_move ? MENKHODUR_WRONG_SIDE : MENKHODUR_ACCEPTED;
+    if (q.next->board.side_to_move == r->at[r->moves].board.side_to_move) return MENKHODUR_WRONG_SIDE;
+    return same_board(after_of(r->at[r->moves].board, q.move), q.next->board) ? MENKHODUR_ACCEPTED : MENKHODUR_WRONG_RECORD;
 }
 
 static uint64_t number_for(const struct record *r, struct request q)
@@ -101,18 +109,33 @@ void note(struct record *r, struct request done)
 
 /* ---- Random games ---- */
 
-/* Few boards and few lists, so that positions recur; a pawn or a man in the way, a change of rights and an empty list now and then. */
-static struct position some_position(uint8_t side)
+/* A white and a black man that go there and back, so that positions recur; now and then a pawn that moves, a man that is taken (by himself, who
+ * stays where he is), a right that is lost by a move of nobody, and an empty list. The third entry is the rare one. */
+enum { B3 = 17, C3 = 18, D4 = 27, E4 = 28, B6 = 41, C6 = 42, A8 = 56, H8 = 63, E1 = 4, E5 = 36 };
+
+static uint16_t there_and_back(const menkhodur_board *b, unsigned here, unsigned there)
 {
-    struct position p = { no_board, (uint8_t)any(2), { 0 }, any(30) ? 3 : 0 };
-    p.board.side_to_move = side;
-    p.board.pieces[0] = any(20) ? 2 : any(2) ? 1 : 7;
-    p.board.pieces[1] = any(20) ? 0 : 9;
-    p.board.pieces[2] = any(3) ? 4 : 5;
-    p.board.white_castle_rights = any(25) ? 3 : 1;
-    p.board.black_castle_rights = any(25) ? 3 : 2;
-    p.list[0] = 64 * 1, p.list[1] = 64 * 40, p.list[2] = any(4) ? 64 * 41 : 64 * 42;
+    return b->pieces[here] ? MENKHODUR_MOVE(here, there, 0) : MENKHODUR_MOVE(there, here, 0);
+}
+
+static struct position some_position(menkhodur_board b)
+{
+    struct position p = { b, (uint8_t)any(2), { 0 }, any(30) ? 3 : 0 };
+    static const uint16_t rare[] = { MENKHODUR_MOVE(B3, B3, 0), MENKHODUR_MOVE(E1, E5, 0), MENKHODUR_MOVE(H8, A8, 0), MENKHODUR_MOVE(B6, C3, 0) };
+    p.list[0] = there_and_back(&b, B3, C3), p.list[1] = there_and_back(&b, B6, C6);
+    p.list[2] = any(8) ? there_and_back(&b, D4, E4) : rare[any(4)];
     return p;
+}
+
+static menkhodur_board some_start(void)
+{
+    menkhodur_board b = no_board;
+    b.side_to_move = (uint8_t)any(2);
+    b.pieces[B3] = (uint8_t)(2 + any(4)), b.pieces[B6] = (uint8_t)(8 + any(4)), b.pieces[D4] = any(2) ? MENKHODUR_WHITE_PAWN : MENKHODUR_BLACK_PAWN;
+    b.white_castle_rights = any(25) ? 3 : 1;
+    b.black_castle_rights = any(25) ? 3 : 2;
+    b.en_passant = (uint8_t)any(9);
+    return b;
 }
 
 static void spoil(struct position *p)
@@ -123,6 +146,7 @@ static void spoil(struct position *p)
     if (how == 2) p->list[p->entries ? any((unsigned)p->entries) : 0] = MENKHODUR_LAST_MOVE + 1;
     if (how == 3) p->entries = MENKHODUR_LONGEST_LIST + 1;
     if (how == 4) p->board.side_to_move ^= 1;
+    if (how < 7 && how > 4) how = any(68), *number_of(&p->board, how) = (uint8_t)any(limit_of(how) + 1u);
 }
 
 static struct request some_request(const struct record *r, struct position *next)
@@ -130,9 +154,10 @@ static struct request some_request(const struct record *r, struct position *next
     const struct position *now = &r->at[r->moves];
     unsigned kind = any(40);
     enum call call = kind < 30 ? MAKE_MOVE : kind < 37 ? OFFER_DRAW : kind < 38 ? ACCEPT_DRAW : kind < 39 ? DECLARE_DRAW : RESIGN;
-    *next = some_position((uint8_t)(1 - now->board.side_to_move));
+    uint64_t move = any(20) ? now->list[any(10) ? any(2) : 2] : any(70000);
+    *next = some_position(after_of(now->board, move % 28672));
     spoil(next);
-    return (struct request){ call, any(20) ? now->list[any(3)] : any(70000), (uint8_t)(any(15) ? any(2) : any(256)), next };
+    return (struct request){ call, move, (uint8_t)(any(15) ? any(2) : any(256)), next };
 }
 
 static void check_game(void)
@@ -140,7 +165,7 @@ static void check_game(void)
     static struct record r;
     struct game g = lend_game(MENKHODUR_ACTIONS_LENGTH, MENKHODUR_POSITIONS_LENGTH);
     r.actions = r.moves = 0;
-    r.at[0] = some_position((uint8_t)any(2));
+    r.at[0] = some_position(some_start());
     start(&g, &r.at[0], MENKHODUR_ACCEPTED);
     for (unsigned tries = 0; tries < TRIES; tries++) {
         struct position next;

@@ -228,6 +228,19 @@ static void check_unlisted(struct game *g)
     }
 }
 
+/* Each number of the record, but the side, changed to another in range. */
+static void check_wrong_records(struct game *g)
+{
+    for (unsigned which = 0; which < 68; which++) {
+        struct position next = round_position(1, false);
+        uint8_t right = *number_of(&next.board, which), limit = limit_of(which);
+        for (unsigned other = 0; other <= limit && which != 64; other++) {
+            *number_of(&next.board, which) = (uint8_t)other;
+            if (other != right) play(g, (struct request){ MAKE_MOVE, round_move(0), 0, &next }, MENKHODUR_WRONG_RECORD);
+        }
+    }
+}
+
 static void check_moves(void)
 {
     struct game g = started(false);
@@ -236,6 +249,7 @@ static void check_moves(void)
     check_next_lists(&g);
     check_unlisted(&g);
     play(&g, (struct request){ MAKE_MOVE, round_move(0), 0, &same_side }, MENKHODUR_WRONG_SIDE);
+    check_wrong_records(&g);
     play(&g, (struct request){ MAKE_MOVE, round_move(0), 0, &next }, MENKHODUR_ACCEPTED);
     give_back_game(&g);
 }
@@ -244,7 +258,7 @@ static void check_moves(void)
 static void check_full_list(void)
 {
     struct game g = usual_game();
-    struct position p = round_position(0, false), next = round_position(1, false);
+    struct position p = round_position(0, false), next = { after_of(p.board, MENKHODUR_LAST_MOVE), 0, { 0 }, 0 };
     p.entries = next.entries = MENKHODUR_LONGEST_LIST;
     p.list[MENKHODUR_LONGEST_LIST - 1] = next.list[MENKHODUR_LONGEST_LIST - 1] = MENKHODUR_LAST_MOVE;
     start(&g, &p, MENKHODUR_ACCEPTED);
@@ -287,22 +301,32 @@ static void check_repeated(void)
 
 enum emptying { PAWN_MOVES, CAPTURE, WHITE_RIGHTS, BLACK_RIGHTS, NOTHING, EMPTYINGS };
 
-/* Eight moves of the round from a board in which move 0 empties count and run, or does not: position 8 has equals at 0 and 4. */
+/* A round in which white's moves empty count and run, or do not, and black's are a knight's there and back: a pawn there and back; a bishop that
+ * stays where it is, and so takes itself; a move of nobody from a corner, which loses a right once; a knight there and back. */
+static uint64_t emptying_move(enum emptying how, uint64_t k)
+{
+    static const uint64_t white[EMPTYINGS][2] = {
+        { MENKHODUR_MOVE(8, 16, 0), MENKHODUR_MOVE(16, 8, 0) }, { MENKHODUR_MOVE(2, 2, 0), MENKHODUR_MOVE(2, 2, 0) },
+        { MENKHODUR_MOVE(7, 23, 0), MENKHODUR_MOVE(7, 23, 0) }, { MENKHODUR_MOVE(63, 47, 0), MENKHODUR_MOVE(63, 47, 0) },
+        { MENKHODUR_MOVE(6, 21, 0), MENKHODUR_MOVE(21, 6, 0) },
+    };
+    return k % 2 ? round_move(k) : white[how][k / 2 % 2];
+}
+
+/* Where nothing is emptied, position 8 has equals at 0 and 4. A right that is lost never comes back: then position 9 has equals at 1 and 5. */
 static void check_emptying(enum emptying how)
 {
     struct game g = usual_game();
     struct position p = round_position(0, false);
-    if (how == PAWN_MOVES) p.board.pieces[6] = 1;
-    if (how == CAPTURE) p.board.pieces[21] = 8;
+    uint64_t claim_from = how == NOTHING ? 8 : how == WHITE_RIGHTS || how == BLACK_RIGHTS ? 9 : 13;
+    p.board.pieces[7] = p.board.pieces[63] = MENKHODUR_EMPTY;
+    p.list[1] = (uint16_t)emptying_move(how, 0);
     start(&g, &p, MENKHODUR_ACCEPTED);
     for (uint64_t k = 1; k <= 12; k++) {
-        struct position next = round_position(k, false);
-        if (how == PAWN_MOVES && k % 4 == 0) next.board.pieces[6] = 1;
-        if (how == CAPTURE && k % 4 == 0) next.board.pieces[21] = 8;
-        if (how == WHITE_RIGHTS && k % 4) next.board.white_castle_rights = 2;
-        if (how == BLACK_RIGHTS && k % 4) next.board.black_castle_rights = 1;
-        play(&g, (struct request){ MAKE_MOVE, round_move(k - 1), 0, &next }, MENKHODUR_ACCEPTED);
-        check_claim(&g, how == NOTHING && k >= 8);
+        p.board = after_of(p.board, emptying_move(how, k - 1));
+        p.list[1] = (uint16_t)emptying_move(how, k);
+        play(&g, (struct request){ MAKE_MOVE, emptying_move(how, k - 1), 0, &p }, MENKHODUR_ACCEPTED);
+        check_claim(&g, k >= claim_from);
     }
     give_back_game(&g);
 }
@@ -310,10 +334,11 @@ static void check_emptying(enum emptying how)
 /* Equal means the same record and the same list in order; the in-check byte is not part of it. */
 static void check_equality(int what, bool stands)
 {
-    struct game g = started(false);
-    struct position odd = round_position(8, false);
+    struct game g = usual_game();
+    struct position first = round_position(0, false), odd = round_position(8, false);
+    if (what == 0) first.board.en_passant = 1;
+    start(&g, &first, MENKHODUR_ACCEPTED);
     play_round(&g, 7, false);
-    if (what == 0) odd.board.en_passant = 1;
     if (what == 1) odd.list[0] = (uint16_t)round_move(8), odd.list[1] = 1804;
     if (what == 2) odd.list[2] = 1804, odd.entries = 3;
     if (what == 3) odd.in_check = 1;
@@ -370,6 +395,11 @@ static void check_spoilt_position(struct game *g, size_t k)
 {
     size_t from = MENKHODUR_POSITION_SIZE * k;
     for (unsigned which = 0; which < 68; which++) check_spoilt(g, &g->positions, from + which, (uint8_t)(limit_of(which) + 1));
+    /* A number in range too: the next record does not follow from this one, or this one from the last. Of the start two are lost with its
+     * move: what stood where the knight arrives, and the en passant file. */
+    for (unsigned which = 0; which < 68; which++)
+        if (k > 0 || (which != round_move(0) / 64 && which != 67))
+            check_spoilt(g, &g->positions, from + which, (uint8_t)((g->positions.bytes[from + which] + 1) % (limit_of(which) + 1)));
     check_spoilt(g, &g->positions, from + 64, (uint8_t)(1 - k % 2));
     check_spoilt(g, &g->positions, from + 68, 2);
     check_spoilt(g, &g->positions, from + 69, 1);
@@ -380,9 +410,12 @@ static void check_spoilt_position(struct game *g, size_t k)
     check_spoilt(g, &g->positions, from + 579, 1);
 }
 
-/* A longer list of zeros behind is a list of moves a1a1, and good. */
+/* A longer list of zeros behind is a list of moves a1a1, and good; so is a start with an en passant file. */
 static void check_longer_list(struct game *g)
 {
+    put_byte(&g->positions, 67, 8);
+    ask(g, RESULT, MENKHODUR_ACCEPTED, MENKHODUR_GOES_ON);
+    put_byte(&g->positions, 67, 0);
     put_byte(&g->positions, 69, 3);
     ask(g, RESULT, MENKHODUR_ACCEPTED, MENKHODUR_GOES_ON);
     put_byte(&g->positions, 69, 2);
@@ -445,13 +478,16 @@ static void check_not_good(void)
     give_back_game(&g);
 }
 
-/* The last position: its list is not looked at by an earlier move, so a byte of it that keeps it in range keeps the log good. */
+/* The last position: its list is not looked at by an earlier move, so a byte of it that keeps it in range keeps the log good. Its record is
+ * the one after the last move. */
 static void check_last_position(void)
 {
     struct game g = short_log();
     size_t last = MENKHODUR_POSITION_SIZE * g.move_count;
     for (unsigned which = 0; which < 68; which++) check_spoilt(&g, &g.positions, last + which, (uint8_t)(limit_of(which) + 1));
     check_spoilt(&g, &g.positions, last + 64, 0);
+    for (unsigned which = 0; which < 68; which++)
+        check_spoilt(&g, &g.positions, last + which, (uint8_t)((g.positions.bytes[last + which] + 1) % (limit_of(which) + 1)));
     check_spoilt(&g, &g.positions, last + 68, 2);
     check_spoilt(&g, &g.positions, last + 69, 1);
     check_spoilt(&g, &g.positions, last + 73, 0x70);

@@ -11,7 +11,7 @@
 
 #define N(number) (UINT32_C(1) << (number))
 
-enum { FUNCTIONS = 33 };
+enum { FUNCTIONS = 35 };
 
 /* Document 01, "Order of checks", and document 02: all that each function can answer. The version is no answer. */
 static const uint32_t range = N(0) | N(5);
@@ -31,6 +31,7 @@ static bool report_all(void)
         { "menkhodur_side_to_move", range },
         { "menkhodur_castle_rights", range },
         { "menkhodur_en_passant", range },
+        { "menkhodur_board_after", N(0) | N(5) | N(6) },
         { "menkhodur_fen_read", N(0) | N(18) | N(19) | N(20) },
         { "menkhodur_fen_write", N(0) | N(5) | N(7) },
         { "menkhodur_fen_page", N(0) | N(7) },
@@ -41,7 +42,7 @@ static bool report_all(void)
         { "menkhodur_san_read_standard", N(0) | N(4) | N(5) | N(6) },
         { "menkhodur_san_name_standard", N(0) | N(5) | N(6) | N(7) | N(8) | N(11) },
         { "menkhodur_game_start", N(0) | N(5) | N(6) | N(16) },
-        { "menkhodur_game_make_move", N(0) | N(5) | N(6) | N(9) | N(10) | N(11) | N(12) | N(13) | N(16) },
+        { "menkhodur_game_make_move", N(0) | N(5) | N(6) | N(9) | N(10) | N(11) | N(12) | N(13) | N(16) | N(24) },
         { "menkhodur_game_offer_draw", coloured },
         { "menkhodur_game_resign", coloured },
         { "menkhodur_game_accept_draw", N(0) | N(9) | N(10) | N(13) | N(14) | N(16) },
@@ -52,6 +53,7 @@ static bool report_all(void)
         { "menkhodur_game_ruling", query },
         { "menkhodur_roll_write", N(0) | N(5) | N(7) | N(13) | N(16) | N(17) },
         { "menkhodur_roll_read", N(0) | N(5) | N(13) | N(16) | N(17) },
+        { "menkhodur_roll_differences", N(0) | N(5) | N(7) | N(13) | N(17) },
         { "menkhodur_pgn_check", N(0) | N(21) | N(22) | N(23) },
         { "menkhodur_pgn_next", N(0) | N(21) | N(22) | N(23) },
     };
@@ -67,6 +69,7 @@ int main(int argc, char **argv)
     }
     check_base();
     check_steps();
+    check_after();
     check_fen(argv[1]);
     check_page(argv[1], argv[2]);
     check_coordinates();
@@ -77,6 +80,7 @@ int main(int argc, char **argv)
     check_games();
     check_rulings();
     check_rolls();
+    check_differences();
     check_pgn();
     check_nulls();
     check_layout();

@@ -124,6 +124,21 @@ static void check_rolls_of_null(void)
     give_back(&out);
 }
 
+/* Either roll, and the room for what differs: equal rolls need none. */
+static void check_differences_of_null(void)
+{
+    static const uint8_t plain[69], pawn[69] = { MENKHODUR_WHITE_PAWN };
+    struct part out = lend(MENKHODUR_MAX_DIFFERENCES);
+    about("menkhodur_roll_differences", "NULL rolls, NULL room");
+    expect_answer(MENKHODUR_BAD_ROLL, 0, menkhodur_roll_differences(NULL, 0, NULL, 0, out.bytes, out.length));
+    expect_answer(MENKHODUR_BAD_ROLL, 0, menkhodur_roll_differences(plain, sizeof plain, NULL, 0, out.bytes, out.length));
+    expect_answer(MENKHODUR_BAD_ROLL, 0, menkhodur_roll_differences(NULL, 0, plain, sizeof plain, NULL, 0));
+    expect_answer(MENKHODUR_ACCEPTED, 0, menkhodur_roll_differences(plain, sizeof plain, plain, sizeof plain, NULL, 0));
+    expect_answer(MENKHODUR_OUTPUT_TOO_SHORT, 6, menkhodur_roll_differences(pawn, sizeof pawn, plain, sizeof plain, NULL, 0));
+    expect_unchanged("room", &out);
+    give_back(&out);
+}
+
 /* An empty list is a list: the game that starts with it, or comes to it, has ended. */
 static void check_empty_lists(void)
 {
@@ -162,6 +177,7 @@ void check_nulls(void)
     check_pages();
     check_rooms();
     check_rolls_of_null();
+    check_differences_of_null();
     check_move_text_of_null();
     check_empty_lists();
     check_part(true, false);

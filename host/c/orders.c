@@ -1,7 +1,7 @@
 /* The order of checks of the log's calls, over every set of faults, and logs at their limits. */
 #include "game.h"
 
-/* How a log is full: not, by 2,048 actions, or by 1,024 moves. */
+/* How a log is full: not, by its actions, or by its moves. */
 enum full { HAS_ROOM, BY_ACTIONS, BY_MOVES };
 
 /* ---- A start: 16, 5, 6 ---- */
@@ -46,7 +46,7 @@ static void check_move_order(unsigned faults, enum full full)
 {
     static const uint64_t numbers[] = { MENKHODUR_PART_TOO_SHORT, MENKHODUR_PART_TOO_SHORT, MENKHODUR_NOT_GOOD, MENKHODUR_GAME_OVER,
                                         MENKHODUR_NOT_LISTED, MENKHODUR_OUT_OF_RANGE, MENKHODUR_BAD_LIST, MENKHODUR_WRONG_SIDE,
-                                        MENKHODUR_LOG_FULL };
+                                        MENKHODUR_WRONG_RECORD, MENKHODUR_LOG_FULL };
     struct game g = log_with(faults, full, false, false);
     struct position next = round_position(g.move_count + 1, false);
     struct request r = { MAKE_MOVE, round_move(g.move_count), 0, &next };
@@ -54,7 +54,8 @@ static void check_move_order(unsigned faults, enum full full)
     if (faults & 32) next.board.en_passant = 9;
     if (faults & 64) next.list[0] = MENKHODUR_LAST_MOVE + 1;
     if (faults & 128) next.board.side_to_move ^= 1;
-    play(&g, r, first_of(full ? faults | 256 : faults, numbers));
+    if (faults & 256) next.board.pieces[33] = MENKHODUR_WHITE_BISHOP;
+    play(&g, r, first_of(full ? faults | 512 : faults, numbers));
     give_back_game(&g);
 }
 
@@ -87,7 +88,7 @@ static void check_query_order(unsigned faults, enum full full)
 static void check_call_orders(void)
 {
     for (enum full full = HAS_ROOM; full <= BY_MOVES; full++)
-        for (unsigned faults = 0; faults < 256; faults++) check_move_order(faults, full);
+        for (unsigned faults = 0; faults < 512; faults++) check_move_order(faults, full);
     for (enum full full = HAS_ROOM; full <= BY_ACTIONS; full++)
         for (unsigned faults = 0; faults < 32; faults++) {
             check_other_order(OFFER_DRAW, MENKHODUR_OUT_OF_RANGE, faults, full);
@@ -100,7 +101,7 @@ static void check_call_orders(void)
 
 /* ---- Limits, reached by calls ---- */
 
-/* 1,024 moves leave room for other actions; 2,048 actions for none, though an offer and a claim stand. */
+/* The most moves leave room for other actions; the most actions for none, though an offer and a claim stand. */
 static void check_limits(void)
 {
     struct game g = lend_game(MENKHODUR_ACTIONS_LENGTH, MENKHODUR_POSITIONS_LENGTH);
@@ -113,7 +114,8 @@ static void check_limits(void)
     ask(&g, RESULT, MENKHODUR_ACCEPTED, MENKHODUR_GOES_ON);
     ask(&g, CAN_DECLARE, MENKHODUR_ACCEPTED, 1);
     ask(&g, CAN_CLAIM, MENKHODUR_ACCEPTED, 1);
-    ask_ruling(&g, (menkhodur_ruling){ 0, 1024, 1024, 256, 0, 4, MENKHODUR_CLAIM_BY_BOTH, MENKHODUR_CLAIM_BY_BOTH });
+    ask_ruling(&g, (menkhodur_ruling){ 0, MENKHODUR_MAX_MOVES, MENKHODUR_MAX_MOVES, MENKHODUR_MAX_MOVES / 4, 0, 4, MENKHODUR_CLAIM_BY_BOTH,
+                                       MENKHODUR_CLAIM_BY_BOTH });
     give_back_game(&g);
 }
 

@@ -1,5 +1,7 @@
-/* What a call only reads may be the same memory: a list and a text, and the two parts of a query. */
+/* What a call only reads may be the same memory: a list and a text, the two parts of a query, two rolls. */
 #include "game.h"
+
+#include <string.h>
 
 enum { B1C3 = 1 + 64 * 18, B1A3 = 1 + 64 * 16, A1 = 0, B1 = 1, C1 = 2, D1 = 3 };
 
@@ -47,6 +49,8 @@ static void check_one_part_with_move(void)
 {
     struct game g = one_part((uint8_t[]){ MENKHODUR_MAKE_MOVE, 0, B1A3 % 256, B1A3 / 256 }, B1A3);
     struct position next = { no_board, 0, { B1C3 }, 1 };
+    /* No man stands on b1 or a3: the others stay where they are. */
+    memcpy(&next.board, g.positions.bytes, sizeof next.board);
     next.board.side_to_move = MENKHODUR_BLACK;
     append(&g, (struct request){ MAKE_MOVE, B1A3, 0, &next });
     ask(&g, RESULT, MENKHODUR_ACCEPTED, MENKHODUR_GOES_ON);
@@ -56,8 +60,24 @@ static void check_one_part_with_move(void)
     give_back(&g.positions);
 }
 
+/* One roll in another: 69 zeros, and the same from the second byte on, with one more zero, which is no roll. */
+static void check_rolls_that_overlap(void)
+{
+    static const uint8_t zeros[70];
+    struct part rolls = lend_bytes(zeros, sizeof zeros), out = lend(1);
+    about("menkhodur_roll_differences", "rolls in one memory");
+    expect_answer(MENKHODUR_ACCEPTED, 0, menkhodur_roll_differences(rolls.bytes, 69, rolls.bytes, 69, out.bytes, out.length));
+    expect_answer(MENKHODUR_ACCEPTED, 0, menkhodur_roll_differences(rolls.bytes, 69, rolls.bytes + 1, 69, out.bytes, out.length));
+    expect_answer(MENKHODUR_BAD_ROLL, 0, menkhodur_roll_differences(rolls.bytes, 69, rolls.bytes, 70, out.bytes, out.length));
+    expect_unchanged("rolls", &rolls);
+    expect_unchanged("room", &out);
+    give_back(&rolls);
+    give_back(&out);
+}
+
 void check_overlaps(void)
 {
+    check_rolls_that_overlap();
     check_text_in_list();
     check_one_part((uint8_t[]){ MENKHODUR_OFFER_DRAW, MENKHODUR_BLACK, 0, 0 }, MENKHODUR_GOES_ON);
     check_one_part((uint8_t[]){ MENKHODUR_RESIGN, MENKHODUR_BLACK, 0, 0 }, MENKHODUR_BLACK_RESIGNS);

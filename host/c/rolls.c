@@ -98,7 +98,7 @@ static uint64_t judge_actions(const struct roll *r, size_t at, uint64_t count, s
     while (f->count < count) {
         if (!next_number(r, &at, &n)) return MENKHODUR_BAD_ROLL;
         if (n == 2) {
-            if (++moves > 1024) return MENKHODUR_LOG_FULL;
+            if (++moves > MENKHODUR_MAX_MOVES) return MENKHODUR_LOG_FULL;
             if (!next_number(r, &at, &n) || n > 28671) return MENKHODUR_BAD_ROLL;
             add_action(f, 1, 0, n);
         } else {
@@ -120,7 +120,7 @@ static uint64_t judge(const struct roll *r, struct finished *f)
         *number_of(&f->start, which) = (uint8_t)n;
     }
     if (!next_number(r, &at, &n)) return MENKHODUR_BAD_ROLL;
-    return n > 2048 ? MENKHODUR_LOG_FULL : judge_actions(r, at, n, f);
+    return n > MENKHODUR_MAX_ACTIONS ? MENKHODUR_LOG_FULL : judge_actions(r, at, n, f);
 }
 
 /* ---- Calls ---- */

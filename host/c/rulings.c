@@ -61,39 +61,41 @@ menkhodur_ruling ruling_of(const struct record *r)
     return w;
 }
 
-/* ---- The rooks' round h1g1 h8g8 g1h1 g8h8, from positions of kings and rooks ---- */
+/* ---- The knights' round, with moves among it that empty something ---- */
 
-enum { E1 = 4, G1 = 6, H1 = 7, E8 = 60, G8 = 62, H8 = 63, NEVER = RECORDED + 1 };
+enum { E1 = 4, G1 = 6, H1 = 7, A2 = 8, A3 = 16, H3 = 23, D4 = 27, D5 = 35, H6 = 47, E8 = 60, G8 = 62, H8 = 63, NEVER = RECORDED + 1 };
 
-/* The moves with which each side loses its right, and those that a pawn makes or that take a man: 1 is the first move. Rights that are
- * given back do not occur in chess, but the log takes them. With `fresh` no two lists are equal. */
+/* The moves with which each side loses its right (nobody's, from its corner), and those that a pawn makes or that take a man: 1 is the first
+ * move. The round goes on after each of them. With `fresh` no two lists are equal. */
 struct plan {
-    unsigned white_loses, black_loses, black_regains, pawn, capture;
+    unsigned white_loses, black_loses, pawn, capture;
     bool fresh;
 };
 
-static const struct plan quiet = { NEVER, NEVER, NEVER, NEVER, NEVER, false };
+static const struct plan quiet = { NEVER, NEVER, NEVER, NEVER, false };
 
-static uint64_t rook_move(unsigned k)
+static uint64_t planned_move(const struct plan *plan, unsigned k)
 {
-    static const uint64_t moves[4] = { H1 + 64 * G1, H8 + 64 * G8, G1 + 64 * H1, G8 + 64 * H8 };
-    return moves[k % 4];
+    unsigned before = (plan->white_loses <= k && plan->white_loses) + (plan->black_loses <= k) + (plan->pawn <= k) + (plan->capture <= k);
+    if (k + 1 == plan->white_loses) return MENKHODUR_MOVE(H1, H3, 0);
+    if (k + 1 == plan->black_loses) return MENKHODUR_MOVE(H8, H6, 0);
+    if (k + 1 == plan->pawn) return MENKHODUR_MOVE(A2, A3, 0);
+    return k + 1 == plan->capture ? MENKHODUR_MOVE(D4, D5, 0) : round_move(k - before);
 }
 
-static struct position rooks_position(const struct plan *plan, unsigned k)
+static struct position planned_position(const struct plan *plan, unsigned k, menkhodur_board b)
 {
-    struct position p = { no_board, 0, { plan->fresh ? (uint16_t)(8192 + k) : 1804, (uint16_t)rook_move(k) }, 2 };
-    bool white_home = k % 4 == 0 || k % 4 == 3, black_home = k % 4 < 2;
-    p.board.pieces[E1] = MENKHODUR_WHITE_KING;
-    p.board.pieces[E8] = MENKHODUR_BLACK_KING;
-    p.board.pieces[white_home ? H1 : G1] = MENKHODUR_WHITE_ROOK;
-    p.board.pieces[black_home ? H8 : G8] = MENKHODUR_BLACK_ROOK;
-    if (k + 1 == plan->pawn) p.board.pieces[rook_move(k) % 64] = k % 2 ? MENKHODUR_BLACK_PAWN : MENKHODUR_WHITE_PAWN;
-    if (k + 1 == plan->capture) p.board.pieces[rook_move(k) / 64] = MENKHODUR_WHITE_BISHOP;
-    p.board.side_to_move = k % 2;
-    p.board.white_castle_rights = k < plan->white_loses ? MENKHODUR_KING_SIDE : MENKHODUR_NO_RIGHTS;
-    p.board.black_castle_rights = k < plan->black_loses || k >= plan->black_regains ? MENKHODUR_KING_SIDE : MENKHODUR_NO_RIGHTS;
-    return p;
+    return (struct position){ b, 0, { plan->fresh ? (uint16_t)(8192 + k) : 1804, (uint16_t)planned_move(plan, k) }, 2 };
+}
+
+static menkhodur_board first_board(void)
+{
+    static const uint8_t squares[] = { E1, E8, G1, G8, A2, D4, D5 };
+    static const uint8_t men[] = { MENKHODUR_WHITE_KING, MENKHODUR_BLACK_KING, MENKHODUR_WHITE_KNIGHT, MENKHODUR_BLACK_KNIGHT,
+                                   MENKHODUR_WHITE_PAWN, MENKHODUR_WHITE_ROOK, MENKHODUR_BLACK_BISHOP };
+    menkhodur_board b = board_with(MENKHODUR_WHITE, sizeof men, squares, men);
+    b.white_castle_rights = b.black_castle_rights = MENKHODUR_KING_SIDE;
+    return b;
 }
 
 /* What the game at hand must hold. */
@@ -103,7 +105,7 @@ static struct game planned(const struct plan *plan)
 {
     struct game g = lend_game(MENKHODUR_ACTIONS_LENGTH, MENKHODUR_POSITIONS_LENGTH);
     played.actions = played.moves = 0;
-    played.at[0] = rooks_position(plan, 0);
+    played.at[0] = planned_position(plan, 0, first_board());
     start(&g, &played.at[0], MENKHODUR_ACCEPTED);
     return g;
 }
@@ -117,8 +119,9 @@ static void act(struct game *g, struct request q)
 static void go_to(struct game *g, const struct plan *plan, unsigned moves)
 {
     while (played.moves < moves) {
-        struct position next = rooks_position(plan, played.moves + 1);
-        act(g, (struct request){ MAKE_MOVE, rook_move(played.moves), 0, &next });
+        uint64_t move = planned_move(plan, played.moves);
+        struct position next = planned_position(plan, played.moves + 1, after_of(played.at[played.moves].board, move));
+        act(g, (struct request){ MAKE_MOVE, move, 0, &next });
     }
 }
 
@@ -144,19 +147,19 @@ static void check_run(const struct plan *plan, unsigned from, unsigned to)
     give_back_game(&g);
 }
 
-/* Rights lost with move `at`, or lost and given back, or lost after a pawn move or a capture with move `at`. */
+/* Rights lost with move `at`, by one side or, before, by the other too, or lost after a pawn move or a capture with move `at`. */
 static void check_emptied(unsigned at, bool fresh)
 {
-    struct plan white = quiet, black = quiet, again = quiet, pawn = quiet, capture = quiet;
-    white.fresh = black.fresh = again.fresh = pawn.fresh = capture.fresh = fresh;
+    struct plan white = quiet, black = quiet, both = quiet, pawn = quiet, capture = quiet;
+    white.fresh = black.fresh = both.fresh = pawn.fresh = capture.fresh = fresh;
     white.white_loses = at;
     black.black_loses = at;
-    again.black_loses = at, again.black_regains = at + 1, again.white_loses = at / 2;
+    both.black_loses = at, both.white_loses = at / 2;
     pawn.pawn = at, pawn.white_loses = at + 2;
     capture.capture = at, capture.black_loses = at + 1;
     check_run(&white, 98, 102);
     check_run(&black, 98, 102);
-    check_run(&again, 98, 102);
+    check_run(&both, 98, 102);
     check_run(&pawn, 98, 105);
     check_run(&capture, 98, 105);
 }
@@ -174,7 +177,7 @@ static void check_runs(bool fresh)
 /* The same in figures: white loses its right with the first move, black with the second. */
 static void check_figures(void)
 {
-    const struct plan plan = { 1, 2, NEVER, NEVER, NEVER, true };
+    const struct plan plan = { 1, 2, NEVER, NEVER, true };
     struct game g = planned(&plan);
     go_to(&g, &plan, 1);
     ask_ruling(&g, (menkhodur_ruling){ 0, 0, 1, 0, 0, 0, MENKHODUR_CLAIM_NONE, MENKHODUR_CLAIM_NONE });
@@ -227,7 +230,7 @@ static void check_equal_figures(unsigned loses, uint64_t first)
 
 static void check_ended(struct request last)
 {
-    const struct plan plan = { 1, NEVER, NEVER, NEVER, NEVER, false };
+    const struct plan plan = { 1, NEVER, NEVER, NEVER, false };
     struct game g = planned(&plan);
     go_to(&g, &plan, 101);
     act(&g, (struct request){ OFFER_DRAW, 0, 0, NULL });
@@ -242,10 +245,11 @@ static void check_ended(struct request last)
 static void check_stalemate(void)
 {
     struct game g = planned(&quiet);
-    struct position last = rooks_position(&quiet, 100);
-    last.entries = 0;
+    struct position last;
     go_to(&g, &quiet, 99);
-    act(&g, (struct request){ MAKE_MOVE, rook_move(99), 0, &last });
+    last = planned_position(&quiet, 100, after_of(played.at[99].board, round_move(99)));
+    last.entries = 0;
+    act(&g, (struct request){ MAKE_MOVE, round_move(99), 0, &last });
     ask_ruling(&g, (menkhodur_ruling){ 0, 100, 100, 0, 0, 0, MENKHODUR_CLAIM_NONE, MENKHODUR_CLAIM_NONE });
     check_ruling(&g);
     give_back_game(&g);
@@ -257,9 +261,9 @@ void check_rulings(void)
     check_runs(false);
     check_runs(true);
     check_equals(&quiet);
-    check_equals(&(struct plan){ 1, 2, NEVER, NEVER, NEVER, false });
-    check_equals(&(struct plan){ 9, NEVER, NEVER, 3, NEVER, false });
-    check_equals(&(struct plan){ NEVER, 2, 6, NEVER, 11, false });
+    check_equals(&(struct plan){ 1, 2, NEVER, NEVER, false });
+    check_equals(&(struct plan){ 9, NEVER, 3, NEVER, false });
+    check_equals(&(struct plan){ NEVER, 2, NEVER, 11, false });
     check_equal_figures(NEVER, 0);
     check_equal_figures(2, 2);
     check_ended((struct request){ DECLARE_DRAW, 0, 0, NULL });

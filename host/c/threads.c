@@ -53,6 +53,8 @@ static unsigned wrong_numbers(void)
     wrong += !is_board(&initial, menkhodur_side_to_move(initial, MENKHODUR_WHITE));
     wrong += !is_board(&initial, menkhodur_castle_rights(initial, MENKHODUR_BLACK, MENKHODUR_BOTH_SIDES));
     wrong += !is_board(&initial, menkhodur_en_passant(initial, 0));
+    b = round_position(1, false).board;
+    wrong += !is_board(&b, menkhodur_board_after(initial, round_move(0)));
     return wrong;
 }
 
@@ -118,6 +120,19 @@ static unsigned wrong_rolls(void)
     return wrong + (memcmp(actions, g->actions.bytes, MENKHODUR_ACTION_SIZE * g->action_count) != 0);
 }
 
+/* That roll against itself and against the roll of a start alone: the first action is a move. */
+static unsigned wrong_differences(void)
+{
+    uint8_t room[MENKHODUR_MAX_DIFFERENCES], bare[sizeof(menkhodur_board) + 1] = { 0 };
+    char want[32];
+    const size_t length = (size_t)snprintf(want, sizeof want, "action 0 %u 0\n", 2 + 16 * (unsigned)round_move(0));
+    menkhodur_board start = initial;
+    unsigned wrong = !is(MENKHODUR_ACCEPTED, 0, menkhodur_roll_differences(roll_of_all.bytes, roll_of_all.length, roll_of_all.bytes, roll_of_all.length, NULL, 0));
+    for (unsigned which = 0; which < sizeof start; which++) bare[which] = *number_of(&start, which);
+    wrong += !is(MENKHODUR_ACCEPTED, length, menkhodur_roll_differences(roll_of_all.bytes, roll_of_all.length, bare, sizeof bare, room, sizeof room));
+    return wrong + (memcmp(room, want, length) != 0);
+}
+
 /* A move text that all read, counted and walked. */
 static unsigned wrong_move_text(void)
 {
@@ -163,7 +178,7 @@ static void *work(void *worker)
     struct worker *w = worker;
     for (unsigned i = 0; i < (exact ? ROUNDS_EXACT : ROUNDS); i++) {
         w->wrong += wrong_numbers() + wrong_texts() + wrong_standard_texts() + wrong_queries(&log_of_all, MENKHODUR_GOES_ON, 1);
-        w->wrong += wrong_pages() + wrong_rolls() + wrong_move_text() + wrong_own(&w->own);
+        w->wrong += wrong_pages() + wrong_rolls() + wrong_differences() + wrong_move_text() + wrong_own(&w->own);
     }
     return NULL;
 }

@@ -2,6 +2,7 @@
 #ifndef FUZZ_H
 #define FUZZ_H
 
+#include "../c/after_rule.h"
 #include "../c/record.h"
 
 #include <stdbool.h>
@@ -27,6 +28,7 @@ TWIN_OF(menkhodur_clear_square);
 TWIN_OF(menkhodur_side_to_move);
 TWIN_OF(menkhodur_castle_rights);
 TWIN_OF(menkhodur_en_passant);
+TWIN_OF(menkhodur_board_after);
 TWIN_OF(menkhodur_fen_read);
 TWIN_OF(menkhodur_fen_write);
 TWIN_OF(menkhodur_fen_page);
@@ -48,6 +50,7 @@ TWIN_OF(menkhodur_game_can_claim_by_laws);
 TWIN_OF(menkhodur_game_ruling);
 TWIN_OF(menkhodur_roll_write);
 TWIN_OF(menkhodur_roll_read);
+TWIN_OF(menkhodur_roll_differences);
 TWIN_OF(menkhodur_pgn_check);
 TWIN_OF(menkhodur_pgn_next);
 #endif
@@ -123,8 +126,9 @@ step call_version, call_make_square, call_rights, call_square_rights, call_board
 step call_fen_read, call_fen_write, call_move_read, call_move_write, call_san_read, call_san_name;
 step call_san_read_standard, call_san_name_standard, call_fen_page;
 step call_start, call_log, call_round, tamper, garbage, long_log, log_to_registers;
-step call_roll_write, call_roll_read, add_actions, roll_of_game, poke_roll, insert_in_roll, cut_roll;
+step call_roll_write, call_roll_read, call_roll_differences, keep_roll, add_actions, roll_of_game, poke_roll, insert_in_roll, cut_roll;
 step call_pgn_check, call_pgn_next, walk_pgn, put_token;
+step call_board_after;
 
 /* The texts that the register can be set to. */
 void text_of_board(struct input *in);

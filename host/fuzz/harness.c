@@ -102,14 +102,11 @@ static void poke_board(struct input *in)
     }
 }
 
-/* The board after a move of the list, roughly as chess has it. */
+/* The board after a move of the list. */
 static void step_board(struct input *in)
 {
     uint16_t move = in->entries ? in->list[take(in) % in->entries] : 0;
-    uint8_t man = in->board.pieces[move % 64], promotion = (uint8_t)(move / 4096 % 7);
-    in->board.pieces[move % 64] = 0;
-    in->board.pieces[move / 64 % 64] = promotion ? (uint8_t)(promotion + (man > 6 ? 6 : 0)) : man;
-    in->board.side_to_move ^= 1;
+    in->board = after_of(in->board, move % (MENKHODUR_LAST_MOVE + 1u));
     in->move = move;
 }
 
@@ -243,6 +240,7 @@ static step *const steps[] = {
     add_row, stretch_text, call_roll_write, call_roll_read, add_actions, roll_of_game, poke_roll, insert_in_roll, cut_roll,
     call_san_read_standard, call_san_name_standard, standard_text_of_move, call_fen_page,
     call_pgn_check, call_pgn_next, walk_pgn, put_token,
+    call_board_after, call_roll_differences, keep_roll,
 };
 
 int LLVMFuzzerTestOneInput(const uint8_t *data, size_t size);

@@ -10,7 +10,7 @@
 
 enum { PAGE = 4096 };
 
-enum { FUNCTIONS = 40 };
+enum { FUNCTIONS = 64 };
 
 bool counting = false;
 

@@ -71,9 +71,12 @@ static uint64_t want_move(const struct input *in, const struct request *r)
 {
     const uint8_t *p = current_position(&r->log);
     uint64_t number = want_position(&in->board, r->in_check, in);
+    menkhodur_board after;
     if (!is_listed(p, r->move)) return MENKHODUR_NOT_LISTED;
     if (number) return number;
     if (in->board.side_to_move == board_in(p).side_to_move) return MENKHODUR_WRONG_SIDE;
+    after = after_of(board_in(p), r->move);
+    if (memcmp(&after, &in->board, sizeof after) != 0) return MENKHODUR_WRONG_RECORD;
     return r->log.move_count == MENKHODUR_MAX_MOVES ? MENKHODUR_LOG_FULL : MENKHODUR_ACCEPTED;
 }
 
@@ -354,7 +357,7 @@ void call_start(struct input *in)
     judge_query(in, &(struct request){ RESULT, own_log(), actions.length, positions.length, 0, 0, 0 });
 }
 
-/* The current position into the registers, with the side that is to move after it. */
+/* The current position into the registers: a move of its list and the record after it, or without one the side that is to move then. */
 void log_to_registers(struct input *in)
 {
     struct log l = own_log();
@@ -362,30 +365,55 @@ void log_to_registers(struct input *in)
     unsigned index = take(in);
     open_for(move_count);
     in->board = board_in(p);
-    in->board.side_to_move ^= 1;
     in->entries = list_in(p, in->list);
-    if (in->entries) in->move = in->list[index % in->entries];
+    if (in->entries) {
+        in->move = in->list[index % in->entries];
+        in->board = after_of(in->board, in->move % (MENKHODUR_LAST_MOVE + 1u));
+    } else {
+        in->board.side_to_move ^= 1;
+    }
 }
 
 /* ---- The knights' round, played and put ---- */
 
-static uint64_t round_move(uint64_t k)
+enum { WHITE_OUT = 21, BLACK_OUT = 45, WHITE_HOME = 6, BLACK_HOME = 62 };
+
+/* The move of the round g1f3 g8f6 f3g1 f6g8 that is next, by where the knights stand. */
+static uint64_t round_move(const menkhodur_board *b)
 {
-    static const uint64_t moves[4] = { 6 + 64 * 21, 62 + 64 * 45, 21 + 64 * 6, 45 + 64 * 62 };
-    return moves[k % 4];
+    bool white = b->pieces[WHITE_OUT], black = b->pieces[BLACK_OUT];
+    if (white == black) return white ? MENKHODUR_MOVE(WHITE_OUT, WHITE_HOME, 0) : MENKHODUR_MOVE(WHITE_HOME, WHITE_OUT, 0);
+    return white ? MENKHODUR_MOVE(BLACK_HOME, BLACK_OUT, 0) : MENKHODUR_MOVE(BLACK_OUT, BLACK_HOME, 0);
 }
 
-/* The registers as after k moves of the round g1f3 g8f6 f3g1 f6g8; with `fresh` no two positions are equal. */
-static void round_registers(struct input *in, uint64_t k, bool fresh)
+/* The list of the board after k moves: e2e4, the move of the round, and a move of nobody from each king side's corner, which loses a right;
+ * with `fresh` no two are equal. */
+static void round_list(struct input *in, uint64_t k, bool fresh)
 {
-    unsigned white = k % 4 == 1 || k % 4 == 2 ? 21 : 6, black = k % 4 >= 2 ? 45 : 62;
-    memset(&in->board, 0, sizeof in->board);
-    in->board.pieces[white] = 2;
-    in->board.pieces[black] = 8;
-    in->board.side_to_move = k % 2;
     in->list[0] = (uint16_t)(fresh ? 8192 + k : 1804);
-    in->list[1] = (uint16_t)round_move(k);
-    in->entries = 2;
+    in->list[1] = (uint16_t)round_move(&in->board);
+    in->list[2] = MENKHODUR_MOVE(7, 23, 0);
+    in->list[3] = MENKHODUR_MOVE(63, 47, 0);
+    in->entries = 4;
+}
+
+static void round_start(struct input *in, bool fresh)
+{
+    memset(&in->board, 0, sizeof in->board);
+    in->board.pieces[WHITE_HOME] = 2;
+    in->board.pieces[BLACK_HOME] = 8;
+    round_list(in, 0, fresh);
+}
+
+/* The registers as after the next move of the round, from where the log stands; that move is handed out. */
+static uint64_t round_registers(struct input *in, bool fresh)
+{
+    struct log l = own_log();
+    menkhodur_board now = board_in(current_position(&l));
+    uint64_t move = round_move(&now);
+    in->board = after_of(now, move);
+    round_list(in, move_count + 1, fresh);
+    return move;
 }
 
 /* Some moves of the round from where the log stands; if no good log is there, the registers are made ready for its start. */
@@ -394,13 +422,12 @@ void call_round(struct input *in)
     unsigned moves = take(in);
     bool fresh = moves >= 128;
     if (!known_good) {
-        round_registers(in, 0, fresh);
+        round_start(in, fresh);
         return;
     }
     for (unsigned i = 0; i < moves % PLAYED_AT_ONCE; i++) {
         struct request r = request_of(MAKE_MOVE);
-        r.move = round_move(move_count);
-        round_registers(in, move_count + 1, fresh);
+        r.move = round_registers(in, fresh);
         judge(in, r);
     }
 }
@@ -412,10 +439,9 @@ static void put_action(enum call call, uint64_t move)
     lent_put(&actions, MENKHODUR_ACTION_SIZE * action_count++, bytes, sizeof bytes);
 }
 
-static void put_position(struct input *in, bool fresh)
+static void put_position(struct input *in)
 {
     uint8_t bytes[MENKHODUR_POSITION_SIZE];
-    round_registers(in, move_count, fresh);
     position_bytes(&in->board, 0, in->list, in->entries, bytes);
     lent_put(&positions, MENKHODUR_POSITION_SIZE * move_count, bytes, sizeof bytes);
 }
@@ -424,20 +450,22 @@ static void put_position(struct input *in, bool fresh)
 void long_log(struct input *in)
 {
     unsigned how = take(in);
-    uint64_t moves = how & 1 ? 1024 : how & 2 ? 1023 : how, offers = how & 4 ? 2048 - moves : how & 8 ? 2047 - moves : 0;
+    uint64_t most = MENKHODUR_MAX_MOVES, moves = how & 1 ? most : how & 2 ? most - 1 : how;
+    uint64_t offers = how & 4 ? MENKHODUR_MAX_ACTIONS - moves : how & 8 ? MENKHODUR_MAX_ACTIONS - 1 - moves : 0;
     if (!in->long_log) return;
     in->long_log = false;
     lend_parts(0, 0, in->front);
     open_for(moves);
-    put_position(in, how & 16);
+    round_start(in, how & 16);
+    put_position(in);
     while (action_count < moves) {
-        put_action(MAKE_MOVE, round_move(move_count++));
-        put_position(in, how & 16);
+        put_action(MAKE_MOVE, round_registers(in, how & 16));
+        move_count++;
+        put_position(in);
     }
     while (offers--) put_action(OFFER_DRAW, 0);
     known_good = true;
-    round_registers(in, move_count + 1, how & 16);
-    in->move = round_move(move_count);
+    in->move = round_registers(in, how & 16);
 }
 
 /* ---- Logs that no call made ---- */

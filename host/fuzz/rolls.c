@@ -1,9 +1,11 @@
-/* Rolls (document 02, order 1): what both functions answer by a second reading of the order, and which of the lent bytes change. */
+/* Rolls (document 02, orders 1 and 10): what the functions answer by a second reading of the orders, and which of the lent bytes change. */
 #include "fuzz.h"
 
+#include <stdio.h>
 #include <string.h>
 
-enum { RECORD = 68, SPARE = 64, MOST_ROLL = 11000 }; /* of 2,048 actions of up to 5 bytes, in range or not */
+/* A roll of actions of up to 5 bytes, in range or not. */
+enum { RECORD = 68, SPARE = 64, MOST_ROLL = RECORD + 700 + 5 * MENKHODUR_MAX_ACTIONS };
 
 /* The registers of these steps: actions, in range or not, and bytes that may be a roll. The start is the board's. */
 struct game {
@@ -20,11 +22,17 @@ static struct game game;
 static struct roll roll;
 static struct lent actions_part, roll_part;
 
+/* A roll of before, and a room for what differs (order 10). */
+static struct roll kept;
+static struct lent kept_part, text_part;
+
 void rolls_begin(void)
 {
     if (!actions_part.low) lent_make(&actions_part, MENKHODUR_ACTIONS_LENGTH + SPARE);
     if (!roll_part.low) lent_make(&roll_part, MOST_ROLL + SPARE);
-    game.count = roll.length = 0;
+    if (!kept_part.low) lent_make(&kept_part, MOST_ROLL + SPARE);
+    if (!text_part.low) lent_make(&text_part, MENKHODUR_MAX_DIFFERENCES + SPARE);
+    game.count = roll.length = kept.length = 0;
 }
 
 /* ---- What the writer must answer ---- */
@@ -180,6 +188,60 @@ static uint64_t judge_read(const struct input *in, unsigned turn, size_t length,
     return number;
 }
 
+/* ---- What differs ---- */
+
+/* The number of action `index`, 0 if there is none. */
+static unsigned differ_number(const struct game *g, uint64_t index)
+{
+    const uint8_t *a = g->bytes + MENKHODUR_ACTION_SIZE * index;
+    return index < g->count ? 2u * a[0] + a[1] + 16 * (a[2] + 256u * a[3]) : 0;
+}
+
+/* The lines of two games, by the order's words; gives their length. */
+static size_t differ_text(menkhodur_board *a, const struct game *g, menkhodur_board *b, const struct game *h, char *text)
+{
+    static const char *const behind[4] = { "side", "white", "black", "ep" };
+    char *at = text;
+    for (unsigned i = 0; i < RECORD; i++) {
+        unsigned x = *number_of(a, i), y = *number_of(b, i);
+        if (x != y && i < 64) at += sprintf(at, "%u %u %u\n", i, x, y);
+        if (x != y && i >= 64) at += sprintf(at, "%s %u %u\n", behind[i - 64], x, y);
+    }
+    for (uint64_t i = 0; i < g->count || i < h->count; i++) {
+        unsigned x = differ_number(g, i), y = differ_number(h, i);
+        if (x == y) continue;
+        at += sprintf(at, "action %u %u %u\n", (unsigned)i, x, y);
+        break;
+    }
+    return (size_t)(at - text);
+}
+
+/* One call on the register and the roll that is kept. */
+static void judge_differences(const struct input *in, unsigned turn, size_t room)
+{
+    static struct game first, second;
+    static char text[MENKHODUR_MAX_DIFFERENCES + SPARE];
+    menkhodur_board a, b;
+    menkhodur_answer want = { decode(&roll, &a, &first), 0 }, got;
+    if (want.number == MENKHODUR_ACCEPTED) want.number = decode(&kept, &b, &second);
+    if (want.number == MENKHODUR_ACCEPTED) {
+        want.value = differ_text(&a, &first, &b, &second, text);
+        if (want.value > room) want.number = MENKHODUR_OUTPUT_TOO_SHORT;
+    }
+    lend(&roll_part, roll.length, in->front, turn);
+    lent_put(&roll_part, 0, roll.bytes, roll.length);
+    lend(&kept_part, kept.length, in->front, turn);
+    lent_put(&kept_part, 0, kept.bytes, kept.length);
+    lend(&text_part, room, in->front, turn);
+    got = CALL(turn, menkhodur_roll_differences, roll.length ? roll_part.bytes : NULL, roll.length, kept.length ? kept_part.bytes : NULL, kept.length,
+               room ? text_part.bytes : NULL, room);
+    expect_answer(want, got);
+    if (want.number == MENKHODUR_ACCEPTED) lent_expect(&text_part, 0, text, want.value);
+    lent_same("room", &text_part);
+    lent_same("first roll", &roll_part);
+    lent_same("second roll", &kept_part);
+}
+
 /* ---- Steps ---- */
 
 /* The length of a part: full as a rule, longer or shorter now and then. */
@@ -244,6 +306,21 @@ void call_roll_read(struct input *in)
         expect("length written back", came.length, roll.length);
         expect_bytes("roll written back", came.bytes, roll.bytes, came.length);
     }
+}
+
+/* Room for every text as a rule, less now and then. */
+void call_roll_differences(struct input *in)
+{
+    unsigned form = take(in);
+    size_t room = form < 128 ? MENKHODUR_MAX_DIFFERENCES + form % SPARE : form < 192 ? form - 128u : (form - 192u) * 10;
+    about("roll_differences");
+    for (unsigned turn = 0; turn < 2; turn++) judge_differences(in, turn, room);
+}
+
+void keep_roll(struct input *in)
+{
+    (void)in;
+    kept = roll;
 }
 
 /* One action many times: in range as a rule, and any bytes if the kind's is 224 or more. */

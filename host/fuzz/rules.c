@@ -155,9 +155,11 @@ static bool position_good(const uint8_t *p)
 static bool move_good(struct log *l, const uint8_t *action, uint64_t moves)
 {
     const uint8_t *p = current_position(l), *next = p + MENKHODUR_POSITION_SIZE;
+    menkhodur_board after;
     if (l->move_count == moves || !is_listed(p, pair_at(action + 2)) || !position_good(next) || p[SIDE] == next[SIDE]) return false;
+    after = after_of(board_in(p), pair_at(action + 2));
     l->move_count++;
-    return true;
+    return memcmp(&after, next, sizeof after) == 0;
 }
 
 /* Whether the next action could have been accepted; it is then in the log. */

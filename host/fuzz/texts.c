@@ -102,6 +102,30 @@ void call_board_step(struct input *in)
     in->board = want;
 }
 
+/* In range in, in range out, with a FEN that reads back; refused, the record as it was. The board is then the one that was handed out. */
+void call_board_after(struct input *in)
+{
+    bool good = board_good(&in->board), fits = in->move <= MENKHODUR_LAST_MOVE;
+    menkhodur_board want = good && fits ? after_of(in->board, in->move) : in->board;
+    uint64_t number = good ? fits ? MENKHODUR_ACCEPTED : MENKHODUR_BAD_LIST : MENKHODUR_OUT_OF_RANGE;
+    for (unsigned turn = 0; turn < 2; turn++) {
+        menkhodur_stepped got = CALL(turn, menkhodur_board_after, in->board, in->move);
+        uint8_t text[MENKHODUR_LONGEST_FEN];
+        menkhodur_answer written;
+        menkhodur_fen read;
+        about("board_after");
+        expect("number", number, got.number);
+        expect_bytes("board", &want, &got.board, sizeof want);
+        if (number) continue;
+        written = CALL(turn, menkhodur_fen_write, got.board, text, sizeof text);
+        about("board_after, written and read back");
+        expect("number", MENKHODUR_ACCEPTED, written.number);
+        read = CALL(turn, menkhodur_fen_read, text, written.value);
+        expect_bytes("board", &want, &read.board, sizeof want);
+    }
+    in->board = want;
+}
+
 /* ---- Texts, lent ---- */
 
 static void lend_text(struct input *in, unsigned turn)

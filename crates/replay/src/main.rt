@@ -580,13 +580,25 @@ fn play_all(block: &mut [u8], line: &mut [u8], acts: &mut [u8], ps: &mut [u8], l
     }
 }
 
+// A slice of a parameter's array has the length that its type says. Of an array that is made where the slice is, the prover would count the zeros one by
+// one, and 2.4 million are more than it can (docs/DECISIONS.md).
+fn play_on(
+    block: &mut [u8; BLOCK],
+    line: &mut [u8; LONGEST_LINE],
+    actions: &mut [u8; ACTIONS_LENGTH + SPARE],
+    positions: &mut [u8; POSITIONS_LENGTH + SPARE],
+    moves: &mut [u16; LONGEST_LIST],
+) {
+    play_all(block, line, actions, positions, moves);
+}
+
 fn main() {
     let mut block = [0u8; BLOCK];
     let mut line = [0u8; LONGEST_LINE];
     let mut actions = [0u8; ACTIONS_LENGTH + SPARE];
     let mut positions = [0u8; POSITIONS_LENGTH + SPARE];
     let mut moves = [0u16; LONGEST_LIST];
-    play_all(
+    play_on(
         &mut block,
         &mut line,
         &mut actions,

@@ -325,4 +325,77 @@ menkhodur_answer menkhodur_fen_page(const uint8_t *text, size_t length, uint8_t 
     if (a.number == 0 && nl > 2 * a.value) numbers[2 * a.value] = 0;
     return a;
 }
+#elif FAULT == 45 /* WRAPS board_after: in castling to the queen side the rook stays in its corner too */
+menkhodur_stepped real_board_after(menkhodur_board b, uint64_t move);
+menkhodur_stepped menkhodur_board_after(menkhodur_board b, uint64_t move)
+{
+    menkhodur_stepped s = real_board_after(b, move);
+    unsigned from = move % 64, to = move / 64 % 64;
+    if (s.number == 0 && b.pieces[from] && b.pieces[from] % 6 == 0 && from == to + 2 && to % 8 == 2) s.board.pieces[to - 2] = b.pieces[to - 2];
+    return s;
+}
+#elif FAULT == 46 /* WRAPS board_after: a refused record loses its rights */
+menkhodur_stepped real_board_after(menkhodur_board b, uint64_t move);
+menkhodur_stepped menkhodur_board_after(menkhodur_board b, uint64_t move)
+{
+    menkhodur_stepped s = real_board_after(b, move);
+    if (s.number) s.board.white_castle_rights = 0;
+    return s;
+}
+#elif FAULT == 47 /* WRAPS board_after: a double step to file h looks round the edge */
+menkhodur_stepped real_board_after(menkhodur_board b, uint64_t move);
+menkhodur_stepped menkhodur_board_after(menkhodur_board b, uint64_t move)
+{
+    menkhodur_stepped s = real_board_after(b, move);
+    if (s.number == 0 && move == MENKHODUR_MOVE(15, 31, 0) && b.pieces[15] == MENKHODUR_WHITE_PAWN && b.pieces[32]) s.board.en_passant = 8;
+    return s;
+}
+#elif FAULT == 48 /* WRAPS game_make_move: black's rights in the next record are taken as they are lent */
+menkhodur_counts real_game_make_move(uint8_t *a, size_t al, uint8_t *p, size_t pl, uint64_t ac, uint64_t mc, uint64_t move,
+                                     menkhodur_board next, uint8_t in_check, const uint16_t *list, size_t entries);
+menkhodur_counts menkhodur_game_make_move(uint8_t *a, size_t al, uint8_t *p, size_t pl, uint64_t ac, uint64_t mc, uint64_t move,
+                                          menkhodur_board next, uint8_t in_check, const uint16_t *list, size_t entries)
+{
+    menkhodur_counts c = real_game_make_move(a, al, p, pl, ac, mc, move, next, in_check, list, entries);
+    uint8_t lent = next.black_castle_rights;
+    for (uint8_t rights = 0; c.number == 24 && rights < 4; rights++) {
+        next.black_castle_rights = rights;
+        c = real_game_make_move(a, al, p, pl, ac, mc, move, next, in_check, list, entries);
+    }
+    if (c.number == 0) p[MENKHODUR_POSITION_SIZE * (mc + 1) + 66] = lent;
+    return c;
+}
+#elif FAULT == 49 /* WRAPS game_result: a log is good if a record's squares do not follow */
+menkhodur_answer real_game_result(const uint8_t *a, size_t al, const uint8_t *p, size_t pl, uint64_t ac, uint64_t mc);
+menkhodur_answer menkhodur_game_result(const uint8_t *a, size_t al, const uint8_t *p, size_t pl, uint64_t ac, uint64_t mc)
+{
+    menkhodur_answer r = real_game_result(a, al, p, pl, ac, mc);
+    if (r.number == 9 && mc == 1 && ac == 1 && p[580 + 40] == 4 && p[580 + 64] == 1) r.number = 0;
+    return r;
+}
+#elif FAULT == 39 /* WRAPS roll_differences: a byte is written before the room is found too short */
+menkhodur_answer real_roll_differences(const uint8_t *first, size_t fl, const uint8_t *second, size_t sl, uint8_t *out, size_t room);
+menkhodur_answer menkhodur_roll_differences(const uint8_t *first, size_t fl, const uint8_t *second, size_t sl, uint8_t *out, size_t room)
+{
+    menkhodur_answer a = real_roll_differences(first, fl, second, sl, out, room);
+    if (a.number == 7 && room) out[0] = '0';
+    return a;
+}
+#elif FAULT == 40 /* WRAPS roll_differences: the second roll's refusal is told first */
+menkhodur_answer real_roll_differences(const uint8_t *first, size_t fl, const uint8_t *second, size_t sl, uint8_t *out, size_t room);
+menkhodur_answer menkhodur_roll_differences(const uint8_t *first, size_t fl, const uint8_t *second, size_t sl, uint8_t *out, size_t room)
+{
+    menkhodur_answer a = real_roll_differences(first, fl, second, sl, out, room);
+    menkhodur_answer b = real_roll_differences(second, sl, second, sl, 0, 0);
+    if (a.number != 0 && a.number != 7 && b.number != 0) a.number = b.number;
+    return a;
+}
+#elif FAULT == 41 /* WRAPS roll_differences: the last byte of a text with an action is a space */
+menkhodur_answer real_roll_differences(const uint8_t *first, size_t fl, const uint8_t *second, size_t sl, uint8_t *out, size_t room);
+menkhodur_answer menkhodur_roll_differences(const uint8_t *first, size_t fl, const uint8_t *second, size_t sl, uint8_t *out, size_t room)
+{
+    menkhodur_answer a = real_roll_differences(first, fl, second, sl, out, room);
+    if (a.number == 0 && a.value > 9 && out[0] == 'a') out[a.value - 1] = ' ';
+    return a;
+}
 #endif

@@ -157,6 +157,26 @@ impl Board {
         Board(certain(lent::en_passant(&self.0, file.map_or(0, |file| file as u8 + 1))))
     }
 
+    /// The board after a move: the man moved or promoted, the rook in castling, the pawn gone in en passant, castling rights that are lost,
+    /// the other side to move, and the en passant file if a double step arrives beside an enemy pawn (document 02, order 9). For a legal
+    /// move it is the original's `make_move_new`; any other goes by the same rule, and whether one is legal is not asked.
+    ///
+    /// ```
+    /// use menkhodur::{Board, Move, Square};
+    ///
+    /// let board = Board::from_fen("r3k3/8/8/8/3p4/8/4P3/4K2R w Kq -").unwrap();
+    /// let after = |text: &str| board.after(Move::from_text(text).unwrap()).to_fen();
+    /// assert_eq!(after("e1g1"), "r3k3/8/8/8/3p4/8/4P3/5RK1 b q - 0 1");
+    /// assert_eq!(after("e2e4"), "r3k3/8/8/8/3pP3/8/8/4K2R b Kq e3 0 1");
+    /// assert_eq!(board.after(Move::new(Square::E2, Square::E3, None)).after(Move::new(Square::D4, Square::E3, None)).to_fen(),
+    ///     "r3k3/8/8/8/8/4p3/8/4K2R w Kq - 0 1");
+    /// ```
+    #[must_use = "a step leaves its board as it is and hands back the next one"]
+    #[doc(alias = "make_move_new")]
+    pub fn after(self, chess_move: Move) -> Board {
+        Board(certain(lent::board_after(&self.0, u64::from(chess_move.number()))))
+    }
+
     /// The kind of piece on a square.
     ///
     /// ```

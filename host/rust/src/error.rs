@@ -56,7 +56,8 @@ pub enum Error {
     MoveNotListed,
     /// 12: the position after the move has the side to move that has just moved.
     WrongSideToMove,
-    /// 13: the log has 2,048 actions, or, for a move, 1,024 moves; or a roll has more.
+    /// 13: the log has [`MAX_ACTIONS`](crate::lent::MAX_ACTIONS) actions, or, for a move, [`MAX_MOVES`](crate::lent::MAX_MOVES) moves; or a
+    /// roll has more.
     LogFull,
     /// 14: there is no offer to accept.
     NoDrawOffer,
@@ -97,6 +98,8 @@ pub enum Error {
         /// Where that stands, or the offset itself.
         offset: usize,
     },
+    /// 24: the position after the move is not the one that the move leads to, as [`Board::after`](crate::Board::after) gives it.
+    WrongRecord,
     /// Any other number: the archive is of a version that this package does not know.
     Unknown(u64),
 }
@@ -135,6 +138,7 @@ impl Error {
             Error::LeftOpen { .. } => 21,
             Error::TooDeep { .. } => 22,
             Error::UnknownToken { .. } => 23,
+            Error::WrongRecord => 24,
             Error::Unknown(number) => number,
         }
     }
@@ -160,7 +164,7 @@ impl Error {
 
     /// `detail` is what an answer tells of a refusal besides its number: the length needed, or the place in the text.
     pub(crate) fn judge(number: u64, detail: u64) -> Result<(), Error> {
-        // No text that is written has more than 85 bytes and no roll more than 5,190, and a place is at most the length of a text that was
+        // No text that is written has more than 85 bytes and no roll more than 20,550, and a place is at most the length of a text that was
         // lent, or an offset that was a `usize` when it was handed in, so nothing is cut here on any target with 64 bits, the only ones that
         // the archive is for.
         let detail = detail as usize;
@@ -188,6 +192,7 @@ impl Error {
             21 => Error::LeftOpen { offset: detail },
             22 => Error::TooDeep { offset: detail },
             23 => Error::UnknownToken { offset: detail },
+            24 => Error::WrongRecord,
             other => Error::Unknown(other),
         })
     }
@@ -215,7 +220,7 @@ impl Error {
             Error::GameOver => "the game is over",
             Error::MoveNotListed => "the move is not in the list",
             Error::WrongSideToMove => "the position after the move has the wrong side to move",
-            Error::LogFull => "a log or a roll has at most 2,048 actions, and at most 1,024 of them are moves",
+            Error::LogFull => "the log has all the actions, or all the moves, that a log may have, or the roll has more",
             Error::NoDrawOffer => "there is no draw offer to accept",
             Error::NoClaim => "no draw can be claimed",
             Error::PartTooShort => "the part of the actions or that of the positions is too short",
@@ -226,6 +231,7 @@ impl Error {
             Error::LeftOpen { .. } => "a comment or a bracket of the move text is left open",
             Error::TooDeep { .. } => "the brackets of the move text go deeper than 8 levels",
             Error::UnknownToken { .. } => "the move text has something that is no token of it, or not there",
+            Error::WrongRecord => "the position after the move is not the one that the move leads to",
             Error::Unknown(_) => "the archive refused for a reason that this package does not know",
         }
     }
@@ -266,7 +272,7 @@ mod tests {
     #[test]
     fn every_number_has_its_own_variant_and_text() {
         let mut texts = HashSet::new();
-        for number in 2..=23 {
+        for number in 2..=24 {
             let error = Error::judge(number, 85).unwrap_err();
             assert_eq!(error.number(), number);
             assert!(!matches!(error, Error::Unknown(_)));
@@ -280,7 +286,7 @@ mod tests {
     fn accepted_is_no_error_and_an_unknown_number_is_kept() {
         assert_eq!(Error::judge(0, 7), Ok(()));
         // 1 was that of every refused FEN before version 3.
-        for number in [1, 24, 25, u64::MAX] {
+        for number in [1, 25, 26, u64::MAX] {
             assert_eq!(Error::judge(number, 7), Err(Error::Unknown(number)));
             assert_eq!((Error::Unknown(number).number(), Error::Unknown(number).offset()), (number, None));
         }
@@ -303,7 +309,7 @@ mod tests {
 
     #[test]
     fn the_place_in_the_text_is_kept_and_told() {
-        for number in 2..=23 {
+        for number in 2..=24 {
             let (error, has) = (Error::judge(number, 85).unwrap_err(), [2, 3, 18, 19, 20, 21, 22, 23].contains(&number));
             assert_eq!(error.offset(), has.then_some(85));
             assert_eq!(error.to_string().contains(", at byte 85 (answer "), has, "{error}");
@@ -317,6 +323,7 @@ mod tests {
         assert_eq!(words(21, 4), "a comment or a bracket of the move text is left open, at byte 4 (answer 21)");
         assert_eq!(words(22, 8), "the brackets of the move text go deeper than 8 levels, at byte 8 (answer 22)");
         assert_eq!(words(23, 3), "the move text has something that is no token of it, or not there, at byte 3 (answer 23)");
+        assert_eq!(words(24, 3), "the position after the move is not the one that the move leads to (answer 24)");
     }
 
     #[test]

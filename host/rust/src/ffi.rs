@@ -169,6 +169,7 @@ unsafe extern "C" {
     pub(crate) safe fn menkhodur_side_to_move(board: Board, colour: u8) -> Stepped;
     pub(crate) safe fn menkhodur_castle_rights(board: Board, colour: u8, rights: u8) -> Stepped;
     pub(crate) safe fn menkhodur_en_passant(board: Board, file: u8) -> Stepped;
+    pub(crate) safe fn menkhodur_board_after(board: Board, number: u64) -> Stepped;
 
     pub(crate) fn menkhodur_fen_read(text: *const u8, length: usize) -> Fen;
     pub(crate) fn menkhodur_fen_write(board: Board, out: *mut u8, room: usize) -> Answer;
@@ -294,6 +295,14 @@ unsafe extern "C" {
         room: usize,
     ) -> Answer;
     pub(crate) fn menkhodur_roll_read(roll: *const u8, length: usize, actions: *mut u8, actions_length: usize) -> Roll;
+    pub(crate) fn menkhodur_roll_differences(
+        first: *const u8,
+        first_length: usize,
+        second: *const u8,
+        second_length: usize,
+        out: *mut u8,
+        room: usize,
+    ) -> Answer;
 
     pub(crate) fn menkhodur_pgn_check(text: *const u8, length: usize) -> PgnCount;
     pub(crate) fn menkhodur_pgn_next(text: *const u8, length: usize, offset: u64, level: u64) -> PgnMove;

@@ -70,7 +70,7 @@ fn a_ruling_is_eight_numbers_in_the_headers_order() {
 
 #[test]
 fn the_parts_have_the_papers_lengths() {
-    assert_eq!((ACTIONS_PART, POSITIONS_PART), (8_192, 594_500));
+    assert_eq!((ACTIONS_PART, POSITIONS_PART), (32_768, 2_376_260));
 }
 
 #[test]
@@ -91,6 +91,8 @@ fn a_refused_step_hands_its_record_back() {
         menkhodur_side_to_move(bad, 0),
         menkhodur_castle_rights(bad, 0, 0),
         menkhodur_en_passant(bad, 0),
+        menkhodur_board_after(bad, 1153),
+        menkhodur_board_after(bad, u64::MAX),
     ];
     assert!(of_bad.iter().all(|step| step.number == 5 && step.board.record() == bad_record()));
     let of_good = [
@@ -102,6 +104,12 @@ fn a_refused_step_hands_its_record_back() {
         menkhodur_en_passant(good, 9),
     ];
     assert!(of_good.iter().all(|step| step.number == 5 && step.board.record() == [0; 68]));
+    for number in [28_672, 65_536, 65_536 + 1153, 70_000, (1 << 32) + 1153, u64::MAX] {
+        let mut good = bad_record();
+        good[64] = 1;
+        let step = menkhodur_board_after(Board::of(&good), number);
+        assert_eq!((step.number, step.board.record()), (6, good));
+    }
 }
 
 #[test]
@@ -215,6 +223,26 @@ fn a_refused_roll_has_no_length_but_the_one_needed() {
 }
 
 #[test]
+fn refused_rolls_tell_no_length_of_what_differs() {
+    let differ = |first: &[u8], second: &[u8], out: &mut [u8]| {
+        let (one, other, room) = (first.as_ptr(), second.as_ptr(), out.len());
+        // SAFETY: each pointer and length are those of one slice, and the one that is written is borrowed mutably.
+        let answer = unsafe { menkhodur_roll_differences(one, first.len(), other, second.len(), out.as_mut_ptr(), room) };
+        (answer.number, answer.value)
+    };
+    let (plain, mut pawn, mut room) = ([0; 69], [0; 69], [0xA5; 8]);
+    pawn[28] = 1;
+    assert_eq!(differ(&[], &[13], &mut room), (17, 0));
+    assert_eq!(differ(&[13], &[], &mut room), (5, 0));
+    assert_eq!(differ(&plain, &[13], &mut room), (5, 0));
+    assert_eq!(differ(&pawn, &plain, &mut room[..6]), (7, 7));
+    assert_eq!(room, [0xA5; 8]);
+    assert_eq!(differ(&pawn, &plain, &mut room), (0, 7));
+    assert_eq!(&room, b"28 1 0\n\xA5");
+    assert_eq!(differ(&pawn, &pawn, &mut []), (0, 0));
+}
+
+#[test]
 fn a_start_gives_no_counts_and_leaves_the_actions() {
     let actions = vec![0xA5; ACTIONS_PART];
     let mut positions = vec![0xA5; POSITIONS_PART];
@@ -235,6 +263,7 @@ fn a_refused_ruling_is_all_zeros() {
     let (mut actions, mut positions) = (vec![0; ACTIONS_PART], vec![0; POSITIONS_PART]);
     assert_eq!(start(&actions, &mut positions, &[0; 68], 0, &[1153]), (0, 0, 0));
     actions[..4].copy_from_slice(&[1, 0, 129, 4]);
+    // The record after the only move of an empty board: the other side is to move.
     positions[580 + 64] = 1;
     let rule = |actions: &[u8], positions: &[u8], n: u64, m: u64| {
         // SAFETY: each pointer and length are those of one slice, and the function only reads.

@@ -28,9 +28,9 @@ pub const ACTION_BYTES: usize = 4;
 /// Bytes of one position in its part.
 pub const POSITION_BYTES: usize = 580;
 /// The most actions that a log holds.
-pub const MAX_ACTIONS: usize = 2_048;
+pub const MAX_ACTIONS: usize = 8_192;
 /// The most moves that a log holds.
-pub const MAX_MOVES: usize = 1_024;
+pub const MAX_MOVES: usize = 4_096;
 /// The most moves that a list holds.
 pub const MAX_LIST: usize = 255;
 /// The moves of either side from which on a count lets a draw be claimed: fifty of each.
@@ -47,6 +47,9 @@ pub const PAGE_RECORD: usize = 68;
 pub const PAGE_NUMBERS: usize = 2;
 /// The most bytes that a roll has: the record's, two of the count, one of each action, and three more of each move.
 pub const MAX_ROLL: usize = 68 + 2 + MAX_ACTIONS + 3 * MAX_MOVES;
+
+/// The most bytes that the text of what differs between two rolls has.
+pub const MAX_DIFFERENCES: usize = 628;
 
 /// How many actions a log has, and how many of them are moves: what the next call on its parts is handed.
 #[must_use = "the next call on the log's parts must be handed these counts"]
@@ -213,6 +216,20 @@ pub fn en_passant(record: &Record, file: u8) -> Result<Record, Error> {
     ffi::menkhodur_en_passant(ffi::Board::of(record), file).judged()
 }
 
+/// The record after a move (document 02, order 9), which is the one that [`game_make_move`] asks for. For a legal move it is the
+/// original's; whether the move is legal is not asked. Refused: 5 for a record that is out of range, 6 for a number over 28,671.
+///
+/// ```
+/// use menkhodur::{Error, lent};
+///
+/// let castles = lent::fen_read(b"4k3/8/8/8/8/8/8/4K2R w K -").unwrap();
+/// assert_eq!(lent::board_after(&castles, 388), lent::fen_read(b"4k3/8/8/8/8/8/8/5RK1 b - -"));
+/// assert_eq!(lent::board_after(&castles, 70_000), Err(Error::ListOutOfRange));
+/// ```
+pub fn board_after(record: &Record, number: u64) -> Result<Record, Error> {
+    ffi::menkhodur_board_after(ffi::Board::of(record), number).judged()
+}
+
 /// The record that a FEN text says. Refused: 18, 19, 20, with the place in the text.
 ///
 /// ```
@@ -374,16 +391,20 @@ pub fn game_start(actions: &[u8], positions: &mut [u8], start: Given<'_>) -> Res
         .judged()
 }
 
-/// Makes a move of the last position's list and stores the position after it; gives the new counts. Refused: 16, 9, 10, 11, 5, 6, 12, 13.
+/// Makes a move of the last position's list and stores the position after it, whose record is the one that [`board_after`] gives; gives the
+/// new counts. Refused: 16, 9, 10, 11, 5, 6, 12, 24, 13.
 ///
 /// ```
+/// use menkhodur::Error;
 /// use menkhodur::lent::{self, ACTIONS_PART, Counts, Given, POSITIONS_PART};
 ///
 /// let (mut actions, mut positions) = (vec![0; ACTIONS_PART], vec![0; POSITIONS_PART]);
 /// let start = lent::fen_read(b"8/8/8/8/8/8/8/1N6 w - -").unwrap();
-/// let next = lent::fen_read(b"8/8/8/8/8/2N5/8/8 b - -").unwrap();
 /// let counts = lent::game_start(&actions, &mut positions, Given { record: &start, in_check: 0, list: &[1153] }).unwrap();
-/// let next = Given { record: &next, in_check: 0, list: &[] };
+/// let other = lent::side_to_move(&start, 1).unwrap();
+/// let next = Given { record: &other, in_check: 0, list: &[] };
+/// assert_eq!(lent::game_make_move(&mut actions, &mut positions, counts, 1153, next), Err(Error::WrongRecord));
+/// let next = Given { record: &lent::board_after(&start, 1153).unwrap(), ..next };
 /// let counts = lent::game_make_move(&mut actions, &mut positions, counts, 1153, next).unwrap();
 /// assert_eq!(counts, Counts { actions: 1, moves: 1 });
 /// assert_eq!(actions[..4], [1, 0, 129, 4]);
@@ -528,7 +549,7 @@ pub fn game_ruling(actions: &[u8], positions: &[u8], counts: Counts) -> Result<R
     unsafe { ffi::menkhodur_game_ruling(actions.as_ptr(), actions.len(), positions.as_ptr(), positions.len(), n, m) }.judged()
 }
 
-/// Writes the roll of a start and of the first `count` actions of a part, 69 to 5,190 bytes, and gives its length. Refused: 16, 5, 13, 17,
+/// Writes the roll of a start and of the first `count` actions of a part, 69 to 20,550 bytes, and gives its length. Refused: 16, 5, 13, 17,
 /// 7.
 ///
 /// ```
@@ -571,6 +592,28 @@ pub fn roll_read(roll: &[u8], actions: &mut [u8]) -> Result<Rolled, Error> {
     unsafe { ffi::menkhodur_roll_read(roll.as_ptr(), roll.len(), actions.as_mut_ptr(), actions.len()) }.judged()
 }
 
+/// Writes what differs between two rolls (document 02, order 10), at most [`MAX_DIFFERENCES`] bytes, and gives the text's length: 0 exactly
+/// if the rolls are equal. Refused: 5, 13 or 17 as [`roll_read`] gives it, first roll first, then 7.
+///
+/// ```
+/// use menkhodur::Error;
+/// use menkhodur::lent::{self, MAX_DIFFERENCES};
+///
+/// let (plain, mut pawn, mut room) = ([0; 69], [0; 69], [0; MAX_DIFFERENCES]);
+/// pawn[28] = 1;
+/// assert_eq!(lent::roll_differences(&pawn, &plain, &mut room), Ok(7));
+/// assert_eq!(&room[..7], b"28 1 0\n");
+/// assert_eq!(lent::roll_differences(&plain, &plain, &mut room), Ok(0));
+/// assert_eq!(lent::roll_differences(&pawn, &plain, &mut []), Err(Error::OutputTooShort { needed: 7 }));
+/// assert_eq!(lent::roll_differences(&plain, &pawn[1..], &mut room), Err(Error::BadRoll));
+/// ```
+pub fn roll_differences(first: &[u8], second: &[u8], out: &mut [u8]) -> Result<usize, Error> {
+    let (one, other, room) = (first.as_ptr(), second.as_ptr(), out.len());
+    // SAFETY: each pointer and length are those of one slice. The room, all that is written, is borrowed mutably for the call, so that no
+    // roll can lie in it.
+    length(unsafe { ffi::menkhodur_roll_differences(one, first.len(), other, second.len(), out.as_mut_ptr(), room) })
+}
+
 /// Checks PGN move text (document 02, order 8) and counts its moves, those of variations among them. Refused, the first from the left: 22, 23;
 /// at the end 21.
 ///
@@ -605,7 +648,7 @@ pub fn pgn_next(text: &[u8], offset: u64, level: u64) -> Result<Option<MovePart>
     Ok((next.found == 1).then_some(MovePart { start: next.start as usize, length: next.length as usize, level: next.level }))
 }
 
-// The contracts bound the values: squares to 63, rights to 3, results to 7, moves to 28,671, lengths to 5,190,
+// The contracts bound the values: squares to 63, rights to 3, results to 7, moves to 28,671, lengths to 20,550,
 // the lines of a page to the bytes of its text. The casts cut nothing.
 
 fn byte(answer: ffi::Answer) -> Result<u8, Error> {

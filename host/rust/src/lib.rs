@@ -11,7 +11,9 @@
 //! let list = [Move::new(Square::E2, Square::E4, None), Move::new(Square::G1, Square::F3, None)];
 //! let knight = board.read_san(&list, "Nf3")?;
 //! let mut log = Log::start(&Position { board, in_check: false, list: &list })?;
+//! log.play(knight, false, &[Move::new(Square::B8, Square::C6, None)])?;
 //! log.resign(Color::Black)?;
+//! assert_eq!(log.current_position(), board.after(knight));
 //! assert_eq!(board.to_fen(), "rnbqkbnr/pppppppp/8/8/8/8/PPPPPPPP/RNBQKBNR w KQkq - 0 1");
 //! assert_eq!(board.name(&list, knight)?, "Nf3");
 //! # Ok(())
@@ -30,6 +32,7 @@
 #![warn(clippy::all, clippy::must_use_candidate)]
 
 mod board;
+mod differences;
 mod entry;
 mod error;
 mod ffi;
@@ -45,6 +48,7 @@ mod square;
 mod version;
 
 pub use board::Board;
+pub use differences::{Difference, Differences, Refused, Which, differences};
 pub use entry::{Action, Actions, Position, Positions};
 pub use error::Error;
 pub use lent::{Counts, version};

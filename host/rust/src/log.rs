@@ -87,9 +87,9 @@ impl fmt::Display for GameResult {
 /// let list = [Move::from_text("b1c3").unwrap()];
 /// let mut log = Log::start(&Position { board: Board::default(), in_check: false, list: &list }).unwrap();
 ///
-/// let after = Board::from_fen("rnbqkbnr/pppppppp/8/8/8/2N5/PPPPPPPP/R1BQKBNR b KQkq -").unwrap();
 /// let replies = [Move::from_text("b8c6").unwrap()];
-/// log.make_move(list[0], &Position { board: after, in_check: false, list: &replies }).unwrap();
+/// log.play(list[0], false, &replies).unwrap();
+/// assert_eq!(log.current_position().to_fen(), "rnbqkbnr/pppppppp/8/8/8/2N5/PPPPPPPP/R1BQKBNR b KQkq - 0 1");
 ///
 /// log.resign(Color::Black).unwrap();
 /// assert_eq!(log.result(), Some(GameResult::BlackResigns));
@@ -160,9 +160,9 @@ impl Log {
         }
     }
 
-    /// Makes a move of the current position's list; `next` is the position after it. Refused, in this order: [`Error::GameOver`],
-    /// [`Error::MoveNotListed`], [`Error::ListOutOfRange`] for more than 255 moves in `next`, [`Error::WrongSideToMove`],
-    /// [`Error::LogFull`].
+    /// Makes a move of the current position's list; `next` is the position after it, and its board is the one that [`Board::after`] gives.
+    /// [`Log::play`] computes it instead. Refused, in this order: [`Error::GameOver`], [`Error::MoveNotListed`], [`Error::ListOutOfRange`]
+    /// for more than 255 moves in `next`, [`Error::WrongSideToMove`], [`Error::WrongRecord`], [`Error::LogFull`].
     ///
     /// ```
     /// use menkhodur::{Board, Color, Error, Log, Move, Position};
@@ -173,12 +173,33 @@ impl Log {
     /// assert_eq!(log.make_move(Move::from_text("e2e4").unwrap(), &next), Err(Error::MoveNotListed));
     /// assert_eq!(log.make_move(list[0], &next), Err(Error::WrongSideToMove));
     /// next.board = next.board.side_to_move(Color::Black);
+    /// assert_eq!(log.make_move(list[0], &next), Err(Error::WrongRecord));
+    /// next.board = log.current_position().after(list[0]);
     /// assert_eq!(log.make_move(list[0], &next), Ok(()));
     /// ```
     pub fn make_move(&mut self, chess_move: Move, next: &Position<'_>) -> Result<(), Error> {
         let number = u64::from(chess_move.number());
         self.counts = lent::game_make_move(&mut self.actions, bytes_mut(&mut self.positions), self.counts, number, next.given())?;
         Ok(())
+    }
+
+    /// Makes a move of the current position's list. The board after it is computed, as [`Board::after`] gives it; whether its side to move is
+    /// in check, and its moves, are the caller's to say. Refused, in this order: [`Error::GameOver`], [`Error::MoveNotListed`],
+    /// [`Error::ListOutOfRange`] for more than 255 moves, [`Error::LogFull`].
+    ///
+    /// ```
+    /// use menkhodur::{Board, Error, Log, Move, Position};
+    ///
+    /// let board = Board::from_fen("4k3/8/8/8/8/8/8/4K2R w K -").unwrap();
+    /// let list = [Move::from_text("e1g1").unwrap()];
+    /// let mut log = Log::start(&Position { board, in_check: false, list: &list }).unwrap();
+    /// assert_eq!(log.play(Move::from_text("h1h8").unwrap(), true, &[]), Err(Error::MoveNotListed));
+    /// log.play(list[0], false, &[Move::from_text("e8e7").unwrap()]).unwrap();
+    /// assert_eq!(log.current_position().to_fen(), "4k3/8/8/8/8/8/8/5RK1 b - - 0 1");
+    /// ```
+    pub fn play(&mut self, chess_move: Move, in_check: bool, list: &[Move]) -> Result<(), Error> {
+        let board = self.current_position().after(chess_move);
+        self.make_move(chess_move, &Position { board, in_check, list })
     }
 
     /// A colour offers a draw. Refused: [`Error::GameOver`], [`Error::LogFull`].
@@ -304,8 +325,8 @@ impl Log {
     ///
     /// let list = [Move::from_text("b1c3").unwrap()];
     /// let mut log = Log::start(&Position { board: Board::default(), in_check: false, list: &list }).unwrap();
+    /// log.play(list[0], false, &[]).unwrap();
     /// let after = Board::from_fen("rnbqkbnr/pppppppp/8/8/8/2N5/PPPPPPPP/R1BQKBNR b KQkq -").unwrap();
-    /// log.make_move(list[0], &Position { board: after, in_check: false, list: &[] }).unwrap();
     /// assert_eq!(log.positions().map(|position| position.board).collect::<Vec<_>>(), [Board::default(), after]);
     ///
     /// let made = log.actions().filter_map(|action| if let Action::MakeMove(made) = action { Some(made) } else { None });
@@ -390,7 +411,7 @@ impl Log {
         self.counts
     }
 
-    /// The game's roll: its start and what was done, without the positions after it, in at most 5,190 bytes. [`Roll`](crate::Roll) reads
+    /// The game's roll: its start and what was done, without the positions after it, in at most 20,550 bytes. [`Roll`](crate::Roll) reads
     /// it again.
     ///
     /// ```

@@ -29,13 +29,13 @@ use crate::lent::{self, ACTION_BYTES, ACTIONS_PART, MAX_ROLL};
 pub struct Roll {
     /// The board that the game starts from.
     pub start: Board,
-    /// What was done, in order: at most 2,048 actions, and at most 1,024 of them moves.
+    /// What was done, in order: at most [`lent::MAX_ACTIONS`] actions, and at most [`lent::MAX_MOVES`] of them moves.
     pub actions: Vec<Action>,
 }
 
 impl Roll {
     /// What a roll's bytes hold. Refused, whichever comes first from the left: [`Error::OutOfRange`] for a number of the start,
-    /// [`Error::LogFull`] for more than 2,048 actions or 1,024 moves, [`Error::BadRoll`] for all else that is wrong.
+    /// [`Error::LogFull`] for more actions or moves than a log holds, [`Error::BadRoll`] for all else that is wrong.
     ///
     /// ```
     /// use menkhodur::{Board, Error, Roll};
@@ -49,18 +49,19 @@ impl Roll {
     pub fn from_bytes(bytes: impl AsRef<[u8]>) -> Result<Roll, Error> {
         let mut part = [0; ACTIONS_PART];
         let rolled = lent::roll_read(bytes.as_ref(), &mut part)?;
-        // The archive counts at most 2,048, which are all that the part has.
+        // The archive counts at most as many as the part has.
         let actions = part.chunks_exact(ACTION_BYTES).take(rolled.actions as usize).map(Action::of_good_log).collect();
         Ok(Roll { start: Board::of_good_log(rolled.record), actions })
     }
 
-    /// The one roll of this start with these actions. Refused: [`Error::LogFull`] for more than 2,048 actions or 1,024 moves.
+    /// The one roll of this start with these actions. Refused: [`Error::LogFull`] for more actions or moves than a log holds.
     ///
     /// ```
+    /// use menkhodur::lent::MAX_ACTIONS;
     /// use menkhodur::{Action, Board, Error, Roll};
     ///
-    /// let mut roll = Roll { start: Board::default(), actions: vec![Action::AcceptDraw; 2_048] };
-    /// assert_eq!(roll.to_bytes().unwrap().len(), 68 + 2 + 2_048);
+    /// let mut roll = Roll { start: Board::default(), actions: vec![Action::AcceptDraw; MAX_ACTIONS] };
+    /// assert_eq!(roll.to_bytes().unwrap().len(), 68 + 2 + MAX_ACTIONS);
     /// roll.actions.push(Action::AcceptDraw);
     /// assert_eq!(roll.to_bytes(), Err(Error::LogFull));
     /// ```

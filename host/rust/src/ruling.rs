@@ -62,11 +62,10 @@ impl fmt::Display for Reason {
 /// use menkhodur::{Board, Log, Move, Position, Reason};
 ///
 /// let round = ["g1f3", "g8f6", "f3g1", "f6g8"].map(|text| Move::from_text(text).unwrap());
-/// let fens = ["6n1/8/8/8/8/8/8/6N1 w", "6n1/8/8/8/8/5N2/8/8 b", "8/8/5n2/8/8/5N2/8/8 w", "8/8/5n2/8/8/8/8/6N1 b"];
-/// let boards = fens.map(|fen| Board::from_fen(format!("{fen} - -")).unwrap());
-/// let mut log = Log::start(&Position { board: boards[0], in_check: false, list: &round }).unwrap();
-/// for made in 0..8 {
-///     log.make_move(round[made % 4], &Position { board: boards[(made + 1) % 4], in_check: false, list: &round }).unwrap();
+/// let board = Board::from_fen("6n1/8/8/8/8/8/8/6N1 w - -").unwrap();
+/// let mut log = Log::start(&Position { board, in_check: false, list: &round }).unwrap();
+/// for made in round.iter().cycle().take(8) {
+///     log.play(*made, false, &round).unwrap();
 /// }
 /// let ruling = log.ruling();
 /// assert_eq!((ruling.claim, ruling.laws_claim), (Some(Reason::EqualPositions), Some(Reason::EqualPositions)));

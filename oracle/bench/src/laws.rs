@@ -99,7 +99,7 @@ fn of_knights(board: &Board) -> Vec<ChessMove> {
 }
 
 /// So many of them, anywhere: the run is as long as the game, and few positions are equal.
-fn knights_game(length: usize, random: &mut Random) -> Vec<ChessMove> {
+pub fn knights_game(length: usize, random: &mut Random) -> Vec<ChessMove> {
     let (mut board, mut moves) = (board_of(STARTS[0]), vec![]);
     while moves.len() < length {
         let goes_on = |m: &ChessMove| !of_knights(&board.make_move_new(*m)).is_empty();

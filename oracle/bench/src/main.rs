@@ -4,20 +4,24 @@
 //! SAN texts are read by the crate's code in two ways: over lists at hand (`sanlist`), as ours are, and over its own `Board`,
 //! where it makes the list, by the stand-in generator, before it looks at it.
 
+mod differences;
 mod keys;
 mod laws;
+mod longer;
 mod page;
 mod pgn;
 mod plain;
+mod plain_differences;
 mod plain_pgn;
 mod rolls;
 
-use both::abi::{self, Answer, Log, Placed, Position, Record};
+use both::abi::{self, Answer, Log, Placed, Position, Record, Stepped};
 use both::games::{board_of, different_positions, moves_of, random_move, STARTS};
 use both::numbers::{move_of, number_of, position_of, record_of, result_number};
 use both::random::Random;
 use chess::{Board, BoardBuilder, ChessMove, Game, Piece};
 use compare::standard;
+use std::convert::TryFrom;
 use std::hint::black_box;
 use std::str::FromStr;
 use std::time::{Duration, Instant};
@@ -29,7 +33,7 @@ const LEAST: Duration = Duration::from_secs(1);
 const GAMES: usize = 12;
 const GAME_ROUNDS: usize = 8;
 const GAME_LENGTH: usize = 300;
-/// The most moves that a log holds.
+/// A long game: as many moves as a log held before order 11.
 const LONGEST_GAME: usize = 1_024;
 
 /// A position of a game in every shape that is timed.
@@ -115,6 +119,24 @@ fn coordinates(places: &[Place]) {
     let pairs: Vec<(ChessMove, u16)> = moves.into_iter().zip(numbers).collect();
     let (theirs, ours) = times(&pairs, |(m, _)| m.to_string(), |(_, n)| abi::move_write(*n as u64, &mut room));
     row("coordinate write", pairs.len(), theirs, ours, "2");
+}
+
+/// Every legal move of every position (document 02, order 9). The crate's `Board` also keeps pins, checks and a hash, which a record has not.
+fn after(places: &[Place]) {
+    let all: Vec<(&Place, ChessMove, u64)> =
+        places.iter().flat_map(|p| p.list.iter().map(move |n| (p, move_of(*n), *n as u64))).collect();
+    for (p, m, number) in &all {
+        let owed = record_of(&BoardBuilder::from(p.board.make_move_new(*m)));
+        assert_eq!(abi::board_after(p.record, *number), Stepped { number: 0, board: owed });
+    }
+    let (theirs, ours) = times(&all, |(p, m, _)| p.board.make_move_new(*m), |(p, _, number)| abi::board_after(p.record, *number));
+    row("the board after a move", all.len(), theirs, ours, "2");
+    // What a host that keeps records would do with the crate.
+    let by_builder = |(p, m, _): &(&Place, ChessMove, u64)| {
+        BoardBuilder::from(Board::try_from(&p.builder).expect("a position of a game").make_move_new(*m))
+    };
+    let (theirs, ours) = times(&all, by_builder, |(p, _, number)| abi::board_after(p.record, *number));
+    row("the same, the crate from a builder to a builder", all.len(), theirs, ours, "");
 }
 
 /// Every move of every position, by its place in the list.
@@ -214,7 +236,7 @@ fn games(random: &mut Random) {
         ours += rounds.iter().map(|r| r.1).fold(f64::MAX, f64::min);
     }
     let asked = 2 * GAMES * GAME_LENGTH;
-    row("result and claim after each of 300 moves", asked, theirs / asked as f64, ours / asked as f64, "10");
+    row("result and claim after each of 300 moves", asked, theirs / asked as f64, ours / asked as f64, "8");
     longest_game(&mut log, random);
     laws::laws(&mut log, random);
 }
@@ -246,7 +268,7 @@ fn lines(what: &str, places: &[Place], times: fn(&[&str]) -> Result<(usize, f64,
     }
 }
 
-const PARTS: [&str; 9] = ["fen", "page", "coordinates", "san", "log", "rolls", "pgn", "keys", "cli"];
+const PARTS: [&str; 12] = ["fen", "page", "coordinates", "san", "after", "log", "longer", "rolls", "differences", "pgn", "keys", "cli"];
 
 /// The parts that were named, or all.
 fn parts() -> Vec<String> {
@@ -273,8 +295,11 @@ fn main() {
             "page" => page::pages(),
             "coordinates" => coordinates(&places),
             "san" => san(&places),
+            "after" => after(&places),
             "log" => games(&mut random),
+            "longer" => longer::longer(&mut random),
             "rolls" => rolls::rolls(&mut random),
+            "differences" => differences::differences(&mut random),
             "pgn" => pgn::pgn(&mut random),
             "keys" => lines("keys, a line of a file", &places, keys::times),
             _ => {

@@ -1,11 +1,9 @@
 //! The same job as `menkhodur_roll_read` and `menkhodur_roll_write`, with the same checks and nothing written when refused, in
 //! plain safe Rust, as one would write it who has no proofs.
 
-use both::abi::{Answer, Record, Roll, ACTIONS_LENGTH};
+use both::abi::{Answer, Record, Roll, ACTIONS_LENGTH, MOST_ACTIONS, MOST_MOVES};
 
 const LARGEST_MOVE: u64 = 28_671;
-const MOST_ACTIONS: u64 = 2_048;
-const MOST_MOVES: usize = 1_024;
 
 fn in_range(record: &[u8; 68]) -> bool {
     record[..64].iter().all(|n| *n <= 12) && record[64] <= 1 && record[65] <= 3 && record[66] <= 3 && record[67] <= 8
@@ -43,7 +41,7 @@ fn bad_record(mut text: &[u8]) -> u64 {
 }
 
 /// Hands each action's bytes on, or gives the refusal.
-fn walk(mut text: &[u8], count: usize, mut put: impl FnMut(usize, [u8; 4])) -> Result<(), u64> {
+pub fn walk(mut text: &[u8], count: usize, mut put: impl FnMut(usize, [u8; 4])) -> Result<(), u64> {
     let mut moves = 0;
     for i in 0..count {
         let (code, behind) = number(text).ok_or(17u64)?;
@@ -64,24 +62,30 @@ fn walk(mut text: &[u8], count: usize, mut put: impl FnMut(usize, [u8; 4])) -> R
     if text.is_empty() { Ok(()) } else { Err(17) }
 }
 
-fn start_of(roll: &[u8]) -> Result<([u8; 68], &[u8]), u64> {
+fn start_of(roll: &[u8]) -> Result<(&[u8; 68], &[u8]), u64> {
     match roll.split_first_chunk::<68>() {
-        Some((record, behind)) if in_range(record) => Ok((*record, behind)),
+        Some((record, behind)) if in_range(record) => Ok((record, behind)),
         _ => Err(bad_record(roll)),
     }
 }
 
 /// The start, the count, and the text of the actions, which is not looked at yet.
+pub fn opened(roll: &[u8]) -> Result<(&[u8; 68], usize, &[u8]), u64> {
+    let (record, text) = start_of(roll)?;
+    let (actions, text) = number(text).ok_or(17u64)?;
+    if actions > MOST_ACTIONS as u64 {
+        return Err(13);
+    }
+    Ok((record, actions as usize, text))
+}
+
+/// The same as an answer, behind the check of the part.
 fn opening<'a>(roll: &'a [u8], part: &[u8]) -> Result<(Roll, &'a [u8]), u64> {
     if part.len() < ACTIONS_LENGTH {
         return Err(16);
     }
-    let (record, text) = start_of(roll)?;
-    let (actions, text) = number(text).ok_or(17u64)?;
-    if actions > MOST_ACTIONS {
-        return Err(13);
-    }
-    Ok((Roll { number: 0, actions, board: Record(record) }, text))
+    let (record, actions, text) = opened(roll)?;
+    Ok((Roll { number: 0, actions: actions as u64, board: Record(*record) }, text))
 }
 
 /// Looks at the whole text before it writes.
@@ -173,7 +177,7 @@ fn try_write(b: Record, part: &[u8], count: u64, out: &mut [u8]) -> Result<Answe
     if !in_range(&b.0) {
         return Err(5);
     }
-    if count > MOST_ACTIONS {
+    if count > MOST_ACTIONS as u64 {
         return Err(13);
     }
     let actions = &part.as_chunks::<4>().0[..count as usize];

@@ -2,27 +2,36 @@
 
 use crate::plain;
 use crate::{long_game, row, times};
-use both::abi::{self, Record, Roll, ACTIONS_LENGTH, POSITION_LENGTH};
+use both::abi::{self, Record, Roll, ACTIONS_LENGTH, LONGEST_ROLL, POSITION_LENGTH};
 use both::games::{board_of, STARTS};
 use both::numbers::{number_of, record_of};
 use both::random::Random;
 use chess::BoardBuilder;
 
-const LENGTHS: [usize; 7] = [20, 40, 80, 160, 300, 600, 1_024];
+const LENGTHS: [usize; 8] = [20, 40, 80, 160, 300, 600, 1_024, 4_096];
 const GAMES: usize = 32;
-/// Bytes of the longest roll: a record, a count, 1,024 moves of three groups and 1,024 other actions.
-const ROOM: usize = 68 + 2 + 1_024 * 4 + 1_024;
 
 /// A game in both shapes.
-struct Rolled {
+pub struct Rolled {
     start: Record,
-    actions: Vec<u8>,
-    count: u64,
-    roll: Vec<u8>,
+    pub actions: Vec<u8>,
+    pub count: u64,
+    pub roll: Vec<u8>,
+}
+
+impl Rolled {
+    /// The roll of the same start with as many other actions.
+    pub fn again(&self, actions: &[u8]) -> Vec<u8> {
+        let mut roll = vec![0; LONGEST_ROLL];
+        let answer = abi::roll_write(self.start, actions, self.count, &mut roll);
+        assert_eq!(answer.number, 0);
+        roll.truncate(answer.value as usize);
+        roll
+    }
 }
 
 /// The actions part of a game of so many moves: an offer after one move in twenty, and a resignation at its end.
-fn rolled(length: usize, random: &mut Random) -> Rolled {
+pub fn rolled(length: usize, random: &mut Random) -> Rolled {
     let mut actions = vec![];
     for m in long_game(length, random) {
         let [low, high] = number_of(m).to_le_bytes();
@@ -35,11 +44,9 @@ fn rolled(length: usize, random: &mut Random) -> Rolled {
     let count = actions.len() as u64 / 4;
     actions.resize(ACTIONS_LENGTH, 0);
     let start = record_of(&BoardBuilder::from(board_of(STARTS[0])));
-    let mut roll = vec![0; ROOM];
-    let answer = abi::roll_write(start, &actions, count, &mut roll);
-    assert_eq!(answer.number, 0);
-    roll.truncate(answer.value as usize);
-    Rolled { start, actions, count, roll }
+    let mut game = Rolled { start, actions, count, roll: vec![] };
+    game.roll = game.again(&game.actions);
+    game
 }
 
 /// Plain Rust must refuse as ours does: every cut of a roll, and each byte's top bit changed.
@@ -61,7 +68,7 @@ fn check_refusals(roll: &[u8]) {
 
 /// What is timed must be right: both write the same roll, and both read the game back.
 fn check(game: &Rolled) {
-    let mut room = vec![0; ROOM];
+    let mut room = vec![0; LONGEST_ROLL];
     let answer = plain::write(game.start, &game.actions, game.count, &mut room);
     assert_eq!((answer.number, &room[..answer.value as usize]), (0, &game.roll[..]));
     for read in [abi::roll_read, plain::read, plain::read_gathering] {
@@ -91,7 +98,7 @@ fn reading(length: usize, games: &[Rolled]) {
 }
 
 fn writing(length: usize, games: &[Rolled]) {
-    let (mut room, mut other) = ([0; ROOM], [0; ROOM]);
+    let (mut room, mut other) = ([0; LONGEST_ROLL], [0; LONGEST_ROLL]);
     let theirs = |g: &Rolled| plain::write(g.start, &g.actions, g.count, &mut other);
     let (theirs, taken) = times(games, theirs, |g| abi::roll_write(g.start, &g.actions, g.count, &mut room));
     row(&format!("roll write, {} moves", length), games.len(), theirs, taken, "1");

@@ -91,11 +91,17 @@ pub struct Roll {
     pub board: Record,
 }
 
-/// Bytes of the actions part and of the positions part.
-pub const ACTIONS_LENGTH: usize = 8_192;
-pub const POSITIONS_LENGTH: usize = 594_500;
-/// Bytes of one position.
+/// The most actions and the most moves of a log or a roll. `tools/abi` compares them, and what is computed from them, with the crates.
+pub const MOST_ACTIONS: usize = 8_192;
+pub const MOST_MOVES: usize = 4_096;
+/// Bytes of one action and of one position.
+pub const ACTION_LENGTH: usize = 4;
 pub const POSITION_LENGTH: usize = 580;
+/// Bytes of the actions part and of the positions part: a start and one position after each move.
+pub const ACTIONS_LENGTH: usize = ACTION_LENGTH * MOST_ACTIONS;
+pub const POSITIONS_LENGTH: usize = POSITION_LENGTH * (MOST_MOVES + 1);
+/// Bytes of the longest roll: a record, a count of two, one of each action and three more of each move.
+pub const LONGEST_ROLL: usize = 68 + 2 + MOST_ACTIONS + 3 * MOST_MOVES;
 
 #[link(name = "menkhodur", kind = "static")]
 extern "C" {
@@ -109,6 +115,7 @@ extern "C" {
     fn menkhodur_side_to_move(b: Record, colour: u8) -> Stepped;
     fn menkhodur_castle_rights(b: Record, colour: u8, rights: u8) -> Stepped;
     fn menkhodur_en_passant(b: Record, file: u8) -> Stepped;
+    fn menkhodur_board_after(b: Record, number: u64) -> Stepped;
 
     fn menkhodur_fen_read(text: *const u8, length: usize) -> Fen;
     fn menkhodur_fen_write(b: Record, out: *mut u8, room: usize) -> Answer;
@@ -143,6 +150,7 @@ extern "C" {
 
     fn menkhodur_roll_write(b: Record, a: *const u8, al: usize, n: u64, out: *mut u8, room: usize) -> Answer;
     fn menkhodur_roll_read(roll: *const u8, length: usize, a: *mut u8, al: usize) -> Roll;
+    fn menkhodur_roll_differences(first: *const u8, fl: usize, second: *const u8, sl: usize, out: *mut u8, room: usize) -> Answer;
     fn menkhodur_pgn_check(text: *const u8, length: usize) -> PgnCount;
     fn menkhodur_pgn_next(text: *const u8, length: usize, offset: u64, level: u64) -> PgnMove;
 }
@@ -181,6 +189,10 @@ pub fn castle_rights(b: Record, colour: u8, rights: u8) -> Stepped {
 
 pub fn en_passant(b: Record, file: u8) -> Stepped {
     unsafe { menkhodur_en_passant(b, file) }
+}
+
+pub fn board_after(b: Record, number: u64) -> Stepped {
+    unsafe { menkhodur_board_after(b, number) }
 }
 
 pub fn fen_read(text: &[u8]) -> Fen {
@@ -226,6 +238,11 @@ pub fn roll_write(b: Record, actions: &[u8], count: u64, out: &mut [u8]) -> Answ
 
 pub fn roll_read(roll: &[u8], actions: &mut [u8]) -> Roll {
     unsafe { menkhodur_roll_read(roll.as_ptr(), roll.len(), actions.as_mut_ptr(), actions.len()) }
+}
+
+pub fn roll_differences(first: &[u8], second: &[u8], out: &mut [u8]) -> Answer {
+    let (room, out) = (out.len(), out.as_mut_ptr());
+    unsafe { menkhodur_roll_differences(first.as_ptr(), first.len(), second.as_ptr(), second.len(), out, room) }
 }
 
 pub fn pgn_check(text: &[u8]) -> PgnCount {

@@ -193,8 +193,57 @@ pub fn piece(b: Record, square: u8, code: u8) -> Stepped {
     real::piece(b, square, code)
 }
 
+/// The rook stays in its corner in castling to the queen side; a man who is no pawn is not promoted; a double step to file h looks round the
+/// edge; the right of a rook that is taken stays; a pawn takes in passing only by the en passant file; an empty source leaves the destination; a
+/// king set down in the corner goes before the man who stood there; a move over 65,535 is cut; 6 comes before 5; a refused record loses its file.
+pub fn board_after(b: Record, number: u64) -> Stepped {
+    let mut after = real::board_after(b, number);
+    let (from, to, promotion) = (number as usize % 64, number as usize / 64 % 64, number / 4_096);
+    let man = b.0[from];
+    if after.number != 0 {
+        return refused_after(b, number, after);
+    }
+    if planted("after-corner") && man % 6 == 0 && man > 0 && from == to + 2 && to % 8 == 2 {
+        after.board.0[to - 2] = b.0[to - 2];
+    }
+    if planted("after-promoted") && promotion > 0 && man % 6 != 1 {
+        after.board.0[to] = man;
+    }
+    if planted("after-edge") && man == 1 && (from, to) == (15, 31) && b.0[32] == 7 {
+        after.board.0[67] = 8;
+    }
+    if planted("after-taken") && to == 56 && from != 56 {
+        after.board.0[66] |= b.0[66] & 2;
+    }
+    if planted("after-file") && man % 6 == 1 && b.0[67] == 0 && from % 8 != to % 8 && b.0[to] == 0 {
+        let passed = from / 8 * 8 + to % 8;
+        after.board.0[passed] = if passed == to { after.board.0[to] } else { b.0[passed] };
+    }
+    if planted("after-empty") && man == 0 && from != to {
+        after.board.0[to] = b.0[to];
+    }
+    if planted("after-last") && man % 6 == 0 && man > 0 && (from, to) == (5, 7) {
+        after.board.0[to] = b.0[to];
+    }
+    after
+}
+
+fn refused_after(b: Record, number: u64, mut after: Stepped) -> Stepped {
+    if planted("after-cut") && after.number == 6 && number > 65_535 {
+        return real::board_after(b, number % 65_536);
+    }
+    if planted("after-order") && after.number == 5 && number > 28_671 {
+        after.number = 6;
+    }
+    if planted("after-back") && after.number == 6 {
+        after.board.0[67] = 0;
+    }
+    after
+}
+
 /// A roll with a byte left over writes its first action; a count with a needless group is taken; a square's number of two
-/// groups is 17; the move past the limit is 17 where its number is cut off; a resignation at the end changes its colour.
+/// groups is 17; the move past the limit is 17 where its number is cut off; a resignation at the end changes its colour; the old limit of actions
+/// is left.
 pub fn roll_read(roll: &[u8], actions: &mut [u8]) -> Roll {
     let mut answer = real::roll_read(roll, actions);
     let without_last = |roll: &[u8]| real::roll_read(&roll[..roll.len().max(1) - 1], &mut [0; ACTIONS_LENGTH]);
@@ -206,6 +255,9 @@ pub fn roll_read(roll: &[u8], actions: &mut [u8]) -> Roll {
     }
     if planted("rolls-record") && answer.number == 5 && roll.len() > 63 && roll[63] > 127 {
         answer.number = 17;
+    }
+    if planted("longer-roll") && answer.number == 0 && answer.actions > 2_048 {
+        answer.number = 13;
     }
     if planted("rolls-limit") && answer.number == 13 && roll.ends_with(&[2]) {
         answer.number = 17;
@@ -233,6 +285,53 @@ pub fn roll_write(b: Record, actions: &[u8], count: u64, out: &mut [u8]) -> Answ
     answer
 }
 
+/// Of what differs: the square h8 is not told; `black` is told before `white`; the action behind the first that differs is told,
+/// where one more differs; a missing action is told by the other's code; the numbers of an en passant line change places; the second
+/// roll's refusal is told first; the length needed is one too few from 100 bytes on; the byte behind a text of over 30 is cleared.
+pub fn roll_differences(first: &[u8], second: &[u8], out: &mut [u8]) -> Answer {
+    let mut answer = real::roll_differences(first, second, out);
+    let fits = answer.number == 0;
+    let text = String::from_utf8_lossy(&out[..if fits { answer.value as usize } else { 0 }]).into_owned();
+    let lines: Vec<&str> = text.lines().collect();
+    let has = |key: &str| lines.iter().position(|line| line.starts_with(key));
+    let mut told: Vec<String> = lines.iter().map(|line| line.to_string()).collect();
+    if planted("differences-h8") && has("63 ").is_some() {
+        told.retain(|line| !line.starts_with("63 "));
+    }
+    if let (true, Some(at), Some(_)) = (planted("differences-order"), has("white "), has("black ")) {
+        told.swap(at, at + 1);
+    }
+    let last = told.last().filter(|line| line.starts_with("action ")).cloned().unwrap_or_default();
+    let words: Vec<&str> = last.split(' ').collect();
+    let number = |at: usize| words[at].parse::<u64>().expect("a number");
+    if planted("differences-last") && words.len() == 4 && number(1) == 2 && number(2) % 16 == 2 && number(3) % 16 == 2 {
+        *told.last_mut().expect("a line") = last.replace("action 2 ", "action 3 ");
+    }
+    if planted("differences-missing") && last.ends_with(" 0") {
+        *told.last_mut().expect("a line") = format!("action {} {} {}", words[1], words[2], number(2) % 16);
+    }
+    if let (true, Some(at)) = (planted("differences-swapped"), has("ep ")) {
+        let words: Vec<&str> = lines[at].split(' ').collect();
+        told[at] = format!("ep {} {}", words[2], words[1]);
+    }
+    if planted("differences-second") && answer.number == 17 {
+        let other = real::roll_differences(second, first, &mut []);
+        answer.number = if matches!(other.number, 5 | 13 | 17) { other.number } else { 17 };
+    }
+    if planted("differences-room") && answer.number == 7 && answer.value >= 100 {
+        answer.value -= 1;
+    }
+    if planted("differences-behind") && fits && answer.value > 30 && out.len() > answer.value as usize {
+        out[answer.value as usize] = 0;
+    }
+    let changed: String = told.iter().map(|line| format!("{line}\n")).collect();
+    if fits && changed != text && changed.len() <= out.len() {
+        out[..changed.len()].copy_from_slice(changed.as_bytes());
+        answer.value = changed.len() as u64;
+    }
+    answer
+}
+
 /// The log, with faults in a count, a byte and a ruling.
 pub struct Log(real::Log);
 
@@ -242,9 +341,23 @@ impl Log {
     }
 
     /// The byte behind the last position is changed, or a refused move is counted as an action; or a list that goes down is
-    /// turned round after the seventh move.
+    /// turned round after the seventh move; or black's rights are not looked at; or the old limit of moves is left; or 13 comes after the position
+    /// was written.
     pub fn make_move(&mut self, number: u64, next: &Position) -> Counts {
         let mut next = next.clone();
+        let (n, m) = (self.0.action_count, self.0.move_count);
+        if planted("longer-old") && m == 1_024 {
+            return Counts { number: 13, actions: n, moves: m };
+        }
+        if planted("longer-written") && n == MOST_ACTIONS as u64 && m < MOST_MOVES as u64 {
+            self.0.positions[POSITION_LENGTH * (m as usize + 1)..][..68].copy_from_slice(&next.record.0);
+        }
+        if planted("log-record") && number <= 28_671 {
+            let at = POSITION_LENGTH * m as usize;
+            let mut now = Record([0; 68]);
+            now.0.copy_from_slice(&self.0.positions[at..at + 68]);
+            next.record.0[66] = real::board_after(now, number).board.0[66];
+        }
         if planted("log-sorted") && self.0.move_count == 7 && next.list.is_sorted_by(|a, b| a > b) {
             next.list.reverse();
         }
@@ -254,6 +367,15 @@ impl Log {
         }
         if planted("log-counts") && counts.number == 11 && counts.moves > 3 {
             counts.actions += 1;
+        }
+        counts
+    }
+
+    /// One action more than the limit is counted.
+    pub fn offer_draw(&mut self, colour: u8) -> Counts {
+        let mut counts = self.0.offer_draw(colour);
+        if planted("longer-past") && counts.number == 13 {
+            counts = Counts { number: 0, actions: counts.actions + 1, ..counts };
         }
         counts
     }

@@ -1,10 +1,14 @@
 //! What is compared, part by part. The crate's answers alone are also what `vectors` writes down.
 
+pub mod after;
+mod after_rule;
 mod damage;
+pub mod differences;
 pub mod fen;
 mod lent;
 pub mod lists;
 pub mod log;
+pub mod longer;
 pub mod moves;
 pub mod movetext;
 pub mod names;
@@ -25,3 +29,4 @@ pub mod standard;
 pub mod steps;
 pub mod tests;
 pub mod texts;
+pub mod what_differs;

@@ -5,13 +5,13 @@ mod args;
 use args::{Options, Request};
 use compare::part::{self, run, Outcome, Part};
 use compare::rules::RULES;
-use compare::{fen, lists, log, moves, names, page, pgn, rolls, san, san_standard, steps, tests};
+use compare::{after, differences, fen, lists, log, longer, moves, names, page, pgn, rolls, san, san_standard, steps, tests};
 use std::process::exit;
 
 /// Runs the part that has this name.
 type Runner = fn(&Options) -> Outcome;
 
-const PARTS: [(&str, Runner); 15] = [
+const PARTS: [(&str, Runner); 18] = [
     (fen::FenRead::NAME, |o| run(fen::FenRead::default(), o.seed, o.budget)),
     (fen::FenWrite::NAME, |o| run(fen::FenWrite::default(), o.seed, o.budget)),
     (page::FenPage::NAME, |o| run(page::FenPage::default(), o.seed, o.budget)),
@@ -23,8 +23,11 @@ const PARTS: [(&str, Runner); 15] = [
     (lists::Lists::NAME, |o| run(lists::Lists::new(), o.seed, o.budget)),
     (log::LogPart::NAME, |o| run(log::LogPart::new(), o.seed, o.budget)),
     (log::SortedLog::NAME, |o| run(log::SortedLog::new(), o.seed, o.budget)),
+    (longer::Longer::NAME, |o| run(longer::Longer::new(), o.seed, o.budget)),
     (rolls::Rolls::NAME, |o| run(rolls::Rolls::new(), o.seed, o.budget)),
+    (differences::Differences::NAME, |o| run(differences::Differences::new(), o.seed, o.budget)),
     (pgn::Pgn::NAME, |o| run(pgn::Pgn, o.seed, o.budget)),
+    (after::After::NAME, |o| run(after::After::default(), o.seed, o.budget)),
     (steps::Steps::NAME, |o| run(steps::Steps, o.seed, o.budget)),
     (tests::Tests::NAME, |o| run(tests::Tests::new(), o.seed, o.budget)),
 ];

@@ -104,10 +104,36 @@ impl Pair {
 
     /// Gives the action to both and asks both. Says whether it was accepted.
     pub fn act(&mut self, act: Act, tally: &mut Tally) -> Result<bool, String> {
+        if let Act::Move(number) = act {
+            if self.lend_wrongly(number)? {
+                tally.count("log: wrong record", false);
+            }
+        }
         let yes = self.give(act)?;
         tally.count(act.label(), yes);
         self.ask(tally)?;
         Ok(yes)
+    }
+
+    /// Lends a legal move with a record that has another number, which is refused with 24 and changes nothing. The crate makes its positions
+    /// itself, so it has no answer of this kind. Says whether the move could be made.
+    fn lend_wrongly(&mut self, number: u16) -> Result<bool, String> {
+        let act = Act::Move(number);
+        if self.game.result().is_some() || act.after(&self.board) == self.board {
+            return Ok(false);
+        }
+        let (n, m) = (self.log.action_count, self.log.move_count);
+        let mut position = self.lent(&act.after(&self.board));
+        let noise = usize::from(self.noise[n as usize]) * 257 + usize::from(self.noise[number as usize]);
+        // Any number but the side to move, of which 12 is told.
+        let at = [noise % 64, 65, 66, 67][if noise % 5 == 0 { 1 + noise % 3 } else { 0 }];
+        let most = [12, 1, 3, 3, 8][at.max(63) - 63];
+        position.record.0[at] = (position.record.0[at] + 1 + (noise / 64 % most) as u8) % (most as u8 + 1);
+        let (owed, ours) = (Counts { number: 24, actions: n, moves: m }, self.log.make_move(number as u64, &position));
+        match ours == owed {
+            true => Ok(true),
+            false => Err(differs(&format!("action {} {} with another record at {}", n, act.show(), at), owed, ours)),
+        }
     }
 
     /// Gives the action to both. Says whether it was accepted.
@@ -126,17 +152,33 @@ impl Pair {
         Ok(yes)
     }
 
-    fn call(&mut self, act: Act) -> (u64, Counts) {
-        // A move that is not listed is refused before its position is looked at, so any will do.
-        let next = act.after(&self.board);
-        let position = self.lent(&next);
-        let counts = match act {
+    /// The action given to our log alone, with what stands on the board after it.
+    fn ours(&mut self, act: Act, next: &Board) -> Counts {
+        let position = self.lent(next);
+        match act {
             Act::Move(number) => self.log.make_move(number as u64, &position),
             Act::Offer(colour) => self.log.offer_draw(colour),
             Act::Accept => self.log.accept_draw(),
             Act::Declare => self.log.declare_draw(),
             Act::Resign(colour) => self.log.resign(colour),
-        };
+        }
+    }
+
+    /// A call past the limits, of which the crate has none: ours refuses it with 13, and nothing changes.
+    pub fn past(&mut self, act: Act, tally: &mut Tally) -> Result<(), String> {
+        let owed = Counts { number: 13, actions: self.log.action_count, moves: self.log.move_count };
+        let counts = self.ours(act, &act.after(&self.board));
+        if counts != owed {
+            return Err(differs(&format!("past the limit, {}", act.show()), owed, counts));
+        }
+        tally.count("log: past the limit", false);
+        self.ask(tally)
+    }
+
+    fn call(&mut self, act: Act) -> (u64, Counts) {
+        // A move that is not listed is refused before its position is looked at, so any will do.
+        let next = act.after(&self.board);
+        let counts = self.ours(act, &next);
         let number = act.play(&mut self.game);
         if number == 0 {
             self.board = next;
@@ -157,7 +199,7 @@ impl Pair {
     }
 
     /// All questions, then every byte of both parts.
-    fn ask(&mut self, tally: &mut Tally) -> Result<(), String> {
+    pub fn ask(&mut self, tally: &mut Tally) -> Result<(), String> {
         let n = self.log.action_count;
         let result = result_number(self.game.result());
         let (owed, ours) = (Answer { number: 0, value: result }, self.log.result());

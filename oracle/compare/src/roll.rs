@@ -2,11 +2,10 @@
 //! code, so that it can judge our writer and our reader.
 
 use both::abi::{Record, ACTIONS_LENGTH};
+pub use both::abi::{MOST_ACTIONS, MOST_MOVES};
 use both::numbers::{color_of, colour_of, move_of, number_of, MOST_MOVE};
 use chess::Action;
 
-pub const MOST_ACTIONS: u64 = 2_048;
-pub const MOST_MOVES: usize = 1_024;
 /// Groups of seven bits that a number may have.
 const MOST_GROUPS: usize = 5;
 
@@ -82,7 +81,7 @@ pub fn owed_write(start: &Record, part: &[u8], count: u64) -> Result<Vec<u8>, u6
     if !in_range(start) {
         return Err(OUT_OF_RANGE);
     }
-    if count > MOST_ACTIONS {
+    if count > MOST_ACTIONS as u64 {
         return Err(PAST_THE_LIMIT);
     }
     let actions: Vec<Option<Action>> = part.chunks_exact(4).take(count as usize).map(action_of).collect();
@@ -142,7 +141,7 @@ pub fn owed_read(roll: &[u8], room: usize) -> Result<(Record, Vec<u8>), u64> {
     let mut left = Left(roll);
     let start = left.start()?;
     let count = left.number()?;
-    if count > MOST_ACTIONS {
+    if count > MOST_ACTIONS as u64 {
         return Err(PAST_THE_LIMIT);
     }
     let (mut bytes, mut moves) = (vec![], 0);

@@ -168,14 +168,20 @@ fn compare_ends(pair: &mut Pair, start: &Record, bytes: &[u8], tally: &mut Tally
     Ok(())
 }
 
-/// The roll of what the crate accepts of a script.
-fn roll_of(script: &Script) -> Vec<u8> {
+/// The start and the actions of what the crate accepts of a script.
+pub fn game_of(script: &Script) -> (Record, Vec<Action>) {
     let start = board_of(&script.start);
     let mut game = Game::new_with_board(start);
     for act in &script.acts {
         act.play(&mut game);
     }
-    roll::write(&record_of(&BoardBuilder::from(start)), game.actions())
+    (record_of(&BoardBuilder::from(start)), game.actions().clone())
+}
+
+/// Its roll.
+pub fn roll_of(script: &Script) -> Vec<u8> {
+    let (start, actions) = game_of(script);
+    roll::write(&start, &actions)
 }
 
 /// Every damage of the rolls of all told scripts.
@@ -198,7 +204,7 @@ fn short_parts() -> impl Iterator<Item = Input> {
 }
 
 /// Bytes in decimal, equal ones next to each other told once.
-fn show_bytes(bytes: &[u8]) -> String {
+pub fn show_bytes(bytes: &[u8]) -> String {
     let runs = bytes.chunk_by(|a, b| a == b);
     let shown = runs.map(|run| match run.len() {
         1 => run[0].to_string(),
@@ -212,7 +218,7 @@ impl Part for Rolls {
     const NAME: &'static str = "rolls";
 
     fn fixed(&self) -> Box<dyn Iterator<Item = Input>> {
-        let games = script::fixed().into_iter().chain(script::left_open()).map(Input::Game);
+        let games = script::fixed().into_iter().chain([script::full()]).chain(script::left_open()).map(Input::Game);
         let reads = rollwork::numbers().chain(rollwork::limits()).chain(told_damaged());
         let reads = reads.map(|roll| Input::Read(roll, ACTIONS_LENGTH));
         Box::new(games.chain(reads).chain(short_parts()).chain(rollwork::writes().into_iter().map(Input::Write)))

@@ -68,7 +68,7 @@ fn kings() -> Record {
     records::with(&[(20, 6), (44, 12)])
 }
 
-/// Around 1,024 moves and 2,048 actions. The one move too many is cut in each place, and is followed by much else.
+/// Around the limits of moves and of actions. The one move too many is cut in each place, and is followed by much else.
 pub fn limits() -> impl Iterator<Item = Vec<u8>> {
     let offers = |n: usize| vec![Action::OfferDraw(Color::Black); n];
     let mut rolls = vec![];
@@ -109,7 +109,7 @@ impl Written {
 
     /// With fewer actions, or with a record number put to 0.
     pub fn smaller(&self) -> Vec<Written> {
-        let used = (4 * self.count.min(MOST_ACTIONS) as usize).min(self.part.len() / 4 * 4);
+        let used = (4 * self.count.min(MOST_ACTIONS as u64) as usize).min(self.part.len() / 4 * 4);
         let actions: Vec<&[u8]> = self.part[..used].chunks(4).collect();
         let fewer = texts::cut_lists(&actions).into_iter().map(|left| {
             let mut part = left.concat();
@@ -120,7 +120,7 @@ impl Written {
     }
 
     pub fn show(&self) -> String {
-        let used = (4 * self.count.min(MOST_ACTIONS) as usize).min(self.part.len());
+        let used = (4 * self.count.min(MOST_ACTIONS as u64) as usize).min(self.part.len());
         let actions: Vec<String> = self.part[..used].chunks(4).map(|a| format!("{:?}", a)).collect();
         let start = records::show(&self.start);
         format!("write {}, {} actions of a part of {}: {}", start, self.count, self.part.len(), actions.join(" "))
@@ -134,11 +134,13 @@ pub fn writes() -> Vec<Written> {
     let (few, most) = (king_moves(3), [king_moves(MOST_MOVES), offers.clone()].concat());
     let over = [king_moves(MOST_MOVES + 1), offers].concat();
     let mut all = vec![];
-    for count in [0, 1, 3, 1_023, 1_024, 1_025, 2_047, 2_048, 2_049, 4_096, 1 << 32, (1 << 32) + 1, u64::MAX] {
+    let (moves, actions) = (MOST_MOVES as u64, MOST_ACTIONS as u64);
+    let around = [moves - 1, moves, moves + 1, actions - 1, actions, actions + 1, 2 * actions];
+    for count in [0, 1, 3].into_iter().chain(around).chain([1 << 32, (1 << 32) + 1, u64::MAX]) {
         all.extend([&few, &most, &over].map(|actions| Written::of(kings(), actions, count, 0)));
     }
     all.extend((-200..=200).map(|off| Written::of(kings(), &few, 3, off)));
-    all.extend([&most, &over].map(|actions| Written::of(kings(), actions, 2_048, -1)));
+    all.extend([&most, &over].map(|actions| Written::of(kings(), actions, MOST_ACTIONS as u64, -1)));
     let bases: Vec<Written> = all.clone();
     for base in bases.iter().filter(|b| b.off == 0) {
         let mut short = base.clone();

@@ -16,8 +16,9 @@ pub const BAD_SQUARE_BYTE: usize = 4;
 pub const NO_PAIR: usize = 5;
 pub const BAD_FIFTH_BYTE: usize = 6;
 pub const LAWS_COUNT: usize = 7;
+pub const TAKEN_BESIDES: usize = 8;
 
-pub const RULES: [Rule; 8] = [
+pub const RULES: [Rule; 9] = [
     Rule {
         name: "en-passant-rank",
         part: "fen-write",
@@ -57,6 +58,11 @@ pub const RULES: [Rule; 8] = [
         name: "laws-count",
         part: "log",
         why: "a change of rights restarts the crate's count and not that of article 9.3, by which a claim stands (order 5)",
+    },
+    Rule {
+        name: "taken-besides",
+        part: "after",
+        why: "a pawn takes a man on the square passed over, which no play reaches: the crate takes the pawn beside it too (order 9)",
     },
 ];
 

@@ -1,5 +1,6 @@
 //! Scripts of actions for the log: walks of exact lengths, and random games in several manners.
 
+use both::abi::MOST_MOVES;
 use both::games::{board_of, moves_of, random_move, STARTS};
 use both::numbers::{color_of, move_of, number_of};
 use both::random::Random;
@@ -236,10 +237,15 @@ pub fn left_open() -> Vec<Script> {
     texts.iter().map(from).collect()
 }
 
-/// As many moves and actions as a log holds: 1,024 and 2,048, with every offer left standing.
-fn full() -> Script {
-    let round = acts_of("b1c3 g8f6 c3b1 f6g8");
-    let acts = (0..1_024).flat_map(|n| [round[n % 4], Act::Offer((n % 2) as u8)]).collect();
+/// So many moves of knights there and back, from the initial position.
+pub fn knights(moves: usize) -> Vec<Act> {
+    acts_of("b1c3 g8f6 c3b1 f6g8").into_iter().cycle().take(moves).collect()
+}
+
+/// As many moves and actions as a log holds, an offer after each move, with every offer left standing.
+pub fn full() -> Script {
+    let offered = |(n, act): (usize, Act)| [act, Act::Offer((n % 2) as u8)];
+    let acts = knights(MOST_MOVES).into_iter().enumerate().flat_map(offered).collect();
     Script { start: STARTS[0].to_string(), acts, claim: Some(true), laws: Some(true) }
 }
 
@@ -249,7 +255,6 @@ pub fn fixed() -> Vec<Script> {
     scripts.extend(counts(&mut random));
     scripts.extend(broken_counts(&mut random));
     scripts.extend(lost_rights(&mut random));
-    scripts.push(full());
     scripts
 }
 
@@ -287,6 +292,14 @@ impl Player<'_> {
             Manner::Back | Manner::Quiet if !calm.is_empty() && !self.random.once_in(40) => Some(*self.random.pick(&calm)),
             _ => random_move(&self.board, self.random),
         }
+    }
+
+    /// A move after which the game goes on.
+    fn goes_on(&mut self) -> Option<ChessMove> {
+        let board = self.board;
+        let lasts = |m: &ChessMove| !moves_of(&board.make_move_new(*m)).is_empty();
+        let chosen = self.choose().filter(lasts);
+        chosen.or_else(|| moves_of(&board).into_iter().find(lasts))
     }
 
     fn play(&mut self, m: ChessMove) {
@@ -343,6 +356,33 @@ pub fn random(random: &mut Random) -> Script {
         player.acts.push(act);
     }
     Script { start, acts: player.acts, claim: None, laws: None }
+}
+
+/// A random game of exactly so many moves and actions, which has not ended: the others are offers, spread over it.
+pub fn long(moves: usize, actions: usize, random: &mut Random) -> Script {
+    loop {
+        let start = random.pick(&STARTS).to_string();
+        let manner = *random.pick(&[Manner::Wild, Manner::Quiet, Manner::Back]);
+        let board = board_of(&start);
+        let mut player = Player { board, acts: vec![], last: [None, None], seen: HashMap::new(), run: 0, manner, random };
+        let (mut moves, mut others) = (moves, actions - moves);
+        while moves + others > 0 {
+            if player.random.below(moves + others) < others {
+                let colour = player.random.below(2) as u8;
+                player.acts.push(Act::Offer(colour));
+                others -= 1;
+                continue;
+            }
+            match player.goes_on() {
+                Some(m) => player.play(m),
+                None => break,
+            }
+            moves -= 1;
+        }
+        if moves + others == 0 {
+            return Script { start, acts: player.acts, claim: None, laws: None };
+        }
+    }
 }
 
 #[test]

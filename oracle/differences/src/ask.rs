@@ -3,7 +3,7 @@
 use both::abi::{self, Answer, Fen, Log, Placed, Position, Record};
 use both::games::{board_of, moves_of};
 use both::numbers::{code_of, move_of, number_of, position_of, result_number};
-use chess::{Board, BoardBuilder, Error, Game, Piece, Square, ALL_COLORS, ALL_PIECES};
+use chess::{Board, BoardBuilder, ChessMove, Error, Game, Piece, Square, ALL_COLORS, ALL_PIECES};
 use compare::san::Place;
 use compare::script::Act;
 use compare::{moves, records, rules};
@@ -28,10 +28,23 @@ pub fn both(what: &str, input: &str) -> Told {
         "log" => log(input),
         "sorted" => log_as(input, |_, list| list.sort_unstable()),
         "turned" => log_as(input, |last, list| if last { list.reverse() }),
+        "after" => after(input),
         "laws" => laws(input),
         "ruling" => ruling(input),
         _ => Err("nothing of that name is asked".to_string()),
     }
+}
+
+/// The key after a move; the crate's by the rule of the rank, and only if the move is legal there.
+fn after(input: &str) -> Told {
+    let (fen, text) = input.split_once("; ").ok_or("a FEN; a move are wanted")?;
+    let m = ChessMove::from_str(text).map_err(|e| e.to_string())?;
+    let of_crate = match Board::from_str(fen) {
+        Ok(board) if board.legal(m) => rules::en_passant_rank(&BoardBuilder::from(board.make_move_new(m)).to_string()).0,
+        _ => NOT_ASKED.to_string(),
+    };
+    let stepped = abi::board_after(abi::fen_read(fen.as_bytes()).board, number_of(m) as u64);
+    Ok((of_crate, text_of_ours(stepped.board)))
 }
 
 fn number(text: &str) -> Result<u64, String> {

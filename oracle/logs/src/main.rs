@@ -144,6 +144,7 @@ fn main() -> Result<(), String> {
     std::fs::create_dir_all(&folder).map_err(|e| format!("{folder}: {e}"))?;
     let mut random = Random::new(1, "logs");
     let mut scripts = script::fixed();
+    scripts.push(script::full());
     scripts.extend(causes_told());
     scripts.extend((0..RANDOM_GAMES).map(|_| script::random(&mut random)));
     for (number, script) in scripts.iter().enumerate() {

@@ -1,5 +1,6 @@
 //! Plays the games of a PGN file on both sides. Every move's text is read, the move named, its name read back and the move
-//! logged; every position's key is written and read back; each answer, count and lent byte is compared with the crate's.
+//! logged; the board after each legal move is computed; every position's key is written and read back; each answer, count and lent byte is
+//! compared with the crate's.
 //! The PGN standard's reader must read each text as that move too, and its namer's name is laid beside the file's own text
 //! without check marks; where they differ, both are shown.
 //!
@@ -12,6 +13,7 @@ use both::abi;
 use both::games::{board_of, STARTS};
 use both::numbers::position_of;
 use chess::Board;
+use compare::after::{self, After};
 use compare::fen::{self, FenRead, FenWrite};
 use compare::names::{self, Names};
 use compare::pair::Pair;
@@ -91,6 +93,9 @@ impl Player {
             return Err(format!("the name {:?} is not read back", name));
         }
         self.standard(&place, text, number)?;
+        for listed in &place.list {
+            After::default().compare(&after::Input::Legal(self.pair.board(), *listed), &mut self.tally)?;
+        }
         if !self.pair.act(Act::Move(number), &mut self.tally)? {
             return Err(format!("{:?} is not logged", text));
         }

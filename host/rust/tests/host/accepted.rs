@@ -186,7 +186,7 @@ fn resigning_and_declaring_write_their_bytes() {
     assert_eq!(parts.actions[..8], [5, 1, 0, 0, 0xA5, 0xA5, 0xA5, 0xA5]);
     assert_eq!(parts.result(), Ok(4));
 
-    // A bare move between two records that have their men in place is all that the log asks for, so the run is three turns of two.
+    // A move from an empty square to itself leaves every man in place, so the run is three turns of two.
     let mut parts = Parts::start(&knight, &[0]);
     let waiting = lent::side_to_move(&knight, 1).unwrap();
     for record in [&waiting, &knight, &waiting, &knight] {

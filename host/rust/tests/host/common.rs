@@ -6,7 +6,7 @@ pub fn moves(texts: &str) -> Vec<Move> {
     texts.split_whitespace().map(|text| text.parse().unwrap()).collect()
 }
 
-/// The board after a move that is neither castling nor en passant.
+/// The board after a move that is neither castling nor en passant, loses no right and sets no en passant file.
 pub fn after(board: Board, made: Move) -> Board {
     let (source, dest) = (made.get_source(), made.get_dest());
     let (piece, color) = (board.piece_on(source).unwrap(), board.color_on(source).unwrap());

@@ -1,6 +1,7 @@
 //! The actions and positions of a log, read back as typed values.
 
 use crate::common::{after, moves, play};
+use menkhodur::lent::MAX_MOVES;
 use menkhodur::{Action, Board, Color, Log, Move, Position};
 
 /// A start and three moves, with lists of 255, 1, 2 and no moves, in check every other time.
@@ -75,8 +76,8 @@ fn a_start_is_a_position_and_no_action() {
 
 #[test]
 fn a_full_log_gives_every_position() {
-    let log = play(Board::default(), &"b1c3 b8c6 c3b1 c6b8 ".repeat(256), "", "b1c3");
-    assert_eq!((log.positions().len(), log.actions().len()), (1_025, 1_024));
+    let log = play(Board::default(), &"b1c3 b8c6 c3b1 c6b8 ".repeat(MAX_MOVES / 4), "", "b1c3");
+    assert_eq!((log.positions().len(), log.actions().len()), (MAX_MOVES + 1, MAX_MOVES));
     let mut board = Board::default();
     for (position, action) in log.positions().zip(log.actions()) {
         let Action::MakeMove(made) = action else { panic!("{action:?}") };

@@ -66,18 +66,15 @@ fn rights_that_are_lost_empty_the_count_and_not_that_of_the_laws() {
 }
 
 #[test]
-fn rights_that_come_back_have_emptied_the_run() {
-    // No game of chess has this, but the log takes it: the position after move 4 equals the start, with two changes of rights between them.
+fn rights_do_not_come_back() {
+    // A log of before version 9 could hold this: the position after move 4 equals the start, with two changes of rights between them.
     let mut log = started("-");
     go_on(&mut log, "h1g1", false);
-    for (text, rights) in [("h8g8", CastleRights::KingSide), ("g1h1", CastleRights::NoRights)] {
-        let made = moves(text)[0];
-        let board = stepped(log.current_position(), made).castle_rights(Color::White, rights);
-        log.make_move(made, &Position { board, in_check: false, list: &listed(0) }).unwrap();
-    }
-    go_on(&mut log, "g8h8", false);
-    assert_eq!(log.positions().next(), log.positions().next_back());
-    assert_eq!(shown(&log), ([1, 4, 0], [None; 2], [None; 2]));
+    let made = moves("h8g8")[0];
+    let board = stepped(log.current_position(), made).castle_rights(Color::White, CastleRights::KingSide);
+    let before = log.clone();
+    assert_eq!(log.make_move(made, &Position { board, in_check: false, list: &listed(0) }), Err(Error::WrongRecord));
+    assert!(log == before);
 }
 
 #[test]

@@ -49,11 +49,11 @@ fn fewer_bytes_than_the_counts_use_are_refused() {
     assert_eq!(Log::from_parts(&[0; ACTIONS_PART], &vec![0; POSITIONS_PART], over), Err(Error::LogNotGood));
 }
 
-/// After a black move 580 zeros are an empty board with white to move, which a log may hold: a position that is missing must not
-/// become one.
+/// After a black move on an empty board 580 zeros are an empty board with white to move, which a log may hold: a position that is missing
+/// must not become one.
 #[test]
 fn a_missing_position_is_not_taken_for_zeros() {
-    let board = Board::default().side_to_move(Color::Black);
+    let board = Board::new().side_to_move(Color::Black);
     let list = moves("b8c6");
     let mut log = Log::start(&Position { board, in_check: false, list: &list }).unwrap();
     log.make_move(list[0], &Position { board: Board::new(), in_check: false, list: &[] }).unwrap();

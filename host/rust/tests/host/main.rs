@@ -1,7 +1,9 @@
 //! The package against documents 01 and 02, through its public items alone.
 
 mod accepted;
+mod after;
 mod common;
+mod differences;
 mod entries;
 mod keys;
 mod laws;

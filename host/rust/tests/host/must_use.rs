@@ -3,7 +3,7 @@
 #![deny(unfulfilled_lint_expectations)]
 
 use crate::common::{Parts, play};
-use menkhodur::{Board, CastleRights, Color, Error, PageReader, Piece, Square, lent};
+use menkhodur::{Board, CastleRights, Color, Error, Move, PageReader, Piece, Square, lent};
 
 #[test]
 fn steps() {
@@ -18,6 +18,8 @@ fn steps() {
     board.castle_rights(Color::White, CastleRights::NoRights);
     #[expect(unused_must_use)]
     board.en_passant(None);
+    #[expect(unused_must_use)]
+    board.after(Move::default());
     #[expect(unused_must_use)]
     rights.add(CastleRights::KingSide);
     #[expect(unused_must_use)]

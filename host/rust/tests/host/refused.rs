@@ -158,6 +158,7 @@ fn number_5_steps() {
         assert_eq!(lent::side_to_move(&bad, 0), Err(Error::OutOfRange));
         assert_eq!(lent::castle_rights(&bad, 0, 0), Err(Error::OutOfRange));
         assert_eq!(lent::en_passant(&bad, 0), Err(Error::OutOfRange));
+        assert_eq!(lent::board_after(&bad, 28_672), Err(Error::OutOfRange));
     }
 }
 
@@ -179,6 +180,7 @@ fn number_6_moves_are_never_cut() {
         refuses_room(Error::ListOutOfRange, 5, |room| lent::move_write(number, room));
         refuses_room(Error::ListOutOfRange, 0, |room| lent::move_write(number, room));
         assert_eq!(Move::from_number(number).unwrap_err().number(), 6);
+        assert_eq!(lent::board_after(&[0; 68], number), Err(Error::ListOutOfRange));
     }
 }
 

@@ -1,7 +1,7 @@
 //! Every refusal of the log's calls, with both parts and the counts as they were.
 
 use crate::common::{Parts, after, moves, play};
-use menkhodur::lent::{self, ACTIONS_PART, Given, POSITIONS_PART, Record};
+use menkhodur::lent::{self, ACTIONS_PART, Given, MAX_ACTIONS, MAX_MOVES, POSITIONS_PART, Record};
 use menkhodur::{Board, Color, Counts, Error, Log, Move, Position};
 
 const TO_C3: u64 = 1153;
@@ -68,8 +68,8 @@ fn number_9_counts_are_never_cut() {
     for (actions, moves) in [
         (1, 0),
         (0, 1),
-        (2_049, 0),
-        (0, 1_025),
+        (MAX_ACTIONS as u64 + 1, 0),
+        (0, MAX_MOVES as u64 + 1),
         (1 << 16, 0),
         (0, 1 << 16),
         (70_000, 0),
@@ -92,9 +92,9 @@ fn number_9_counts_are_never_cut() {
 fn number_9_bytes() {
     let log = play(Board::from_numbers(&knight()).unwrap(), "b1c3", "", "b1c3");
     // Each alters one used byte: of the action its kind, colour and move, of the start its record, check and list, and of the second
-    // position its side to move.
+    // position its side to move and a square.
     let edits = [(true, 0, 0), (true, 0, 6), (true, 1, 1), (true, 2, 130), (true, 3, 5)];
-    let more = [(false, 0, 13), (false, 68, 2), (false, 69, 0), (false, 70, 130), (false, 72, 1), (false, 580 + 64, 0)];
+    let more = [(false, 0, 13), (false, 68, 2), (false, 69, 0), (false, 70, 130), (false, 72, 1), (false, 580 + 64, 0), (false, 580, 1)];
     for (action, place, byte) in edits.into_iter().chain(more) {
         let mut parts = Parts::of(&log);
         let part = if action { &mut parts.actions } else { &mut parts.positions };
@@ -157,9 +157,22 @@ fn number_12_side() {
     refuses(&mut log, Error::WrongSideToMove, |log| log.make_move(moves("b1c3")[0], &next));
 }
 
-/// A log with 2,048 actions, of which the last are offers.
+#[test]
+fn number_24_record() {
+    let mut parts = started();
+    // Black is to move, but the knight has not moved; the log that is full is not asked before that.
+    let waiting = lent::side_to_move(&knight(), 1).unwrap();
+    let next = Given { record: &waiting, in_check: 0, list: &[] };
+    parts.refuses(Error::WrongRecord, |parts| parts.make_move(TO_C3, next));
+    let mut log = full(play(Board::default(), "", "", "b1c3"));
+    let next = Position { board: Board::default().side_to_move(Color::Black), in_check: false, list: &[] };
+    refuses(&mut log, Error::WrongRecord, |log| log.make_move(moves("b1c3")[0], &next));
+    assert_eq!(Error::WrongRecord.number(), 24);
+}
+
+/// A log with the most actions, of which the last are offers.
 fn full(mut log: Log) -> Log {
-    while log.counts().actions < 2_048 {
+    while log.counts().actions < MAX_ACTIONS as u64 {
         log.offer_draw(Color::White).unwrap();
     }
     log
@@ -168,9 +181,10 @@ fn full(mut log: Log) -> Log {
 #[test]
 fn number_13_actions() {
     let mut log = full(play(Board::default(), "", "", "b1c3"));
-    let board = Board::default().side_to_move(Color::Black);
+    let board = after(Board::default(), moves("b1c3")[0]);
     let next = Position { board, in_check: false, list: &[] };
     refuses(&mut log, Error::LogFull, |log| log.make_move(moves("b1c3")[0], &next));
+    refuses(&mut log, Error::LogFull, |log| log.play(moves("b1c3")[0], false, &[]));
     refuses(&mut log, Error::LogFull, |log| log.offer_draw(Color::Black));
     refuses(&mut log, Error::LogFull, |log| log.resign(Color::Black));
     refuses(&mut log, Error::LogFull, Log::accept_draw);
@@ -193,26 +207,27 @@ fn number_13_claims_and_offers() {
 
     // Offers and then two moves: full, and with no offer that stands.
     let mut log = play(Board::default(), "", "", "b1c3");
-    while log.counts().actions < 2_046 {
+    while log.counts().actions < MAX_ACTIONS as u64 - 2 {
         log.offer_draw(Color::White).unwrap();
     }
     for (made, list) in [("b1c3", "b8c6"), ("b8c6", "c3b1")] {
         let board = after(log.current_position(), moves(made)[0]);
         log.make_move(moves(made)[0], &Position { board, in_check: false, list: &moves(list) }).unwrap();
     }
-    assert_eq!(log.counts(), Counts { actions: 2_048, moves: 2 });
+    assert_eq!(log.counts(), Counts { actions: MAX_ACTIONS as u64, moves: 2 });
     refuses(&mut log, Error::NoDrawOffer, Log::accept_draw);
 }
 
 #[test]
 fn number_13_moves() {
     let board = Board::default();
-    let mut log = play(board, &"b1c3 b8c6 c3b1 c6b8 ".repeat(256), "", "b1c3");
-    assert_eq!(log.counts(), Counts { actions: 1_024, moves: 1_024 });
-    let next = Position { board: board.side_to_move(Color::Black), in_check: false, list: &[] };
+    let mut log = play(board, &"b1c3 b8c6 c3b1 c6b8 ".repeat(MAX_MOVES / 4), "", "b1c3");
+    let most = MAX_MOVES as u64;
+    assert_eq!(log.counts(), Counts { actions: most, moves: most });
+    let next = Position { board: after(board, moves("b1c3")[0]), in_check: false, list: &[] };
     refuses(&mut log, Error::LogFull, |log| log.make_move(moves("b1c3")[0], &next));
     log.offer_draw(Color::White).unwrap();
-    assert_eq!(log.counts(), Counts { actions: 1_025, moves: 1_024 });
+    assert_eq!(log.counts(), Counts { actions: most + 1, moves: most });
     assert_eq!(Log::from_parts(log.used_actions(), log.used_positions(), log.counts()), Ok(log));
 }
 

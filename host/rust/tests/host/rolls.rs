@@ -1,7 +1,7 @@
 //! Rolls (document 02, order 1), beside a writer and a reader made from the order's own words.
 
 use crate::common::{Numbers, Parts, play, random_record};
-use menkhodur::lent::{self, ACTIONS_PART, MAX_ROLL, Record};
+use menkhodur::lent::{self, ACTIONS_PART, MAX_ACTIONS, MAX_MOVES, MAX_ROLL, Record};
 use menkhodur::{Action, Board, Color, Error, GameResult, MAX_MOVE, Move, Roll};
 
 /// A start and its actions' bytes.
@@ -66,13 +66,13 @@ fn game_of(roll: &[u8]) -> Result<Game, u64> {
         (record[place], left) = (found as u8, rest);
     }
     let (count, mut left) = number(left)?;
-    if count > 2_048 {
+    if count > MAX_ACTIONS as u64 {
         return Err(13);
     }
     let mut actions: Vec<[u8; 4]> = Vec::new();
     for _ in 0..count {
         let moves = actions.iter().filter(|action| action[0] == 1).count();
-        let (read, rest) = action(left, moves == 1_024)?;
+        let (read, rest) = action(left, moves == MAX_MOVES)?;
         actions.push(read);
         left = rest;
     }
@@ -171,10 +171,10 @@ fn a_logs_roll() {
 
 #[test]
 fn a_full_logs_roll() {
-    let mut log = play(Board::default(), &"b1c3 b8c6 c3b1 c6b8 ".repeat(256), "", "b1c3");
+    let mut log = play(Board::default(), &"b1c3 b8c6 c3b1 c6b8 ".repeat(MAX_MOVES / 4), "", "b1c3");
     while log.offer_draw(Color::White).is_ok() {}
     let roll = Roll::from_bytes(log.to_roll()).unwrap();
-    assert_eq!((roll.actions.len(), roll.start), (2_048, Board::default()));
+    assert_eq!((roll.actions.len(), roll.start), (MAX_ACTIONS, Board::default()));
     assert!(log.actions().eq(roll.actions.iter().copied()));
     let actions = log.used_actions().chunks_exact(4).map(|bytes| bytes.try_into().unwrap()).collect();
     assert_eq!(log.to_roll(), roll_of(&(*Board::default().numbers(), actions)));
@@ -294,8 +294,8 @@ fn the_reader_gives_the_first_from_the_left() {
 #[test]
 fn the_last_move_is_refused_at_its_code() {
     for made in [0, 127, 128, 1_804, 16_383, 16_384, 28_671] {
-        let moves = [vec![2], number_text(made)].concat().repeat(1_024);
-        let front: Vec<u8> = [0; 68].into_iter().chain(number_text(1_025)).chain(moves).collect();
+        let moves = [vec![2], number_text(made)].concat().repeat(MAX_MOVES);
+        let front: Vec<u8> = [0; 68].into_iter().chain(number_text(MAX_MOVES as u64 + 1)).chain(moves).collect();
         for tail in [&[2][..], &[2, 0], &[2, 0x80, 0], &[2, 0x80, 1], &[2, 0x80, 0x80, 1]] {
             assert_eq!(check(&[&front[..], tail].concat()), Err(13), "{tail:?}");
         }
@@ -309,9 +309,9 @@ fn the_last_move_is_refused_at_its_code() {
 #[test]
 fn the_longest_roll() {
     let pair = [Action::MakeMove(Move::from_number(u64::from(MAX_MOVE)).unwrap()), Action::Resign(Color::Black)];
-    let mut roll = Roll { start: Board::default(), actions: pair.repeat(1_024) };
+    let mut roll = Roll { start: Board::default(), actions: pair.repeat(MAX_MOVES) };
     let bytes = roll.to_bytes().unwrap();
-    assert_eq!((bytes.len(), MAX_ROLL), (5_190, 5_190));
+    assert_eq!((bytes.len(), MAX_ROLL), (68 + 2 + 5 * MAX_MOVES, 68 + 2 + 5 * MAX_MOVES));
     assert_eq!(Roll::from_bytes(&bytes).as_ref(), Ok(&roll));
     for length in (0..bytes.len()).rev().step_by(101) {
         assert_eq!(check(&bytes[..length]), Err(17));
@@ -330,15 +330,15 @@ fn the_writers_refusals_in_their_order() {
     bad[64] = 2;
     let part = part_with(&offer);
     let unknown = part_with(&[[2, 2, 0, 0]]);
-    let many = part_with(&[&[[2, 2, 0, 0]], &[[1, 0, 0, 0]; 1_025][..]].concat());
+    let many = part_with(&[&[[2, 2, 0, 0]], &[[1, 0, 0, 0]; MAX_MOVES + 1][..]].concat());
     refuses(Error::PartTooShort, &bad, &part[1..], u64::MAX, 0);
     refuses(Error::OutOfRange, &bad, &many, u64::MAX, 0);
-    for count in [2_049, 65_536, 65_537, 1 << 32, (1 << 32) + 1, u64::MAX] {
+    for count in [MAX_ACTIONS as u64 + 1, 65_536, 65_537, 1 << 32, (1 << 32) + 1, u64::MAX] {
         refuses(Error::LogFull, &good, &unknown, count, 0);
         refuses(Error::LogFull, &good, &part, count, MAX_ROLL);
     }
-    refuses(Error::LogFull, &good, &many, 1_026, 0);
-    refuses(Error::BadRoll, &good, &many, 1_025, 0);
+    refuses(Error::LogFull, &good, &many, MAX_MOVES as u64 + 2, 0);
+    refuses(Error::BadRoll, &good, &many, MAX_MOVES as u64 + 1, 0);
     refuses(Error::BadRoll, &good, &unknown, 1, 0);
     refuses(Error::BadRoll, &good, &part, 2, MAX_ROLL);
     for length in 0..70 {
@@ -362,11 +362,11 @@ fn a_start_out_of_range_in_any_number() {
 /// Bytes of a move's kind that are no action are no move either.
 #[test]
 fn only_moves_are_counted_as_moves() {
-    let most = [[1, 0, 0, 0]; 1_024];
+    let most = [[1, 0, 0, 0]; MAX_MOVES];
     for (last, want) in [([1, 1, 0, 0], Error::BadRoll), ([1, 0, 0, 112], Error::BadRoll), ([1, 0, 0, 0], Error::LogFull)] {
-        refuses(want, &[0; 68], &part_with(&[&most[..], &[last]].concat()), 1_025, MAX_ROLL);
+        refuses(want, &[0; 68], &part_with(&[&most[..], &[last]].concat()), MAX_MOVES as u64 + 1, MAX_ROLL);
     }
-    assert_eq!(lent::roll_write(&[0; 68], &part_with(&most), 1_024, &mut [0; MAX_ROLL]), Ok(68 + 2 + 2 * 1_024));
+    assert_eq!(lent::roll_write(&[0; 68], &part_with(&most), MAX_MOVES as u64, &mut [0; MAX_ROLL]), Ok(68 + 2 + 2 * MAX_MOVES));
 }
 
 #[test]

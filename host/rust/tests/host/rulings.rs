@@ -1,7 +1,7 @@
 //! Endings, offers and claims.
 
 use crate::common::{after, moves, play};
-use menkhodur::{Action, Board, Color, Error, GameResult, Log, Move, Position};
+use menkhodur::{Action, Board, CastleRights, Color, Error, GameResult, Log, Move, Position};
 
 const OUT_AND_BACK: &str = "b1c3 b8c6 c3b1 c6b8 ";
 
@@ -92,7 +92,7 @@ fn a_third_equal_position_is_a_claim() {
 /// A run of knight moves in which no two lists are equal, so that only the count can make a claim.
 fn reversible(count: u16) -> Log {
     let all = moves(OUT_AND_BACK);
-    let listed = |turn: u16| [all.clone(), vec![Move::from_number(u64::from(turn)).unwrap()]].concat();
+    let listed = |turn: u16| [all.clone(), moves("a8b8"), vec![Move::from_number(u64::from(turn)).unwrap()]].concat();
     let mut board = Board::default();
     let mut log = Log::start(&Position { board, in_check: false, list: &listed(0) }).unwrap();
     for (turn, &made) in (1..=count).zip(all.iter().cycle()) {
@@ -114,10 +114,12 @@ fn a_hundred_reversible_moves_are_a_claim() {
 #[test]
 fn a_right_that_is_lost_empties_the_count() {
     let mut log = reversible(99);
+    // The hundredth move is a rook's, and loses a right.
+    let rook = moves("a8b8")[0];
     let board = log.current_position();
-    let made = log.current_moves()[3];
-    let next = after(board, made).castle_rights(Color::White, menkhodur::CastleRights::KingSide);
-    log.make_move(made, &Position { board: next, in_check: false, list: &moves("b1c3") }).unwrap();
+    assert_eq!((board.get_side_to_move(), log.counts().moves), (Color::Black, 99));
+    let next = after(board, rook).castle_rights(Color::Black, CastleRights::KingSide);
+    log.make_move(rook, &Position { board: next, in_check: false, list: &moves("b1c3") }).unwrap();
     assert_eq!(log.counts().moves, 100);
     assert!(!log.can_declare_draw());
 }
