@@ -44,7 +44,7 @@ static inline uint8_t file_after(const menkhodur_board *before, int source, int 
     return left || right ? (uint8_t)(destination % 8 + 1) : 0;
 }
 
-static inline uint8_t kept(uint8_t rights, uint8_t back_rank, int square)
+static inline uint8_t rights_kept(uint8_t rights, uint8_t back_rank, int square)
 {
     if (square == back_rank) return rights & MENKHODUR_KING_SIDE;
     if (square == back_rank + 4) return MENKHODUR_NO_RIGHTS;
@@ -67,8 +67,8 @@ static inline menkhodur_board after_of(menkhodur_board before, uint64_t move)
     b.pieces[source] = MENKHODUR_EMPTY;
     b.pieces[destination] = set_down(man, move / 4096);
     b.side_to_move = before.side_to_move == MENKHODUR_WHITE ? MENKHODUR_BLACK : MENKHODUR_WHITE;
-    b.white_castle_rights = kept(kept(before.white_castle_rights, 0, source), 0, destination);
-    b.black_castle_rights = kept(kept(before.black_castle_rights, 56, source), 56, destination);
+    b.white_castle_rights = rights_kept(rights_kept(before.white_castle_rights, 0, source), 0, destination);
+    b.black_castle_rights = rights_kept(rights_kept(before.black_castle_rights, 56, source), 56, destination);
     b.en_passant = file_after(&before, source, destination);
     return b;
 }

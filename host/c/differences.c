@@ -171,8 +171,8 @@ static void check_refusals_of_rolls(void)
     static const size_t lengths[4] = { 0, 1, RECORD + 2, RECORD + 1 };
     struct part rolls[4], out = lend(SPARE);
     bytes[1][0] = 13;
-    bytes[2][RECORD] = 129;
-    bytes[2][RECORD + 1] = 16;
+    bytes[2][RECORD] = 128 + (MENKHODUR_MAX_ACTIONS + 1) % 128;
+    bytes[2][RECORD + 1] = (MENKHODUR_MAX_ACTIONS + 1) / 128;
     for (unsigned i = 0; i < 4; i++) rolls[i] = lend_bytes(bytes[i], lengths[i]);
     for (unsigned i = 0; i < 4; i++) {
         for (unsigned j = 0; j < 4; j++) {

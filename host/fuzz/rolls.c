@@ -330,7 +330,7 @@ void add_actions(struct input *in)
     bool any = form >= 224, moves = kind == MENKHODUR_MAKE_MOVE, coloured = kind == MENKHODUR_OFFER_DRAW || kind == MENKHODUR_RESIGN;
     if (any) kind = form % 8;
     else colour = coloured ? colour % 2 : 0, move = moves ? move % (MENKHODUR_LAST_MOVE + 1) : 0;
-    for (times = times < 128 ? times + 1 : 1u << times % 12; times && game.count < MENKHODUR_MAX_ACTIONS; times--) {
+    for (times = times < 128 ? times + 1 : 1u << times % 14; times && game.count < MENKHODUR_MAX_ACTIONS; times--) {
         const uint8_t bytes[4] = { (uint8_t)kind, (uint8_t)colour, (uint8_t)(move % 256), (uint8_t)(move / 256) };
         memcpy(game.bytes + MENKHODUR_ACTION_SIZE * game.count++, bytes, sizeof bytes);
     }

@@ -108,7 +108,7 @@ pub struct Refused {
 /// assert_eq!(told, [Difference::Action { index: 1, first: Some(Action::Resign(Color::Black)), second: None }]);
 /// assert_eq!(told[0].to_string(), "action 1 11 0");
 /// assert_eq!(differences(&first, &first).unwrap().count(), 0);
-/// let refused = differences(&first, &second[1..]).unwrap_err();
+/// let refused = differences(&first, &second[..68]).unwrap_err();
 /// assert_eq!((refused.roll, refused.error), (Which::Second, Error::BadRoll));
 /// ```
 pub fn differences(first: impl AsRef<[u8]>, second: impl AsRef<[u8]>) -> Result<Differences, Refused> {

@@ -200,7 +200,8 @@ fn a_refused_roll_hands_out_nothing() {
     roll[64] = 2;
     assert_eq!(read(&roll, ACTIONS_PART), none(5));
     roll[64] = 1;
-    roll[68..].copy_from_slice(&[0x81, 0x10]);
+    // A count of 8,193.
+    roll[68..].copy_from_slice(&[0x81, 0x40]);
     assert_eq!(read(&roll, ACTIONS_PART), none(13));
     roll[68..].copy_from_slice(&[1, 5]);
     assert_eq!(read(&roll, ACTIONS_PART), (0, 1, [1; 68]));

@@ -11,7 +11,7 @@ use crate::rollwork;
 use crate::script;
 use crate::texts;
 use crate::what_differs;
-use both::abi::{self, Record};
+use both::abi::{self, Record, MOST_ACTIONS, MOST_MOVES};
 use both::numbers::{color_of, move_of, MOST_MOVE};
 use both::random::Random;
 use chess::Action;
@@ -104,7 +104,7 @@ fn single() -> impl Iterator<Item = (Vec<u8>, Vec<u8>)> {
         .iter().map(|codes| [vec![0; 68], codes.to_vec()].concat()).collect();
     let other = codes.clone();
     let pairs = codes.into_iter().flat_map(move |a| other.clone().into_iter().map(move |b| (a.clone(), b)));
-    let indices = [0, 9, 10, 99, 100, 999, 1_000, 2_047].into_iter()
+    let indices = [0, 9, 10, 99, 100, 999, 1_000, MOST_ACTIONS - 1].into_iter()
         .flat_map(|n| [(offers_and(n, 0), offers_and(n, MOST_MOVE)), (offers_and(n, MOST_MOVE), offers_and(n.max(1) - 1, 7))]);
     numbers.chain(pairs).chain(indices)
 }
@@ -123,8 +123,13 @@ fn longest() -> [Vec<u8>; 2] {
 
 /// Rolls that are refused, with each of the reader's numbers, and good ones.
 fn mixed() -> Vec<Vec<u8>> {
-    let too_many = [vec![0; 68], vec![129, 16]].concat();
-    let moves = [vec![0; 68], vec![129, 8], [2, 0].repeat(1_025)].concat();
+    let counting = |count: usize| {
+        let mut roll = vec![0; 68];
+        roll::put_number(count as u64, &mut roll);
+        roll
+    };
+    let too_many = counting(MOST_ACTIONS + 1);
+    let moves = [counting(MOST_MOVES + 1), [2, 0].repeat(MOST_MOVES + 1)].concat();
     vec![vec![], vec![13], vec![0; 68], vec![0; 70], too_many, moves, [vec![0; 68], vec![1, 7]].concat(), vec![0; 69], with(28, 1)]
 }
 

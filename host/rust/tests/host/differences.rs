@@ -73,13 +73,14 @@ fn the_longest_text_has_its_room() {
 #[test]
 fn refusals_tell_which_roll() {
     let good = roll(Board::default(), &[]);
-    let (mut bad, short) = (good.clone(), &good[1..]);
+    let (mut bad, short) = (good.clone(), &good[..68]);
     bad[0] = 13;
     let refused = |first: &[u8], second: &[u8]| differences(first, second).unwrap_err();
     assert_eq!(refused(&bad, short), Refused { roll: Which::First, error: Error::OutOfRange });
     assert_eq!(refused(short, &bad), Refused { roll: Which::First, error: Error::BadRoll });
     assert_eq!(refused(&good, &bad), Refused { roll: Which::Second, error: Error::OutOfRange });
-    let many = [&good[..68], &[129, 16]].concat();
+    // A count of 8,193.
+    let many = [&good[..68], &[129, 64]].concat();
     assert_eq!(refused(&good, &many), Refused { roll: Which::Second, error: Error::LogFull });
     let words = "the second roll: the bytes are not a roll, or not the actions of one (answer 17)";
     assert_eq!(refused(&good, short).to_string(), words);

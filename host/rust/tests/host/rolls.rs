@@ -256,7 +256,8 @@ fn a_number_is_judged_before_its_size_and_never_cut() {
         (&[0xFF, 0xFF, 0xFF, 0xFF, 0x7F], 5, 13),
         (&[0x80, 0x80, 0x80, 0x80, 0x10], 5, 13),
         (&[0x80, 0x80, 4], 5, 13),
-        (&[0x81, 0x10], 5, 13),
+        (&[0x81, 0x40], 5, 13), // 8,193
+        (&[0x80, 0x40], 5, 17),
         (&[0x80, 2], 5, 17),
     ] {
         for place in 0..68 {
@@ -276,7 +277,7 @@ fn the_reader_gives_the_first_from_the_left() {
     let start = [0; 68];
     let mut bad_start = start;
     bad_start[67] = 9;
-    let (over, unknown) = ([0x81, 0x10], [1, 3]);
+    let (over, unknown) = ([0x81, 0x40], [1, 3]);
     assert_eq!(check(&[&bad_start[..], &over].concat()), Err(5));
     assert_eq!(check(&[&start[..], &over, &unknown].concat()), Err(13));
     assert_eq!(check(&[&start[..], &unknown].concat()), Err(17));
