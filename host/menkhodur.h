@@ -46,7 +46,7 @@ enum {
     MENKHODUR_INVALID_SAN_MOVE = 4,
     MENKHODUR_OUT_OF_RANGE = 5,     /* a record number, square, rank, file, colour, rights number or in-check byte */
     MENKHODUR_BAD_LIST = 6,         /* list over 255, or an entry (or the coordinate writer's move) over 28,671 */
-    MENKHODUR_OUTPUT_TOO_SHORT = 7, /* the value is the length needed; of a page, its lines */
+    MENKHODUR_OUTPUT_TOO_SHORT = 7, /* the value is the length needed; for a page, its lines */
     MENKHODUR_NO_NAME = 8,          /* no text names the move */
     MENKHODUR_NOT_GOOD = 9,         /* log not good, or a count over its limit */
     MENKHODUR_GAME_OVER = 10,
@@ -216,14 +216,15 @@ typedef struct {
     uint8_t en_passant;          /* 0 none, 1..8 files a..h */
 } menkhodur_board;
 
-/* `value` is the answer of number 0, the length needed of number 7, and 0 of every other number. Of a page it is the number of lines, with
- * either of its two numbers. */
+/* `value` is the answer with number 0, the length needed with number 7, and 0 with every other number. For a page it is the
+ * number of lines, with either of its two numbers. */
 typedef struct { uint64_t number; uint64_t value; } menkhodur_answer;
-/* The same of a text; `offset` is the place in it of what is wrong, and 0 of number 0. Since version 4 this is the answer of
+/* The same for a text; `offset` is the place in it of what is wrong, and 0 with number 0. Since version 4 this is the answer of
  * menkhodur_move_read; until then it was a menkhodur_answer. */
 typedef struct { uint64_t number; uint64_t value; uint64_t offset; } menkhodur_placed;
 typedef struct { uint64_t number; menkhodur_board board; } menkhodur_stepped;
-/* Since version 3 `offset` is the place in the text of what is wrong with it, and 0 of number 0; until then it was 0 in every answer. */
+/* Since version 3 `offset` is the place in the text of what is wrong with it, and 0 with number 0; until then it was 0 in every
+ * answer. */
 typedef struct { uint64_t number; uint64_t offset; menkhodur_board board; } menkhodur_fen;
 typedef struct { uint64_t number; uint64_t actions; uint64_t moves; } menkhodur_counts;
 typedef struct { uint64_t number; uint64_t actions; menkhodur_board board; } menkhodur_roll;
@@ -241,8 +242,8 @@ typedef struct {
     uint64_t claim;      /* MENKHODUR_CLAIM_.. by `count` and `equals`: what menkhodur_game_declare_draw asks for */
     uint64_t laws_claim; /* MENKHODUR_CLAIM_.. by `laws_count` and `equals` */
 } menkhodur_ruling;
-/* PGN move text. `offset` is the place in the text of what is wrong, and 0 of number 0. A refused check has 0 moves; where there is no
- * move, `found`, `start`, `length` and `level` are 0. */
+/* PGN move text. `offset` is the place in the text of what is wrong, and 0 with number 0. A refused check has 0 moves; where
+ * there is no move, `found`, `start`, `length` and `level` are 0. */
 typedef struct { uint64_t number; uint64_t offset; uint64_t moves; } menkhodur_pgn_count;
 typedef struct {
     uint64_t number;
@@ -289,8 +290,8 @@ menkhodur_answer menkhodur_rights_add(uint8_t rights, uint8_t added);
 /* 0: the value is the rights without those removed, per bit. 5: one of the two is over 3. */
 menkhodur_answer menkhodur_rights_remove(uint8_t rights, uint8_t removed);
 
-/* 0: the value is the rights of the colour that hang on that square: 2, 3, 1 at files a, e, h of its own back rank,
- * 0 elsewhere. 5: colour over 1 or square over 63. */
+/* 0: the value is the rights of the colour that depend on that square: 2, 3, 1 at files a, e, h of its own back rank, 0
+ * elsewhere. 5: colour over 1 or square over 63. */
 menkhodur_answer menkhodur_square_rights(uint8_t colour, uint8_t square);
 
 /* ---- The board record --------------------------------------------------------------------------------------------------------- */
@@ -339,14 +340,14 @@ menkhodur_fen menkhodur_fen_read(const uint8_t *text, size_t length);
  * A refused call leaves all of `out` alone. */
 menkhodur_answer menkhodur_fen_write(menkhodur_board b, uint8_t *out, size_t room);
 
-/* Reads a page of FEN texts, one a line: each as menkhodur_fen_read reads it by itself. A newline byte (10) ends a line and belongs to none;
- * a last line without one counts if it has a byte in it, so that an empty text has no line and a newline alone has an empty one. No other
- * byte ends a line: of a line that ends in CR and LF, the CR is the last byte.
+/* Reads a page of FEN texts, one per line: each as menkhodur_fen_read reads it by itself. A newline byte (10) ends a line and
+ * belongs to none; a last line without one counts if it has a byte in it, so that an empty text has no line and a newline alone
+ * has an empty one. No other byte ends a line: in a line that ends in CR and LF, the CR is the last byte.
  * 0: the value is the number of lines. Line i, counted from 0, has its record in the 68 bytes of `records` from 68 * i on, 68 zeros if it is
  * refused; its own number, 0, 18, 19 or 20, in numbers[2 * i]; and its offset, from the line's start and 0 if it is accepted, in
  * numbers[2 * i + 1]. A refused line does not refuse the page. The bytes and numbers behind the last line's are left alone.
- * Refused: 7: `records` has fewer than 68 bytes a line, or `numbers` fewer than two numbers a line; the value is the number of lines, and
- * both rooms are left alone: so a call with two empty rooms counts. The text is left alone. */
+ * Refused: 7: `records` has fewer than 68 bytes per line, or `numbers` fewer than two numbers per line; the value is the number
+ * of lines, and both rooms are left alone: so a call with two empty rooms counts the lines. The text is left alone. */
 menkhodur_answer menkhodur_fen_page(const uint8_t *text, size_t length, uint8_t *records, size_t records_length,
                                     uint64_t *numbers, size_t numbers_length);
 
@@ -370,9 +371,10 @@ menkhodur_answer menkhodur_move_write(uint64_t move, uint8_t *out, size_t room);
  * 6: more than 255 entries, or an entry over 28,671; 4: the text is no SAN text, or it is a castling text and its move is not listed, or
  * it is another text and not exactly one entry fits it, or the one that fits fails the capture test (without `x` its destination must be
  * empty, with `x` and without ` e.p.` occupied). List and text are left alone.
- * Of this function and the next three: the order of the list does not matter; the same entries, each as often, get the same answer and the
- * same bytes. Entries other than the move that a text names can go, and the text still names it; a move's name may then be another one,
- * but the old one still names it. With entries added, 255 in all at most, a text names the same move or is refused with 4. */
+ * For this function and the next three: the order of the list does not matter; the same entries, each as often, get the same
+ * answer and the same bytes. Entries other than the move that a text names can go, and the text still names it; a move's name may
+ * then be another one, but the old one still names it. With entries added, 255 in all at most, a text names the same move or is
+ * refused with 4. */
 menkhodur_answer menkhodur_san_read(menkhodur_board b, const uint16_t *list, size_t entries, const uint8_t *text, size_t length);
 
 /* Writes the SAN text, 2 to 11 bytes, that menkhodur_san_read with the same record and list reads as exactly this move. 0: it is at
@@ -408,10 +410,11 @@ menkhodur_answer menkhodur_san_name_standard(menkhodur_board b, const uint16_t *
  *     10  (not in a query) the game is over
  * stand before the call's own numbers, in this order. An accepted call writes the 4 bytes of its action behind the used ones, a move
  * also the 580 bytes of its position, and returns the counts after it. A refused call writes nothing and returns the counts as given.
- * A position is a record, an in-check byte 0 or 1 and the list of its moves, which is copied into the log. Two positions are equal if
- * their records are and their lists are in the same order too. A host that sorts must sort every list of a game alike, its start's too:
- * else a position that came before is not known again, and a claim by equal positions does not stand (menkhodur_game_can_declare_draw,
- * menkhodur_game_can_claim_by_laws, menkhodur_game_declare_draw, and `equals` of menkhodur_game_ruling). Nothing else depends on it. */
+ * A position is a record, an in-check byte 0 or 1 and the list of its moves, which is copied into the log. Two positions are
+ * equal if their records are, and their lists too, in the same order. A host that sorts must sort every list of a game alike, its
+ * start's too: or else a position that came before is not recognised, and a claim by equal positions does not stand
+ * (menkhodur_game_can_declare_draw, menkhodur_game_can_claim_by_laws, menkhodur_game_declare_draw, and `equals` of
+ * menkhodur_game_ruling). Nothing else depends on it. */
 
 /* Begins a log with a position, which is written over the first 580 bytes of `positions`. The counts are 0 and 0, accepted or
  * refused. Of `actions` only the length is looked at: it is never read or written. Refused, in this order: 16; 5: a record number or

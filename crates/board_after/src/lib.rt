@@ -42,7 +42,7 @@ fn enemy_pawn(man: u8) -> u8
     if man <= 6 { 7 } else { 1 }
 }
 
-// Of numbers of squares on one rank, and so of their files.
+// For the numbers of squares on one rank, and so for their files.
 fn two_apart(a: u8, b: u8) -> bool
     requires { ⌜ (a < 64) × (b < 64) ⌝ }
     ensures { λ r. ⌜ r ≡ twoApart a b ⌝ }
@@ -50,7 +50,7 @@ fn two_apart(a: u8, b: u8) -> bool
     square::either(b == a + 2, a == b + 2)
 }
 
-// Castling is a king going two files along its rank. Here and below with no branch: which man moves is not to be guessed.
+// Castling is a king going two files along its rank. Here and below there is no branch, since which man moves cannot be predicted.
 fn castles(man: u8, source: u8, dest: u8) -> bool
     requires { ⌜ (source < 64) × (dest < 64) ⌝ }
     ensures { λ r. ⌜ r ≡ castles man source dest ⌝ }
@@ -109,7 +109,7 @@ fn remove_pawn(squares: &mut [u8], man: u8, source: u8, dest: u8)
     squares[(source / 8 * 8 + dest % 8) as usize] = 0;
 }
 
-// The man that is set down: of an empty source nothing.
+// The man that is set down; nothing if the source is empty.
 fn set_down(man: u8, promotion: u8) -> u8
     requires { ⌜ promotion < 16 ⌝ }
     ensures { λ r. ⌜ r ≡ setDown man promotion ⌝ }
@@ -141,7 +141,7 @@ fn without(a: u8, b: u8) -> u8
     if a < b { 0 } else { a - b }
 }
 
-// By the rule's own reckoning, and not by castle_rights::remove, which refuses rights out of range: the log asks of any byte.
+// Computed by the rule itself, and not by castle_rights::remove, which refuses rights out of range: the log asks about any byte.
 fn rights_without(color: u8, rights: u8, square: u8) -> u8
     requires { ⌜ (color < 2) × (square < 64) ⌝ }
     ensures { λ r. ⌜ r ≡ rightsWithout color rights square ⌝ }
@@ -157,7 +157,7 @@ fn rights_after(color: u8, rights: u8, source: u8, dest: u8) -> u8
     rights_without(color, rights_without(color, rights, source), dest)
 }
 
-// Two ranks on one file are 16 squares: asked first, since it holds of few moves.
+// Two ranks on one file are 16 squares: asked first, since it is true of few moves.
 fn steps_twice(man: u8, source: u8, dest: u8) -> bool
     requires { ⌜ (source < 64) × (dest < 64) ⌝ }
     ensures { λ r. ⌜ r ≡ stepsTwice man source dest ⌝ }
@@ -309,7 +309,7 @@ fn copy(from: &[u8], to: &mut [u8])
     }
 }
 
-// The same of any move, by a copy.
+// The same for any move, by a copy.
 fn all_set(old: &[u8], source: u8, dest: u8, promotion: u8, new: &[u8]) -> bool
     requires { ⌜ (length (now old) ≡ 64) × (length (now new) ≡ 64) × (source < 64) × (dest < 64) × (promotion < 16) ⌝ }
     ensures { λ r. ⌜ r ≡ same (now (new .entry)) (squaresAfter (now (old .entry)) source dest promotion) ⌝ }
@@ -331,7 +331,7 @@ fn squares_follow(old: &[u8], source: u8, dest: u8, promotion: u8, new: &[u8]) -
     two_set(old, source, dest, set_down(man, promotion), new)
 }
 
-// Whether both sides' rights follow. None are left of none, as in most positions of a game: asked first, of both at once.
+// Whether both sides' rights follow. Where there were none, none may be left, as in most positions of a game: asked first, for both at once.
 fn rights_follow(white: u8, black: u8, source: u8, dest: u8, left: u8, right: u8) -> bool
     requires { ⌜ (source < 64) × (dest < 64) ⌝ }
     ensures { λ r. ⌜ r ≡ (eqb left (rightsAfter 0 white source dest) && eqb right (rightsAfter 1 black source dest)) ⌝ }
@@ -373,8 +373,8 @@ fn follows(p: &[u8], m: u16, q: &[u8]) -> bool
     squares_follow(old, source, dest, promotion, &q[..SQUARES])
 }
 
-// Whether the record at the front of `q` is the one after move `m` from the record at the front of `p`. The log's pass asks this of each move; that it
-// has one caller lets the compiler lay it into that pass.
+// Whether the record at the front of `q` is the one after move `m` from the record at the front of `p`. The log's pass asks this about each move; as it
+// has one caller, the compiler can inline it into that pass.
 pub fn leads_to(p: &[u8], m: u16, q: &[u8]) -> bool
     ensures { λ r. ⌜ r ≡ leadsTo (now (p .entry)) m (now (q .entry)) ⌝ }
 {
@@ -428,7 +428,7 @@ fn same_record(a: BoardBuilder, b: BoardBuilder) -> bool
     same_squares(pieces, others)
 }
 
-// The same of a board, which a call is given: here the record after the move is computed.
+// The same for a board that a call is given: here the record after the move is computed.
 pub fn leads_to_board(p: &[u8], m: u16, next: BoardBuilder) -> bool
     ensures { λ r. ⌜ r ≡ leadsToBoard (now (p .entry)) m next ⌝ }
 {

@@ -1,4 +1,4 @@
-// The piece codes of the initial position, a line a rank, first rank first. Laid out by hand.
+// The piece codes of the initial position, one line per rank, first rank first. Laid out by hand.
 pub(crate) const INITIAL: [u8; 64] = [
     4, 2, 3, 5, 6, 3, 2, 4,
     1, 1, 1, 1, 1, 1, 1, 1,

@@ -78,7 +78,7 @@ fn by_last(last: Stored) -> u64
     }
 }
 
-// The same of the last of the first `n` actions. Its first byte settles nearly all of them, without a look at the others.
+// The same for the last of the first `n` actions. Its first byte settles nearly all of them, without a look at the others.
 pub fn by_last_action(acts: &[u8], n: usize) -> u64
     ensures { λ r. ⌜ r ≡ resultOfAction (lastAction (now (acts .entry)) n) ⌝ }
 {

@@ -17,7 +17,7 @@ ghost use Rattle.square.specs.Parts.{written};
 ghost use Rattle.board_builder.specs.BoardBuilder.{numbers, recordSize};
 ghost use Rattle.fen_text.specs.Page.{toldSize, lineCount, pageRecords, pageTold, pageAnswer, recordsLeft, toldLeft};
 
-// How many numbers tell of a line: the reader's answer and its offset.
+// How many numbers a line takes: the reader's answer and its offset.
 const TOLD_SIZE: usize = 2;
 
 fn too_short(lines: usize) -> Answer

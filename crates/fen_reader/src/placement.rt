@@ -100,7 +100,7 @@ fn rank_after(rank: usize, class: u8) -> usize
     if class == SLASH { (rank + 7) % 8 } else { rank }
 }
 
-// The pieces that a text's first token places, where the token ends, and the classes of its bytes put together: by `|`, so that no branch hangs on a byte
+// The pieces that a text's first token places, where the token ends, and the classes of its bytes put together: by `|`, so that no branch depends on a byte
 // but the token's end.
 pub struct Walked {
     pub pieces: [u8; 64],

@@ -55,7 +55,7 @@ fn open_check(acts: &[u8], ps: &[u8], n: usize, m: usize) -> u64
     ACCEPTED
 }
 
-// Then the own checks of a call without a move, then 13.
+// Then the call's own checks, of a call without a move, then 13.
 fn other_answer(acts: &[u8], ps: &[u8], n: usize, m: usize, action: Action) -> u64
     ensures { λ r. ⌜ r ≡ otherAnswer (now (acts .entry)) (now (ps .entry)) n m action ⌝ }
 {

@@ -49,7 +49,7 @@ pub struct Lined {
     pub accepted: u64,
 }
 
-// Puts the line of a text behind the first `at` bytes of `out`, where there is place for the longest.
+// Puts the line of a text behind the first `at` bytes of `out`, where there is room for the longest.
 pub(crate) fn put_line(line: &[u8], out: &mut [u8], at: usize) -> Lined
     requires { ⌜ at + longestLine ≤ length (now out) ⌝ }
     ensures answer { λ r. ⌜ r ≡ linedAt at (now (line .entry)) ⌝ }

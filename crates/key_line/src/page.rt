@@ -14,7 +14,7 @@ pub struct Paged {
     pub refused: u64,
 }
 
-// Puts the line of each ended line to the front of `out`, while there is place for the longest.
+// Puts the line of each ended line to the front of `out`, while there is room for the longest.
 pub fn key_page(text: &[u8], out: &mut [u8]) -> Paged
     ensures answer { λ r. ⌜ r ≡ keyPage (now (text .entry)) (length (now (out .entry))) ⌝ }
     ensures bytes { λ r. ⌜ now (out .exit) ≡ keyRoom (now (text .entry)) (now (out .entry)) ⌝ }

@@ -1,4 +1,4 @@
-// keys: FEN texts, one a line, from standard input or from files; for each line its key, or `! N OFFSET` with the number of the
+// keys: FEN texts, one per line, from standard input or from files; for each line its key, or `! N OFFSET` with the number of the
 // refusal and where the line is wrong. `--help` says more.
 mod help;
 mod input;

@@ -10,7 +10,7 @@ ghost use lib.ListN.{length};
 // How often the number of lines is told on standard error.
 const TOLD: u64 = 1_000_000;
 
-// What goes on from page to page.
+// What is carried from page to page.
 pub(crate) struct Run {
     // bytes of an unended line at the front of the input
     pub(crate) held: usize,
@@ -46,7 +46,7 @@ fn write_ready(out: &[u8], ready: usize) -> usize
     ready
 }
 
-// The run without a line that was counted, unless the line got out whole.
+// The run without a line that was counted, unless the line was written whole.
 fn kept(run: Run, is_whole: bool, is_key: bool) -> Run {
     if is_whole {
         return run;
@@ -61,7 +61,7 @@ fn kept(run: Run, is_whole: bool, is_key: bool) -> Run {
     next
 }
 
-// The run without the lines of `out` of which `done` bytes that were taken do not hold the newline.
+// The run without those lines of `out` whose newline is not among the `done` bytes that were taken.
 fn without_cut(out: &[u8], done: usize, ready: usize, run: Run) -> Run
     requires { ⌜ ready ≤ length (now out) ⌝ }
 {

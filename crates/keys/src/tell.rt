@@ -16,7 +16,7 @@ fn say_lines(lines: u64) {
     }
 }
 
-// What the system says of the call that has just failed.
+// What the system says about the call that has just failed.
 pub(crate) fn failed(what: &[u8]) {
     say(b"keys: ");
     os::fail(what);

@@ -80,7 +80,7 @@ fn reason(going: bool, count: usize, equals: u64) -> u64
     number_if(CLAIM_COUNT <= count, 1) + number_if(2 <= equals, 2)
 }
 
-// Of a log that passed its checks.
+// For a log that passed its checks.
 fn rule(acts: &[u8], ps: &[u8], n: usize, m: usize) -> Ruled
     requires { ⌜ logCheck limits (now acts) (now ps) n m ≡ 0 ⌝ }
     ensures { λ r. ⌜ r ≡ ruledOn (historyOf (now (acts .entry)) (now (ps .entry)) n) ⌝ }
@@ -116,7 +116,7 @@ pub fn ruling(acts: &[u8], ps: &[u8], n: u64, m: u64) -> Ruled
     rule(acts, ps, n as usize, m as usize)
 }
 
-// A claim by the Laws' count, which is looked at first, or by two earlier positions of the run. Of a log that passed its checks.
+// A claim by the Laws' count, which is looked at first, or by two earlier positions of the run. For a log that passed its checks.
 fn stands(acts: &[u8], ps: &[u8], n: usize, m: usize) -> bool
     requires { ⌜ logCheck limits (now acts) (now ps) n m ≡ 0 ⌝ }
     ensures { λ r. ⌜ r ≡ lawsClaimStands (historyOf (now (acts .entry)) (now (ps .entry)) n) ⌝ }

@@ -1,4 +1,4 @@
-// Asks the small functions of squares, rights and boards, which the archive does not have, of everything in range, and prints the answers. A line is a
+// Asks the small functions of squares, rights and boards, which the archive does not have, about everything in range, and prints the answers. A line is a
 // function, its arguments, `=`, and each answer: its number, its value, and in brackets what was written. `stdout` has what the crate chess 3.2.0 answers;
 // oracle/remake-vectors makes it.
 mod boards;
@@ -8,7 +8,7 @@ mod squares;
 
 use board_builder::BoardBuilder;
 
-// Everything of which a number can be an argument: a byte of a text, a square, rights, a colour.
+// Everything that a number can be as an argument: a byte of a text, a square, rights, a colour.
 fn ask(n: u8) {
     squares::ask_texts(n);
     if n < 64 {

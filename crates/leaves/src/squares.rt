@@ -28,7 +28,7 @@ pub(crate) fn ask(s: u8) {
         s,
         answer(square::from_str(&longer)),
     );
-    // of the other files the original says nothing
+    // about the other files the original says nothing
     match s % 8 {
         0 | 7 => put::line(
             b"castle_rights::rook_square_to_castle_rights",

@@ -77,7 +77,7 @@ fn in_run(run: Run, b: u8) -> bool
     }
 }
 
-// Over how many bytes of a text's front a run goes.
+// How many bytes at the front of a text a run covers.
 pub(crate) fn run_length(run: Run, s: &[u8]) -> usize
     ensures { λ r. ⌜ r ≡ runLength run (now (s .entry)) ⌝ }
 {

@@ -132,7 +132,7 @@ pub(crate) fn outward(s: &[u8], offset: usize, level: u64, stop: bool) -> Walked
     }
 }
 
-// The length of a move that stands one blank behind a place, as most do that follow another; 0 if none does. It spares the walkers' calls.
+// The length of a move that stands one blank behind a place, as most do that follow another; 0 if none does. It saves the calls of the walkers.
 pub(crate) fn near(s: &[u8], place: usize) -> usize
     ensures { λ r. ⌜ Near (now (s .entry)) place r ⌝ }
 {

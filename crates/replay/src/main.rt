@@ -3,7 +3,7 @@
 // Texts:
 //   F TEXT                  reads a FEN: its number, and the key of the board that was read or the place of what is wrong
 //   C TEXT                  reads a move in coordinates: its number, and its value and the move written again or the place of what is wrong
-//   p CHECK LIST FEN        the position that S and N are asked of; LIST is moves joined by `,`, or `-` for none
+//   p CHECK LIST FEN        the position that S and N are asked about; LIST is moves joined by `,`, or `-` for none
 //   S TEXT                  reads a move in SAN: number and value
 //   N MOVE                  names a move: number and value, and the name
 // One game log:
@@ -61,7 +61,7 @@ const LONGEST_COORDINATES: usize = 5;
 
 const LONGEST_NAME: usize = 11;
 
-// What goes on from line to line.
+// What is carried from line to line.
 struct Run {
     // the counts that the next call is given
     actions: u64,
@@ -72,7 +72,7 @@ struct Run {
     // which number of the next board is set, RECORD_SIZE for none, and to what
     poked: usize,
     poke: u8,
-    // the position that texts are asked of; its list stands in the front of the lent room
+    // the position that texts are asked about; its list stands in the front of the lent room
     board: BoardBuilder,
     listed: u64,
 }
@@ -265,7 +265,7 @@ fn put_name(line: &[u8], list: &[u16], run: Run) -> Run {
     run
 }
 
-// Texts, and the position that they are asked of.
+// Texts, and the position that they are asked about.
 fn ask(line: &[u8], list: &mut [u16], run: Run) -> Run {
     match text::letter(line) {
         b'p' => give(line, list, run),
@@ -580,7 +580,7 @@ fn play_all(block: &mut [u8], line: &mut [u8], acts: &mut [u8], ps: &mut [u8], l
     }
 }
 
-// A slice of a parameter's array has the length that its type says. Of an array that is made where the slice is, the prover would count the zeros one by
+// A slice of a parameter's array has the length that its type says. For an array that is made where the slice is, the prover would count the zeros one by
 // one, and 2.4 million are more than it can (docs/DECISIONS.md).
 fn play_on(
     block: &mut [u8; BLOCK],

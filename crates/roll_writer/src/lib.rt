@@ -197,7 +197,7 @@ fn put_actions(acts: &[u8], n: usize, out: &mut [u8], from: usize)
     }
 }
 
-// As many actions as there may be moves need not be counted.
+// Up to as many actions as there may be moves, nothing needs to be counted.
 fn too_many_moves(acts: &[u8], n: usize) -> bool
     ensures { λ r. ⌜ r ≡ ltb (limits .most-moves) (movesIn (now (acts .entry)) n) ⌝ }
 {

@@ -9,7 +9,7 @@ ghost use lib.ListN.{length};
 ghost use Rattle.san_text.specs.Place.{filePlace, rankPlace, squareAt};
 ghost use Rattle.san_reader.specs.Short.{noShort, shortTwo, shortThree, pawnTakes, shortFour, shortOf, shortText};
 
-// What such a text says. Its square counts from 1; 0 tells nothing of the text.
+// What such a text says. Its square counts from 1; 0 says nothing about the text.
 pub struct Short {
     pub piece: u8,
     pub file: u8,
@@ -18,7 +18,7 @@ pub struct Short {
     pub square: u8,
 }
 
-// The square of two bytes, counted from 1, and 0 if they are none.
+// The square of two bytes, counted from 1, or 0 if they are none.
 fn square_of(a: u8, b: u8) -> u8
     ensures { λ r. ⌜ r ≡ squareAt (filePlace a) (rankPlace b) ⌝ }
 {

@@ -1,4 +1,4 @@
-// The bytes of a position in the log: written, and known again.
+// The bytes of a position in the log: written, and checked again.
 use board_builder::BoardBuilder;
 use board_builder::RECORD_SIZE;
 use board_builder::SIDE_AT;
@@ -26,7 +26,7 @@ ghost use Rattle.stored_position.specs.Bytes.{moveBytes, positionBytes, 
 ghost use Rattle.stored_position.specs.ByParts.{frontFits, listFits, listFitsWith, recordFits, restFits, restFitsWith};
 
 // Entries that are looked at together, whether used or not, where the list is shorter, as nearly every list is: a length that is known to the compiler
-// makes straight code of the loops, and no branch hangs on the list's length. The large block is for the few lists that the small one does not hold.
+// turns the loops into straight code, and no branch depends on the list's length. The large block is for the few lists that the small one does not hold.
 
 const SMALL_BLOCK: usize = 48;
 
@@ -74,7 +74,7 @@ fn write_record(b: BoardBuilder, out: &mut [u8])
     write_bytes(&rest, SIDE_AT, out);
 }
 
-// Two bytes a move, low first.
+// Two bytes per move, low first.
 fn write_moves(list: &[u16], at: usize, out: &mut [u8])
     requires { ⌜ at + 2 * length (now list) ≤ length (now out) ⌝ }
     ensures { λ r. ⌜ now (out .exit) ≡ written (now (out .entry)) at (moveBytes (now (list .entry))) ⌝ }
@@ -131,7 +131,7 @@ pub fn to_bytes(b: BoardBuilder, in_check: u8, list: &[u16], out: &mut [u8]) -> 
     square::accepted(POSITION_SIZE as u64)
 }
 
-// Whether so many entries, the first ones, are moves: with no branch, so that they are taken many at a time.
+// Whether the first so many entries are moves: with no branch, so that they are taken many at a time.
 fn moves_in_range(s: &[u8], entries: usize) -> bool
     requires { ⌜ (length (now s) ≡ positionSize) × (entries ≤ longestList) ⌝ }
     ensures { λ r. ⌜ r ≡ allAtMost lastMove (movesFrom (now (s .entry)) movesAt entries) ⌝ }
@@ -146,7 +146,7 @@ fn moves_in_range(s: &[u8], entries: usize) -> bool
     above == 0
 }
 
-// Whether a move is one of so many entries, the first ones: with no branch, as above.
+// Whether a move is one of the first so many entries: with no branch, as above.
 fn has_move(s: &[u8], entries: usize, m: u16) -> bool
     requires { ⌜ (length (now s) ≡ positionSize) × (entries ≤ longestList) ⌝ }
     ensures { λ r. ⌜ r ≡ among m (movesFrom (now (s .entry)) movesAt entries) ⌝ }
