@@ -11,8 +11,8 @@
  * Threads: every function may be called from any number of threads at once. What is only read may be lent to many calls at once; what
  * one call writes, nobody else reads or writes until it has returned.
  *
- * Cost: a log call reads the used part of the log each time, to see that the log is good: tens of microseconds on the longest game
- * (docs/SPEED.md has 10 for a query after 1,024 moves).
+ * Cost: a log call reads the used part of the log each time, to see that the log is good: a quarter of a millisecond on the longest
+ * game, 4,096 moves, on the slowest machine that was timed (docs/SPEED.md).
  *
  * What a caller owes:
  *   - A pointer is valid for its length: readable, and writable where it is not const. `room` and the lengths of parts, texts, rolls
