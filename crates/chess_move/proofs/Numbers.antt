@@ -54,7 +54,11 @@ parts-of-number m h = go (leb (m .source) 63) (leb (m .dest) 63) (leb (m .promot
         let hp = leb-true _ _ ep in
         simp (es, ed, ep) (
           number-most (m .source) (m .dest) (m .promotion) hs hd hp,
-          simp (source-of-number (m .source) (m .dest) (m .promotion) hs hd, dest-of-number (m .source) (m .dest) (m .promotion) hs hd, promotion-of-number (m .source) (m .dest) (m .promotion) hs hd),
+          simp (
+            source-of-number (m .source) (m .dest) (m .promotion) hs hd,
+            dest-of-number (m .source) (m .dest) (m .promotion) hs hd,
+            promotion-of-number (m .source) (m .dest) (m .promotion) hs hd,
+          ),
         )
     go true true false es ed ep = absurd (omega (arith, simp (es, ed, ep) at h))
     go true false p es ed ep = absurd (omega (arith, simp (es, ed) at h))

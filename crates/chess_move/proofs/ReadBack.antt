@@ -54,7 +54,9 @@ without n e =
     let text = fourBytes (sourceOf n) (destOf n) [] in
     let z : sourceOf n + 64 * destOf n ≡ n = omega arith in
     rw (text-four n e)
-    (squares-back (sourceOf n) (destOf n) [] (source-most n) (dest-most n) ∙ ended-squares text (sourceOf n) (destOf n) (λ f. omega arith) ∙ simp (eq-eqb _ _ e, z))
+    (squares-back (sourceOf n) (destOf n) [] (source-most n) (dest-most n)
+    ∙ ended-squares text (sourceOf n) (destOf n) (λ f. omega arith)
+    ∙ simp (eq-eqb _ _ e, z))
 
 with-one : (n : ℕ) → n ≤ lastMove → (promotionOf n ≡ 0 → ⊥) → readMove (moveText n) ≡ cond (readable (promotionOf n)) (readAs n) (faultAt invalidUciMove 4)
 with-one n h e =

@@ -80,7 +80,8 @@ module _ (acts ps : List ℕ) (i m : ℕ) (read : m ≡ moveAt acts i) where
       → runBefore s (runAt acts ps i) ≡ whole
   back-turn h k e p q from to r s t whole looked known was =
       let n : k ≡ 0 → ⊥ = λ z. omega (arith, one-more acts i m read h) in
-      let f : t ≡ runAfter (positionAt ps (k - 1)) m (positionAt ps k) k runBegun = looked ∙ ap₂ (λ (x y : List ℕ). runAfter (positionOf x) m (positionOf y) k runBegun) from to in
+      let f : t ≡ runAfter (positionAt ps (k - 1)) m (positionAt ps k) k runBegun =
+          looked ∙ ap₂ (λ (x y : List ℕ). runAfter (positionOf x) m (positionOf y) k runBegun) from to in
       ap (λ (x : Run). runBefore x (runAt acts ps i)) (known ∙ ap (runBefore r) f)
       ∙ back-after (positionAt ps (k - 1)) (positionAt ps k) m k r (runAt acts ps i) n
       ∙ ap (runBefore r) (sym (run-by-move h k e))

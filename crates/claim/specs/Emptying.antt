@@ -23,7 +23,8 @@ irreversible p m = eqb (kindOf (manOn p (sourceOf m))) pawn || not (eqb (manOn p
 -- either side's rights differ between two positions
 unfoldable pub rightsDiffer : Position → Position → Bool
 rightsDiffer p q =
-    not (eqb (getD (p .board) whiteRightsAt 0) (getD (q .board) whiteRightsAt 0)) || not (eqb (getD (p .board) blackRightsAt 0) (getD (q .board) blackRightsAt 0))
+    not (eqb (getD (p .board) whiteRightsAt 0) (getD (q .board) whiteRightsAt 0))
+    || not (eqb (getD (p .board) blackRightsAt 0) (getD (q .board) blackRightsAt 0))
 
 -- move m leads from position p to position q
 abbrev pub emptiesCount : Position → ℕ → Position → Bool

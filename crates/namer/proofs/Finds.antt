@@ -37,7 +37,8 @@ written t bytes s h =
     }
 
 -- as many as the writer answered
-pub answered : (t bytes exit : List ℕ) (a : Answer) → (2 ≤ length t) × (length t ≤ 11) → length bytes ≡ 11 → a ≡ writeAnswer 0 t (length bytes) → exit ≡ writeBytes 0 t bytes → InRoom t (a .value) exit
+pub answered : (t bytes exit : List ℕ) (a : Answer) → (2 ≤ length t) × (length t ≤ 11) → length bytes ≡ 11
+    → a ≡ writeAnswer 0 t (length bytes) → exit ≡ writeBytes 0 t bytes → InRoom t (a .value) exit
 answered t bytes exit a s h e x =
     let fits : length t ≤ length bytes = omega (arith, s .1) in
     let n : a .value ≡ length t = ap (λ (r : Answer). r .value) (e ∙ sym (write-fits t bytes fits .answer)) in
@@ -52,7 +53,8 @@ found-some i = record {
   none-if = λ z. absurd (omega (arith, i .least, i .count));
 }
 
-pub found-written : (t bytes exit : List ℕ) → (2 ≤ length t) × (length t ≤ 11) → length bytes ≡ 11 → exit ≡ writeBytes 0 t bytes → Found (some t) exit (length t)
+pub found-written : (t bytes exit : List ℕ) → (2 ≤ length t) × (length t ≤ 11) → length bytes ≡ 11 → exit ≡ writeBytes 0 t bytes
+    → Found (some t) exit (length t)
 found-written t bytes exit s h x = rw x (found-some (written t bytes s h))
 
 -- ---- the first of two that is there

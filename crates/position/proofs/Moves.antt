@@ -76,7 +76,8 @@ same-lists p q bp bq hp hq =
         → (t && same (take (2 * getD p lengthAt 0) (drop movesAt p)) (take (2 * getD p lengthAt 0) (drop movesAt q)))
         ≡ same (movesFrom p movesAt (getD p lengthAt 0)) (movesFrom q movesAt (getD q lengthAt 0))
     go true e =
-        rw (← eqb-true (getD p lengthAt 0) (getD q lengthAt 0) e) (same-moves p q bp bq (getD p lengthAt 0) movesAt (omega (arith, bp lengthAt)) (omega (arith, bp lengthAt)))
+        rw (← eqb-true (getD p lengthAt 0) (getD q lengthAt 0) e)
+        (same-moves p q bp bq (getD p lengthAt 0) movesAt (omega (arith, bp lengthAt)) (omega (arith, bp lengthAt)))
     go false e =
         sym (same-lengths (movesFrom p movesAt (getD p lengthAt 0)) (movesFrom q movesAt (getD q lengthAt 0))
         (λ h. eqb-false _ _ e (sym (length-moves p movesAt _) ∙ h ∙ length-moves q movesAt _)))

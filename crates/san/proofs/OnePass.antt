@@ -42,8 +42,8 @@ max-comm a b = omega arith
 
 regroup : (c x y a b : ℕ) → max c (max (max x a) (max y b)) ≡ max (max c (max x y)) (max a b)
 regroup c x y a b =
-    ap (max c) (sym (max-assoc x a (max y b)) ∙ ap (max x) (max-assoc a y b ∙ ap (λ (k : ℕ). max k b) (max-comm a y) ∙ sym (max-assoc y a b)) ∙ max-assoc x y (max a b))
-    ∙ max-assoc c (max x y) (max a b)
+    let swap : max a (max y b) ≡ max y (max a b) = max-assoc a y b ∙ ap (λ (k : ℕ). max k b) (max-comm a y) ∙ sym (max-assoc y a b) in
+    ap (max c) (sym (max-assoc x a (max y b)) ∙ ap (max x) swap ∙ max-assoc x y (max a b)) ∙ max-assoc c (max x y) (max a b)
 
 -- ---- what is left at the two places: the front is n entries, and the second place stands at j, where it counts nothing before n
 
@@ -130,13 +130,15 @@ module _ (p : ℕ → Bool) where
   all-four true false false d = refl
 
   -- an entry from the front, and one from behind or none
-  step : (l f b′ b : List ℕ) (g : Gathered) (m : ℕ) (there : Bool) (n : ℕ) → sources p b′ ≡ kept there (n % 64) (sources p b) → allAtMost lastMove b′ ≡ leb n lastMove && allAtMost lastMove b → Left l (m ∷ f) b′ g → Left l f b (gatherTwo g (p m) m there n)
+  step : (l f b′ b : List ℕ) (g : Gathered) (m : ℕ) (there : Bool) (n : ℕ) → sources p b′ ≡ kept there (n % 64) (sources p b)
+      → allAtMost lastMove b′ ≡ leb n lastMove && allAtMost lastMove b → Left l (m ∷ f) b′ g → Left l f b (gatherTwo g (p m) m there n)
   unfolding sources gatherTwo allAtMost
   step l f b′ b g m there n es er k = record {
     range = range;
     count = adds (g .count) _ _ _ _ _ _ _ (kept-length (p m) (m % 64) (sources p f)) (ap length es ∙ kept-length there (n % 64) (sources p b)) (k .count);
     sum = adds (g .sum) _ _ _ _ _ _ _ (kept-total (p m) (m % 64) (sources p f)) (ap total es ∙ kept-total there (n % 64) (sources p b)) (k .sum);
-    largest = maxes (g .largest) _ _ _ _ _ _ _ (kept-largest (p m) (m % 64) (sources p f)) (ap largest es ∙ kept-largest there (n % 64) (sources p b)) (k .largest);
+    largest =
+        maxes (g .largest) _ _ _ _ _ _ _ (kept-largest (p m) (m % 64) (sources p f)) (ap largest es ∙ kept-largest there (n % 64) (sources p b)) (k .largest);
   }
     where
       P : Bool
@@ -160,20 +162,26 @@ module _ (p : ℕ → Bool) where
 
   -- ---- the loop's turn, and its end
 
-  turn-seen : (l : List ℕ) (n i j : ℕ) (g : Gathered) → i < n → i < length l → j < n → Left l (atFront l n i) (behind l n j) g → Left l (atFront l n (i + 1)) (behind l n (j + 1)) (gatherTwo g (p (getD l i 0)) (getD l i 0) false 0)
+  turn-seen : (l : List ℕ) (n i j : ℕ) (g : Gathered) → i < n → i < length l → j < n → Left l (atFront l n i) (behind l n j) g
+      → Left l (atFront l n (i + 1)) (behind l n (j + 1)) (gatherTwo g (p (getD l i 0)) (getD l i 0) false 0)
   unfolding kept
   turn-seen l n i j g h k s inv =
       let e : max n (j + 1) ≡ max n j = omega arith in
       rw e (step l (atFront l n (i + 1)) (behind l n j) (behind l n j) g (getD l i 0) false 0 refl refl (rw (front-turn l n i h k) at inv))
 
-  turn-both : (l : List ℕ) (n i j : ℕ) (g : Gathered) → i < n → i < length l → n ≤ j → j < length l → Left l (atFront l n i) (behind l n j) g → Left l (atFront l n (i + 1)) (behind l n (j + 1)) (gatherTwo g (p (getD l i 0)) (getD l i 0) (p (getD l j 0)) (getD l j 0))
+  turn-both : (l : List ℕ) (n i j : ℕ) (g : Gathered) → i < n → i < length l → n ≤ j → j < length l → Left l (atFront l n i) (behind l n j) g
+      → Left l (atFront l n (i + 1)) (behind l n (j + 1)) (gatherTwo g (p (getD l i 0)) (getD l i 0) (p (getD l j 0)) (getD l j 0))
   unfolding sources allAtMost
   turn-both l n i j g h k s t inv =
       let e : max n j ≡ j = omega arith in
       let e′ : max n (j + 1) ≡ suc j = omega arith in
-      rw e′ (step l (atFront l n (i + 1)) (getD l j 0 ∷ drop (suc j) l) (drop (suc j) l) g (getD l i 0) (p (getD l j 0)) (getD l j 0) refl refl (rw (front-turn l n i h k, e, drop-cons l j 0 t) at inv))
+      let both = rw (front-turn l n i h k, e, drop-cons l j 0 t) at inv in
+      rw e′ (step l (atFront l n (i + 1)) (getD l j 0 ∷ drop (suc j) l) (drop (suc j) l) g (getD l i 0) (p (getD l j 0)) (getD l j 0) refl refl both)
 
-  pub turn : (l : List ℕ) (n back i : ℕ) (g : Gathered) (unseen : Bool) → i < n → i < length l → back + i < length l → (unseen ≡ true → n ≤ back + i) → (unseen ≡ false → back + i < n) → Left l (atFront l n i) (behind l n (back + i)) g → Left l (atFront l n (i + 1)) (behind l n (back + (i + 1))) (gatherTwo g (p (getD l i 0)) (getD l i 0) (unseen && p (numberIf unseen (getD l (back + i) 0))) (numberIf unseen (getD l (back + i) 0)))
+  pub turn : (l : List ℕ) (n back i : ℕ) (g : Gathered) (unseen : Bool) → i < n → i < length l → back + i < length l → (unseen ≡ true → n ≤ back + i)
+      → (unseen ≡ false → back + i < n) → Left l (atFront l n i) (behind l n (back + i)) g
+      → Left l (atFront l n (i + 1)) (behind l n (back + (i + 1)))
+          (gatherTwo g (p (getD l i 0)) (getD l i 0) (unseen && p (numberIf unseen (getD l (back + i) 0))) (numberIf unseen (getD l (back + i) 0)))
   turn l n back i g true h k t after before inv =
       let e : back + (i + 1) ≡ back + i + 1 = omega arith in
       rw e (turn-both l n i (back + i) g h k (after refl) t inv)
@@ -195,7 +203,8 @@ module _ (p : ℕ → Bool) where
 
   -- ---- the least source, turn by turn
 
-  pub least-turn : (a : ℕ) (l : List ℕ) (i : ℕ) → a ≤ 64 → i < length l → lowest a (sources p (drop i l)) ≡ lowest (min a (cond (p (getD l i 0)) (getD l i 0 % 64) 64)) (sources p (drop (i + 1) l))
+  pub least-turn : (a : ℕ) (l : List ℕ) (i : ℕ) → a ≤ 64 → i < length l
+      → lowest a (sources p (drop i l)) ≡ lowest (min a (cond (p (getD l i 0)) (getD l i 0 % 64) 64)) (sources p (drop (i + 1) l))
   unfolding sources kept lowest
   least-turn a l i h k = rw (add-one i, drop-cons l i 0 k) (go (p (getD l i 0)) (getD l i 0 % 64) (sources p (drop (suc i) l)))
     where

@@ -77,9 +77,14 @@ digit-below : (b : Bool) (x : ℕ) → x < 8 → cond b x 0 < 8
 digit-below true x h = h
 digit-below false x h = omega arith
 
-pub picked-is : (t : San) (m : ℕ) → t .file ≤ 8 → t .rank ≤ 8 → m ≤ lastMove → picked (maskOf t) (wantOf t) m ≡ eqb (m / 64) (t .dest) && (agrees (t .file) (m % 64 % 8 + 1) && agrees (t .rank) (m % 64 / 8 + 1))
+pub picked-is : (t : San) (m : ℕ) → t .file ≤ 8 → t .rank ≤ 8 → m ≤ lastMove
+    → picked (maskOf t) (wantOf t) m ≡ eqb (m / 64) (t .dest) && (agrees (t .file) (m % 64 % 8 + 1) && agrees (t .rank) (m % 64 / 8 + 1))
 unfolding picked
 picked-is t m hf hr h =
+    let file = cond (given (t .file)) (m % 64 % 8) 0 in
+    let rank = cond (given (t .rank)) (m % 64 / 8) 0 in
+    let file-below : file < 8 = digit-below (given (t .file)) (m % 64 % 8) (omega arith) in
+    let rank-below : rank < 8 = digit-below (given (t .rank)) (m % 64 / 8) (omega arith) in
     ap (λ (x : ℕ). eqb x (wantOf t)) (masked m (given (t .file)) (given (t .rank)) (omega arith))
-    ∙ digits (m / 64) (cond (given (t .file)) (m % 64 % 8) 0) (cond (given (t .rank)) (m % 64 / 8) 0) (t .dest) (t .file - 1) (t .rank - 1) (digit-below (given (t .file)) (m % 64 % 8) (omega arith)) (place-below (t .file) hf) (digit-below (given (t .rank)) (m % 64 / 8) (omega arith)) (place-below (t .rank) hr)
+    ∙ digits (m / 64) file rank (t .dest) (t .file - 1) (t .rank - 1) file-below (place-below (t .file) hf) rank-below (place-below (t .rank) hr)
     ∙ rw (agrees-digit (t .file) (m % 64 % 8), agrees-digit (t .rank) (m % 64 / 8))

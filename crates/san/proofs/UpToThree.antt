@@ -28,7 +28,8 @@ pub record Same (f : ℕ → Bool) (l : List ℕ) (x y z : ℕ) : Type 0 where
 
 -- ---- three numbers in any order
 
-count-three : (p q r : Bool) → numberIf p 1 + numberIf q 1 + numberIf r 1 ≡ cond p (suc (cond q (suc (cond r 1 0)) (cond r 1 0))) (cond q (suc (cond r 1 0)) (cond r 1 0))
+count-three : (p q r : Bool)
+    → numberIf p 1 + numberIf q 1 + numberIf r 1 ≡ cond p (suc (cond q (suc (cond r 1 0)) (cond r 1 0))) (cond q (suc (cond r 1 0)) (cond r 1 0))
 count-three true true true = refl
 count-three true true false = refl
 count-three true false true = refl
@@ -38,7 +39,8 @@ count-three false true false = refl
 count-three false false true = refl
 count-three false false false = refl
 
-first-three : (p q r : Bool) (a b c : ℕ) → numberIf p 1 + numberIf q 1 + numberIf r 1 ≡ 1 → numberIf p a + numberIf q b + numberIf r c ≡ cond p a (cond q b (cond r c 0))
+first-three : (p q r : Bool) (a b c : ℕ) → numberIf p 1 + numberIf q 1 + numberIf r 1 ≡ 1
+    → numberIf p a + numberIf q b + numberIf r c ≡ cond p a (cond q b (cond r c 0))
 first-three true true r a b c h = absurd (omega arith)
 first-three true false true a b c h = absurd (omega arith)
 first-three true false false a b c h = omega arith
@@ -63,18 +65,21 @@ module _ (f : ℕ → Bool) (a b c : ℕ) where
   three-first h = first-three (f a) (f b) (f c) a b c h
 
   -- any x, y, z that are a, b, c in some order
-  same-three : (x y z : ℕ) → one x + one y + one z ≡ one a + one b + one c → value x + value y + value z ≡ value a + value b + value c → Same f (a ∷ b ∷ c ∷ []) x y z
+  same-three : (x y z : ℕ) → one x + one y + one z ≡ one a + one b + one c → value x + value y + value z ≡ value a + value b + value c
+      → Same f (a ∷ b ∷ c ∷ []) x y z
   unfolding one value
   same-three x y z e v = record {
     passing-same = e ∙ three-count;
     passed-same = λ h. v ∙ three-first (three-count ∙ h);
   }
 
-  swapped : (x y z x′ y′ z′ : ℕ) → x ≡ x′ → y ≡ y′ → z ≡ z′ → one x′ + one y′ + one z′ ≡ one a + one b + one c → value x′ + value y′ + value z′ ≡ value a + value b + value c → Same f (a ∷ b ∷ c ∷ []) x y z
+  swapped : (x y z x′ y′ z′ : ℕ) → x ≡ x′ → y ≡ y′ → z ≡ z′ → one x′ + one y′ + one z′ ≡ one a + one b + one c
+      → value x′ + value y′ + value z′ ≡ value a + value b + value c → Same f (a ∷ b ∷ c ∷ []) x y z
   swapped x y z x′ y′ z′ ex ey ez e v = rw (ex, ey, ez) (same-three x′ y′ z′ e v)
 
 -- two numbers, and one: what is not there does not pass
-same-two : (f : ℕ → Bool) (a b x y z x′ y′ : ℕ) → x ≡ x′ → y ≡ y′ → numberIf (f x′) 1 + numberIf (f y′) 1 ≡ numberIf (f a) 1 + numberIf (f b) 1 → numberIf (f x′) x′ + numberIf (f y′) y′ ≡ numberIf (f a) a + numberIf (f b) b → Same f (a ∷ b ∷ []) x y z
+same-two : (f : ℕ → Bool) (a b x y z x′ y′ : ℕ) → x ≡ x′ → y ≡ y′ → numberIf (f x′) 1 + numberIf (f y′) 1 ≡ numberIf (f a) 1 + numberIf (f b) 1
+    → numberIf (f x′) x′ + numberIf (f y′) y′ ≡ numberIf (f a) a + numberIf (f b) b → Same f (a ∷ b ∷ []) x y z
 unfolding count firstOf
 same-two f a b x y z x′ y′ ex ey e v = rw (ex, ey) (record {
   passing-same = omega (arith, e) ∙ count-three (f a) (f b) false;
@@ -117,12 +122,16 @@ same-sources f (a ∷ b ∷ c ∷ []) h m = go (leb a b) (leb b c) (leb a c) ref
     hc : c ≤ 63
     hc = most-head 63 c [] (most-tail 63 b (c ∷ []) (most-tail 63 a (b ∷ c ∷ []) m))
 
-    ordered : (x′ y′ z′ : ℕ) → max a (max b (max c 0)) ≡ x′ → min (min (min 64 a) b) c ≡ y′ → a + (b + (c + 0)) - x′ - y′ ≡ z′ → one f a b c x′ + one f a b c y′ + one f a b c z′ ≡ one f a b c a + one f a b c b + one f a b c c → value f a b c x′ + value f a b c y′ + value f a b c z′ ≡ value f a b c a + value f a b c b + value f a b c c → Same f (a ∷ b ∷ c ∷ []) (largest (a ∷ b ∷ c ∷ [])) (low (a ∷ b ∷ c ∷ [])) (others (a ∷ b ∷ c ∷ []) - low (a ∷ b ∷ c ∷ []))
+    ordered : (x′ y′ z′ : ℕ) → max a (max b (max c 0)) ≡ x′ → min (min (min 64 a) b) c ≡ y′ → a + (b + (c + 0)) - x′ - y′ ≡ z′
+        → one f a b c x′ + one f a b c y′ + one f a b c z′ ≡ one f a b c a + one f a b c b + one f a b c c
+        → value f a b c x′ + value f a b c y′ + value f a b c z′ ≡ value f a b c a + value f a b c b + value f a b c c
+        → Same f (a ∷ b ∷ c ∷ []) (largest (a ∷ b ∷ c ∷ [])) (low (a ∷ b ∷ c ∷ [])) (others (a ∷ b ∷ c ∷ []) - low (a ∷ b ∷ c ∷ []))
     ordered x′ y′ z′ ex ey ez e v =
         let ez′ : others (a ∷ b ∷ c ∷ []) - low (a ∷ b ∷ c ∷ []) ≡ z′ = rw (ex, ey) ez in
         swapped f a b c _ _ _ x′ y′ z′ ex ey ez′ e v
 
-    go : (p q r : Bool) → leb a b ≡ p → leb b c ≡ q → leb a c ≡ r → Same f (a ∷ b ∷ c ∷ []) (largest (a ∷ b ∷ c ∷ [])) (low (a ∷ b ∷ c ∷ [])) (others (a ∷ b ∷ c ∷ []) - low (a ∷ b ∷ c ∷ []))
+    go : (p q r : Bool) → leb a b ≡ p → leb b c ≡ q → leb a c ≡ r
+        → Same f (a ∷ b ∷ c ∷ []) (largest (a ∷ b ∷ c ∷ [])) (low (a ∷ b ∷ c ∷ [])) (others (a ∷ b ∷ c ∷ []) - low (a ∷ b ∷ c ∷ []))
     go true true r p q s =
         let i = leb-true a b p in
         let j = leb-true b c q in

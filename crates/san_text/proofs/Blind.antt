@@ -24,7 +24,8 @@ use Rattle.san_text.specs.Paper.{paper}
 use Rattle.san_text.specs.Promises.{Alike, SameSanAnswer}
 
 -- tests that agree on the listed entries find the same one, in whatever form
-pub sole-alike : (f f′ g g′ : ℕ → Bool) (l : List ℕ) → ((m : ℕ) → among m l ≡ true → f m ≡ f′ m) → ((m : ℕ) → among m l ≡ true → g m ≡ g′ m) → soleThat f g l ≡ soleThat f′ g′ l
+pub sole-alike : (f f′ g g′ : ℕ → Bool) (l : List ℕ) → ((m : ℕ) → among m l ≡ true → f m ≡ f′ m) → ((m : ℕ) → among m l ≡ true → g m ≡ g′ m)
+    → soleThat f g l ≡ soleThat f′ g′ l
 unfolding soleThat
 sole-alike f f′ g g′ l hf hg =
     let s = count-same f f′ l hf in
@@ -52,7 +53,8 @@ module _ (b c : BoardBuilder) (l : List ℕ) (a : Alike b c l) where
   unfolding resolved castled
   text-same KingSide = rw (a .side)
   text-same QueenSide = rw (a .side)
-  text-same (Move u) = sole-alike (fits (b .pieces) u) (fits (c .pieces) u) (captureTest (b .pieces) u) (captureTest (c .pieces) u) l (fits-same u) (capture-same u)
+  text-same (Move u) =
+      sole-alike (fits (b .pieces) u) (fits (c .pieces) u) (captureTest (b .pieces) u) (captureTest (c .pieces) u) l (fits-same u) (capture-same u)
   text-same Refused = refl
 
 pub same-san-answer : SameSanAnswer

@@ -57,7 +57,8 @@ pub read-no-letter : (dest : Dest) (s : List ℕ) → pieceKind (first s) ≡ 0 
 unfolding readPiece after
 read-no-letter dest s e = rw e
 
-pub read-letter : (dest : Dest) {k : ℕ} → Moves k → (s : List ℕ) → pieceKind (first s) ≡ 0 → readPiece dest (pieceLetter k ++ s) ≡ readFile dest (letterKind k) s
+pub read-letter : (dest : Dest) {k : ℕ} → Moves k → (s : List ℕ) → pieceKind (first s) ≡ 0
+    → readPiece dest (pieceLetter k ++ s) ≡ readFile dest (letterKind k) s
 unfolding readPiece pieceLetter promotionLetter pieceKind promotionKind after
 read-letter dest Moves.pawn s e = read-no-letter dest s e
 read-letter dest Moves.knight s e = refl
@@ -66,11 +67,13 @@ read-letter dest Moves.rook s e = refl
 read-letter dest Moves.queen s e = refl
 read-letter dest Moves.king s e = refl
 
-pub read-source : (dest : Dest) (k sq : ℕ) (s : List ℕ) → sq < 64 → readFile dest k (fileByte sq ∷ rankByte sq ∷ s) ≡ readTakes dest k (sq % 8 + 1) (sq / 8 + 1) s
+pub read-source : (dest : Dest) (k sq : ℕ) (s : List ℕ) → sq < 64
+    → readFile dest k (fileByte sq ∷ rankByte sq ∷ s) ≡ readTakes dest k (sq % 8 + 1) (sq / 8 + 1) s
 unfolding readFile readRank after
 read-source dest k sq s h = rw (file-back sq, there (sq % 8), rank-back sq h, there (sq / 8))
 
-pub read-takes : (dest : Dest) (k f r : ℕ) (x : Bool) (s : List ℕ) → eqb (first s) 120 ≡ false → readTakes dest k f r (optional x (120 ∷ []) ++ s) ≡ dest k f r x s
+pub read-takes : (dest : Dest) (k f r : ℕ) (x : Bool) (s : List ℕ) → eqb (first s) 120 ≡ false
+    → readTakes dest k f r (optional x (120 ∷ []) ++ s) ≡ dest k f r x s
 unfolding readTakes after optional
 read-takes dest k f r true s e = refl
 read-takes dest k f r false s e = rw e
@@ -117,13 +120,16 @@ afterFile pieces m tail = rankByte (sourceOf m) ∷ (optional (takesOf pieces m)
 
 module _ (pieces : List ℕ) (m : ℕ) (tail : List ℕ) where
   -- the text from the front
-  pub both-text : headOf pieces m true true ++ (fileByte (destOf m) ∷ rankByte (destOf m) ∷ tail) ≡ pieceLetter (kindAt pieces (sourceOf m)) ++ (fileByte (sourceOf m) ∷ afterFile pieces m tail)
+  pub both-text : headOf pieces m true true ++ (fileByte (destOf m) ∷ rankByte (destOf m) ∷ tail)
+      ≡ pieceLetter (kindAt pieces (sourceOf m)) ++ (fileByte (sourceOf m) ∷ afterFile pieces m tail)
   unfolding headOf optional
   both-text = simp append-assoc
 
   -- read up to the destination
-  pub both-read : (dest : Dest) → Moves (kindAt pieces (sourceOf m)) → readPiece dest (pieceLetter (kindAt pieces (sourceOf m)) ++ (fileByte (sourceOf m) ∷ afterFile pieces m tail))
-      ≡ dest (letterKind (kindAt pieces (sourceOf m))) (sourceOf m % 8 + 1) (sourceOf m / 8 + 1) (takesOf pieces m) (fileByte (destOf m) ∷ rankByte (destOf m) ∷ tail)
+  pub both-read : (dest : Dest) → Moves (kindAt pieces (sourceOf m))
+      → readPiece dest (pieceLetter (kindAt pieces (sourceOf m)) ++ (fileByte (sourceOf m) ∷ afterFile pieces m tail))
+      ≡ dest (letterKind (kindAt pieces (sourceOf m))) (sourceOf m % 8 + 1) (sourceOf m / 8 + 1) (takesOf pieces m)
+          (fileByte (destOf m) ∷ rankByte (destOf m) ∷ tail)
   both-read dest k =
       read-letter dest k (fileByte src ∷ afterFile pieces m tail) (no-letter src)
       ∙ read-source dest kind src (optional (takesOf pieces m) (120 ∷ []) ++ end) (omega arith)

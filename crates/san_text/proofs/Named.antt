@@ -53,7 +53,8 @@ named-first none o h = absurd h
 named-first (some t) o h = tt
 
 -- both source parts are the last text to try
-named-both : (f : List ℕ → Bool) (text : Bool → Bool → List ℕ) (changes : Bool) (o : Option (List ℕ)) → f (text true true) ≡ true → Named (firstName f (candidates text changes) o)
+named-both : (f : List ℕ → Bool) (text : Bool → Bool → List ℕ) (changes : Bool) (o : Option (List ℕ)) → f (text true true) ≡ true
+    → Named (firstName f (candidates text changes) o)
 unfolding candidates firstName
 named-both f text true o e =
     named-step (f (text true false)) (text true false) _ (rw e tt)
@@ -93,7 +94,8 @@ module _ (F : Form) (law : Lawful F) (b : BoardBuilder) (l : List ℕ) (m : ℕ)
   unfolding castled
   castled-is file e = go (F .castles b) refl e
     where
-      go : (c : Bool) → F .castles b ≡ c → cond c (castle (b .«side_to_move») l file) (refused invalidSanMove) ≡ accepted m → (F .castles b ≡ true) × (castlingMove (b .«side_to_move») file ≡ m)
+      go : (c : Bool) → F .castles b ≡ c → cond c (castle (b .«side_to_move») l file) (refused invalidSanMove) ≡ accepted m
+          → (F .castles b ≡ true) × (castlingMove (b .«side_to_move») file ≡ m)
       go true p q = (p, castle-is (b .«side_to_move») l file m q)
       go false p q = absurd (refused-not q)
 
@@ -124,7 +126,8 @@ module _ (F : Form) (law : Lawful F) (b : BoardBuilder) (l : List ℕ) (m : ℕ)
       tried o = firstName (names F b l m) (candidates (F .text (b .pieces) m) (changesFiles (b .pieces) m)) o
 
       go : Castling F b → Named (kingFirst test castling (tried (F .resort castling)))
-      go (Castling.whatever-stands d r) = named-king test castling (tried (F .resort castling)) (named-last _ _ (F .resort castling) (rw (r castling) (pair-named (b .«side_to_move») m p)))
+      go (Castling.whatever-stands d r) =
+          named-king test castling (tried (F .resort castling)) (named-last _ _ (F .resort castling) (rw (r castling) (pair-named (b .«side_to_move») m p)))
       go (Castling.for-a-king k d r) =
           let king : kindAt (b .pieces) (sourceOf m) ≡ 6 = ap (kindAt (b .pieces)) (pair-source (b .«side_to_move») m low p) ∙ d c in
           rw (eq-eqb (kindAt (b .pieces) (sourceOf m)) 6 king) (named-first castling (tried (F .resort castling)) (pair-named (b .«side_to_move») m p))

@@ -10,7 +10,8 @@ use Rattle.square.specs.Numbers.{same}
 use Rattle.chess_move.specs.Number.{sourceOf, destOf, promotionOf}
 use Rattle.san_text.specs.declared.SanText.the-variants.{Move}
 use Rattle.san_text.specs.Place.{given, filePlace, rankPlace, squareAt, fileByte, rankByte}
-use Rattle.san_text.specs.Text.{kingSideText, queenSideText, markText, promotionKind, isCheck, first, after, pieceOr, readEnd, readPromotion, readDest, readText}
+use Rattle.san_text.specs.Text.{kingSideText, queenSideText, markText, promotionKind, isCheck, first}
+use Rattle.san_text.specs.Text.{after, pieceOr, readEnd, readPromotion, readDest, readText}
 use Rattle.san_text.specs.Resolve.{kindAt, emptyAt, captureTest}
 use Rattle.san_text.specs.Name.{optional, promotionLetter, pieceLetter, changesFiles, takesOf}
 use Rattle.san_text.specs.Paper.{markOf, endOf, sanText, paper}
@@ -55,7 +56,8 @@ read-tail k f r x sq Promotes.rook false = rw (less sq)
 read-tail k f r x sq Promotes.queen true = rw (less sq)
 read-tail k f r x sq Promotes.queen false = rw (less sq)
 
-read-both : (pieces : List ℕ) (m : ℕ) → Moves (kindAt pieces (sourceOf m)) → Promotes (promotionOf m) → readText (sanText pieces m true true) ≡ Move (bothWith pieces m (takesOf pieces m) (markOf pieces m))
+read-both : (pieces : List ℕ) (m : ℕ) → Moves (kindAt pieces (sourceOf m)) → Promotes (promotionOf m)
+    → readText (sanText pieces m true true) ≡ Move (bothWith pieces m (takesOf pieces m) (markOf pieces m))
 unfolding readText sanText endOf
 read-both pieces m k p =
     rw (text, no-castling k src (afterFile pieces m tail) (45 ∷ 79 ∷ []), no-castling k src (afterFile pieces m tail) (45 ∷ 79 ∷ 45 ∷ 79 ∷ []))

@@ -59,7 +59,8 @@ pub alone : (f g : ℕ → Bool) (l : List ℕ) (m : ℕ) → soleThat f g l ≡
 unfolding soleThat
 alone f g l m e = go (eqb (count f l) 1) (g (firstOf f l)) refl refl e
   where
-    go : (b c : Bool) → eqb (count f l) 1 ≡ b → g (firstOf f l) ≡ c → cond b (cond c (accepted (firstOf f l)) (refused invalidSanMove)) (refused invalidSanMove) ≡ accepted m → Alone f g l m
+    go : (b c : Bool) → eqb (count f l) 1 ≡ b → g (firstOf f l) ≡ c
+        → cond b (cond c (accepted (firstOf f l)) (refused invalidSanMove)) (refused invalidSanMove) ≡ accepted m → Alone f g l m
     go true true p r q =
         let one : count f l ≡ 1 = eqb-true (count f l) 1 p in
         let x : firstOf f l ≡ m = accepted-is q in
@@ -86,7 +87,10 @@ all-five false b c d e p = absurd (false≢true p)
 pub fitted : (pieces : List ℕ) (u : San) (m : ℕ) → fits pieces u m ≡ true → Fitted pieces u m
 unfolding fits
 fitted pieces u m e =
-    let h = all-five (eqb (kindAt pieces (sourceOf m)) (u .piece)) (agrees (u .file) (sourceOf m % 8 + 1)) (agrees (u .rank) (sourceOf m / 8 + 1)) (eqb (destOf m) (u .dest)) (eqb (promotionOf m) (u .promotion)) e in
+    let kind = eqb (kindAt pieces (sourceOf m)) (u .piece) in
+    let file = agrees (u .file) (sourceOf m % 8 + 1) in
+    let rank = agrees (u .rank) (sourceOf m / 8 + 1) in
+    let h = all-five kind file rank (eqb (destOf m) (u .dest)) (eqb (promotionOf m) (u .promotion)) e in
     record { kind = eqb-true _ _ (h .0); file = h .1; rank = h .2; dest = eqb-true _ _ (h .3); promotion = eqb-true _ _ (h .4) }
 
 -- ---- only the move itself fits the text with both source parts
@@ -129,7 +133,8 @@ module _ (pieces : List ℕ) (m : ℕ) (takes mark : Bool) where
       part e = omega arith
 
   -- whatever text fits the move alone, the text with both source parts does, if it passes the form's test
-  pub both-sole : (l : List ℕ) (u : San) (g g′ : ℕ → Bool) → among m l ≡ true → g′ m ≡ true → soleThat (fits pieces u) g l ≡ accepted m → soleThat (fits pieces (bothWith pieces m takes mark)) g′ l ≡ accepted m
+  pub both-sole : (l : List ℕ) (u : San) (g g′ : ℕ → Bool) → among m l ≡ true → g′ m ≡ true → soleThat (fits pieces u) g l ≡ accepted m
+      → soleThat (fits pieces (bothWith pieces m takes mark)) g′ l ≡ accepted m
   unfolding soleThat
   both-sole l u g g′ h c e =
       let f = fits pieces (bothWith pieces m takes mark) in
@@ -138,7 +143,8 @@ module _ (pieces : List ℕ) (m : ℕ) (takes mark : Bool) where
       rw (eq-eqb (count f l) 1 (s .0), s .1, c)
 
 -- a kind and a promotion that a text can say are those of the move that it names
-pub sayable : (pieces : List ℕ) (u : San) (g : ℕ → Bool) (l : List ℕ) (m : ℕ) → soleThat (fits pieces u) g l ≡ accepted m → Moves (u .piece) → Promotes (u .promotion)
+pub sayable : (pieces : List ℕ) (u : San) (g : ℕ → Bool) (l : List ℕ) (m : ℕ) → soleThat (fits pieces u) g l ≡ accepted m → Moves (u .piece)
+    → Promotes (u .promotion)
     → (Moves (kindAt pieces (sourceOf m))) × (Promotes (promotionOf m))
 sayable pieces u g l m e k p =
     let t = fitted pieces u m (alone (fits pieces u) g l m e .passes) in

@@ -34,7 +34,8 @@ module _ (P : List ℕ → Type 0) where
   unfolding castlingName
   if-castling k q side m = if-step (eqb (castlingMove side 6) m) kingSideText _ k (if-step (eqb (castlingMove side 2) m) queenSideText none q tt)
 
-  if-first : (f : List ℕ → Bool) (text : Bool → Bool → List ℕ) (changes : Bool) (o : Option (List ℕ)) → ((file rank : Bool) → P (text file rank)) → If P o → If P (firstName f (candidates text changes) o)
+  if-first : (f : List ℕ → Bool) (text : Bool → Bool → List ℕ) (changes : Bool) (o : Option (List ℕ)) → ((file rank : Bool) → P (text file rank)) → If P o
+      → If P (firstName f (candidates text changes) o)
   unfolding candidates firstName
   if-first f text changes o p q = go changes
     where
@@ -49,7 +50,8 @@ module _ (P : List ℕ → Type 0) where
   if-or p none i = p
   if-or p (some t) i = i
 
-  module _ (F : Form) (law : Lawful F) (b : BoardBuilder) (l : List ℕ) (m : ℕ) (texts : (file rank : Bool) → P (F .text (b .pieces) m file rank)) (k : P kingSideText) (q : P queenSideText) where
+  module _ (F : Form) (law : Lawful F) (b : BoardBuilder) (l : List ℕ) (m : ℕ)
+      (texts : (file rank : Bool) → P (F .text (b .pieces) m file rank)) (k : P kingSideText) (q : P queenSideText) where
     if-resort : If P (F .resort (castlingName (b .«side_to_move») m))
     if-resort = go (law .castling b)
       where

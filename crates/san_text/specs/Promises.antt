@@ -154,7 +154,9 @@ SameSanAnswer =
 
 -- between the forms: a move that document 01's namer leaves unnamed, the standard's does too; the other way round does not hold
 abbrev pub UnnamedInBoth : Type 0
-UnnamedInBoth = (b : BoardBuilder) (moves : List ℕ) (m room : ℕ) → nameAnswer b moves m room .number ≡ noName → standardNameAnswer b moves m room .number ≡ noName
+UnnamedInBoth =
+    (b : BoardBuilder) (moves : List ℕ) (m room : ℕ) → nameAnswer b moves m room .number ≡ noName
+    → standardNameAnswer b moves m room .number ≡ noName
 
 pub record NamedInOne : Type 0 where
   pub board : BoardBuilder

@@ -26,7 +26,10 @@ read-as-requires c κs = search needs
 
 -- src/lib.rt:70:9
 returns : tie.Need-returns
-returns c = c .read-as .ensures ∙ sym (ended-squares (c .before .before .before .args .text .now) (c .before .before .before .args .source) (c .before .before .before .args .dest) (c .before .if1 .taken))
+returns c =
+    let a = c .before .before .before .args in
+    let at-if1 = c .before .if1 in
+    c .read-as .ensures ∙ sym (ended-squares (a .text .now) (a .source) (a .dest) (at-if1 .taken))
 
 -- src/lib.rt:72:37
 shared-slice-read-promotion-named : tie.Need-shared-slice-read-promotion-named
@@ -42,12 +45,16 @@ fault-at-requires c κs = search needs
 
 -- src/lib.rt:74:9
 returns-2 : tie.Need-returns-2
-returns-2 c = 
-    let s = c .before .before .before .before .before .before .args .text .now in
-    let x = c .before .before .before .before .before .before .args .source in
-    let y = c .before .before .before .before .before .before .args .dest in
-    let p = c .before .before .promotion-named .result in
-    c .fault-at .ensures ∙ sym (ended-letter s x y p (c .before .before .before .before .if1 .left) (c .before .before .promotion-named .ensures) ∙ promoted-none x y p (c .before .if2 .taken))
+returns-2 c =
+    let a = c .before .before .before .before .before .before .args in
+    let at-if1 = c .before .before .before .before .if1 in
+    let at-promotion-named = c .before .before .promotion-named in
+    let at-if2 = c .before .if2 in
+    let s = a .text .now in
+    let x = a .source in
+    let y = a .dest in
+    let p = at-promotion-named .result in
+    c .fault-at .ensures ∙ sym (ended-letter s x y p (at-if1 .left) (at-promotion-named .ensures) ∙ promoted-none x y p (at-if2 .taken))
 
 -- src/lib.rt:76:37
 mul-read-as-2 : tie.Need-mul-read-as-2
@@ -59,11 +66,17 @@ add-read-as-2 c = search needs
 
 -- src/lib.rt:76:56
 mul-read-as-3 : tie.Need-mul-read-as-3
-mul-read-as-3 c = omega (arith, promotion-named-most (getD (c .before .before .before .before .before .args .text .now) 4 0), c .before .promotion-named .ensures)
+mul-read-as-3 c =
+    let a = c .before .before .before .before .before .args in
+    let at-promotion-named = c .before .promotion-named in
+    omega (arith, promotion-named-most (getD (a .text .now) 4 0), at-promotion-named .ensures)
 
 -- src/lib.rt:76:21
 add-read-as-3 : tie.Need-add-read-as-3
-add-read-as-3 c = omega (arith, promotion-named-most (getD (c .before .before .before .before .before .args .text .now) 4 0), c .before .promotion-named .ensures)
+add-read-as-3 c =
+    let a = c .before .before .before .before .before .args in
+    let at-promotion-named = c .before .promotion-named in
+    omega (arith, promotion-named-most (getD (a .text .now) 4 0), at-promotion-named .ensures)
 
 -- src/lib.rt:76:5
 read-as-requires-2 : tie.Need-read-as-requires-2
@@ -71,12 +84,16 @@ read-as-requires-2 c κs = search needs
 
 -- src/lib.rt:66:1
 returns-3 : tie.Need-returns-3
-returns-3 c = 
-    let s = c .before .before .before .before .before .before .args .text .now in
-    let x = c .before .before .before .before .before .before .args .source in
-    let y = c .before .before .before .before .before .before .args .dest in
-    let p = c .before .before .promotion-named .result in
-    c .read-as2 .ensures ∙ sym (ended-letter s x y p (c .before .before .before .before .if1 .left) (c .before .before .promotion-named .ensures) ∙ promoted-some x y p (c .before .if2 .left))
+returns-3 c =
+    let a = c .before .before .before .before .before .before .args in
+    let at-if1 = c .before .before .before .before .if1 in
+    let at-promotion-named = c .before .before .promotion-named in
+    let at-if2 = c .before .if2 in
+    let s = a .text .now in
+    let x = a .source in
+    let y = a .dest in
+    let p = at-promotion-named .result in
+    c .read-as2 .ensures ∙ sym (ended-letter s x y p (at-if1 .left) (at-promotion-named .ensures) ∙ promoted-some x y p (at-if2 .left))
 
 pub ended-spec : {M : Type 1} → statement M
 ended-spec =

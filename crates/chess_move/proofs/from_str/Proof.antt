@@ -58,22 +58,39 @@ told-requires-3 c κs = search needs
 
 -- src/lib.rt:91:1
 returns : tie.Need-returns
-returns c = 
-    let s = c .before .before .before .before .before .before .before .before .args .text .now in
-    let behind = c .before .from-str2 .ensures ∙ ap readSquare (c .before .before .rest .ensures) in
-    c .with-dest .ensures ∙ ap (withDest s _) behind ∙ sym (with-source s _ (sym (c .before .before .before .before .before .before .from-str .ensures) ∙ c .before .before .before .before .source .given .1))
+returns c =
+    let a = c .before .before .before .before .before .before .before .before .args in
+    let at-from-str = c .before .before .before .before .before .before .from-str in
+    let at-source = c .before .before .before .before .source in
+    let at-rest = c .before .before .rest in
+    let at-from-str2 = c .before .from-str2 in
+    let s = a .text .now in
+    let behind = at-from-str2 .ensures ∙ ap readSquare (at-rest .ensures) in
+    c .with-dest .ensures ∙ ap (withDest s _) behind ∙ sym (with-source s _ (sym (at-from-str .ensures) ∙ at-source .given .1))
 
 -- src/lib.rt:91:1
 returns-2 : tie.Need-returns-2
-returns-2 c = c .told .ensures ∙ sym (bad-file (c .before .before .before .before .before .args .text .now) (sym (c .before .before .before .from-str .ensures) ∙ c .before .enum-told .given .1))
+returns-2 c =
+    let a = c .before .before .before .before .before .args in
+    let at-from-str = c .before .before .before .from-str in
+    let at-enum-told = c .before .enum-told in
+    c .told .ensures ∙ sym (bad-file (a .text .now) (sym (at-from-str .ensures) ∙ at-enum-told .given .1))
 
 -- src/lib.rt:91:1
 returns-3 : tie.Need-returns-3
-returns-3 c = c .told2 .ensures ∙ sym (bad-rank (c .before .before .before .before .before .args .text .now) (sym (c .before .before .before .from-str .ensures) ∙ c .before .enum-told2 .given .1))
+returns-3 c =
+    let a = c .before .before .before .before .before .args in
+    let at-from-str = c .before .before .before .from-str in
+    let at-enum-told2 = c .before .enum-told2 in
+    c .told2 .ensures ∙ sym (bad-rank (a .text .now) (sym (at-from-str .ensures) ∙ at-enum-told2 .given .1))
 
 -- src/lib.rt:91:1
 returns-4 : tie.Need-returns-4
-returns-4 c = c .told3 .ensures ∙ sym (missing (c .before .before .before .before .before .args .text .now) (sym (c .before .before .before .from-str .ensures) ∙ c .before .enum-told3 .given .1))
+returns-4 c =
+    let a = c .before .before .before .before .before .args in
+    let at-from-str = c .before .before .before .from-str in
+    let at-enum-told3 = c .before .enum-told3 in
+    c .told3 .ensures ∙ sym (missing (a .text .now) (sym (at-from-str .ensures) ∙ at-enum-told3 .given .1))
 
 pub from-str-spec : {M : Type 1} → statement M
 from-str-spec =

@@ -57,9 +57,13 @@ same-length : tie.Need-same-length
 same-length c = search needs
 
 returns-2 : tie.Need-returns-2
-returns-2 c = let a = c .before .before .before .before .before .before .before .before .before .args in
-    let k : moveCheck (a .n) ≡ 0 = simp (le-leb _ _ (c .before .before .before .before .before .before .before .if1 .left)) in
-    rw (k, text-four (a .n) (c .before .before .before .before .before .if2 .taken)) (c .before .before .write-text .ensures .0, c .before .before .write-text .ensures .1)
+returns-2 c =
+    let a = c .before .before .before .before .before .before .before .before .before .args in
+    let at-if1 = c .before .before .before .before .before .before .before .if1 in
+    let at-if2 = c .before .before .before .before .before .if2 in
+    let at-write-text = c .before .before .write-text in
+    let k : moveCheck (a .n) ≡ 0 = simp (le-leb _ _ (at-if1 .left)) in
+    rw (k, text-four (a .n) (at-if2 .taken)) (at-write-text .ensures .0, at-write-text .ensures .1)
 
 slice-aggregate-write-text-2 : tie.Need-slice-aggregate-write-text-2
 slice-aggregate-write-text-2 c = search needs
@@ -71,9 +75,14 @@ same-length-2 : tie.Need-same-length-2
 same-length-2 c = search needs
 
 returns-3 : tie.Need-returns-3
-returns-3 c = let a = c .before .before .before .before .before .before .before .before .before .args in
-    let k : moveCheck (a .n) ≡ 0 = simp (le-leb _ _ (c .before .before .before .before .before .before .before .if1 .left)) in
-    rw (k, text-five (a .n) (c .before .before .before .before .before .if2 .left), ← c .before .before .before .before .before .before .letter-of-piece .ensures) (c .before .before .write-text2 .ensures .0, c .before .before .write-text2 .ensures .1)
+returns-3 c =
+    let a = c .before .before .before .before .before .before .before .before .before .args in
+    let at-if1 = c .before .before .before .before .before .before .before .if1 in
+    let at-letter-of-piece = c .before .before .before .before .before .before .letter-of-piece in
+    let at-if2 = c .before .before .before .before .before .if2 in
+    let at-write-text2 = c .before .before .write-text2 in
+    let k : moveCheck (a .n) ≡ 0 = simp (le-leb _ _ (at-if1 .left)) in
+    rw (k, text-five (a .n) (at-if2 .left), ← at-letter-of-piece .ensures) (at-write-text2 .ensures .0, at-write-text2 .ensures .1)
 
 pub to-string-spec : {M : Type 1} → statement M
 to-string-spec =

@@ -11,13 +11,20 @@ moves-since-requires : tie.Need-moves-since-requires
 moves-since-requires c κs = search needs
 
 returns : tie.Need-returns
-returns c = sym (claim-by-count (c .before .before .before .args .ps .now) (c .before .before .before .args .m) (c .before .before .before .args .r) (omega (arith, c .if1 .taken, c .before .moves-since .ensures)))
+returns c =
+    let a = c .before .before .before .args in
+    let at-moves-since = c .before .moves-since in
+    sym (claim-by-count (a .ps .now) (a .m) (a .r) (omega (arith, c .if1 .taken, at-moves-since .ensures)))
 
 equals-two-earlier-requires : tie.Need-equals-two-earlier-requires
 equals-two-earlier-requires c κs = search needs
 
 returns-2 : tie.Need-returns-2
-returns-2 c = c .equals-two-earlier .ensures ∙ sym (claim-by-run (c .before .before .before .before .args .ps .now) (c .before .before .before .before .args .m) (c .before .before .before .before .args .r) (omega (arith, c .before .if1 .left, c .before .before .moves-since .ensures)))
+returns-2 c =
+    let a = c .before .before .before .before .args in
+    let at-moves-since = c .before .before .moves-since in
+    let at-if1 = c .before .if1 in
+    c .equals-two-earlier .ensures ∙ sym (claim-by-run (a .ps .now) (a .m) (a .r) (omega (arith, at-if1 .left, at-moves-since .ensures)))
 
 pub claim-in-spec : {M : Type 1} → statement M
 claim-in-spec =

@@ -17,13 +17,23 @@ kind-of-requires : tie.Need-kind-of-requires
 kind-of-requires c κs = search needs
 
 returns : tie.Need-returns
-returns c = sym (by-pawn (c .before .before .before .before .args .p .now) (c .before .before .before .before .args .m) (ap kindOf (sym (c .before .before .byte-at .ensures)) ∙ sym (c .before .kind-of .ensures) ∙ c .if1 .taken))
+returns c =
+    let a = c .before .before .before .before .args in
+    let at-byte-at = c .before .before .byte-at in
+    let at-kind-of = c .before .kind-of in
+    sym (by-pawn (a .p .now) (a .m) (ap kindOf (sym (at-byte-at .ensures)) ∙ sym (at-kind-of .ensures) ∙ c .if1 .taken))
 
 byte-at-requires-2 : tie.Need-byte-at-requires-2
 byte-at-requires-2 c κs = search needs
 
 returns-2 : tie.Need-returns-2
-returns-2 c = ap (λ (a : ℕ). not (eqb a 0)) (c .byte-at2 .ensures) ∙ sym (by-square (c .before .before .before .before .before .args .p .now) (c .before .before .before .before .before .args .m) (λ e. c .before .if1 .left (c .before .before .kind-of .ensures ∙ ap kindOf (c .before .before .before .byte-at .ensures) ∙ e)))
+returns-2 c =
+    let at-args = c .before .before .before .before .before .args in
+    let at-byte-at = c .before .before .before .byte-at in
+    let at-kind-of = c .before .before .kind-of in
+    let at-if1 = c .before .if1 in
+    ap (λ (a : ℕ). not (eqb a 0)) (c .byte-at2 .ensures)
+    ∙ sym (by-square (at-args .p .now) (at-args .m) (λ e. at-if1 .left (at-kind-of .ensures ∙ ap kindOf (at-byte-at .ensures) ∙ e)))
 
 pub is-irreversible-spec : {M : Type 1} → statement M
 is-irreversible-spec =

@@ -16,7 +16,11 @@ byte-at-requires-2 : tie.Need-byte-at-requires-2
 byte-at-requires-2 c κs = search needs
 
 returns : tie.Need-returns
-returns c = sym (by-white (c .before .before .before .before .before .args .p .now) (c .before .before .before .before .before .args .q .now) (λ e. c .if1 .taken (c .before .before .byte-at .ensures ∙ e ∙ sym (c .before .byte-at2 .ensures))))
+returns c =
+    let a = c .before .before .before .before .before .args in
+    let at-byte-at = c .before .before .byte-at in
+    let at-byte-at2 = c .before .byte-at2 in
+    sym (by-white (a .p .now) (a .q .now) (λ e. c .if1 .taken (at-byte-at .ensures ∙ e ∙ sym (at-byte-at2 .ensures))))
 
 byte-at-requires-3 : tie.Need-byte-at-requires-3
 byte-at-requires-3 c κs = search needs
@@ -25,7 +29,14 @@ byte-at-requires-4 : tie.Need-byte-at-requires-4
 byte-at-requires-4 c κs = search needs
 
 returns-2 : tie.Need-returns-2
-returns-2 c = ap₂ (λ (a b : ℕ). not (eqb a b)) (c .before .byte-at3 .ensures) (c .byte-at4 .ensures) ∙ sym (by-black (c .before .before .before .before .before .before .before .args .p .now) (c .before .before .before .before .before .before .before .args .q .now) (sym (c .before .before .before .before .byte-at .ensures) ∙ c .before .before .if1 .left ∙ c .before .before .before .byte-at2 .ensures))
+returns-2 c =
+    let at-args = c .before .before .before .before .before .before .before .args in
+    let at-byte-at = c .before .before .before .before .byte-at in
+    let at-byte-at2 = c .before .before .before .byte-at2 in
+    let at-if1 = c .before .before .if1 in
+    let at-byte-at3 = c .before .byte-at3 in
+    ap₂ (λ (a b : ℕ). not (eqb a b)) (at-byte-at3 .ensures) (c .byte-at4 .ensures)
+    ∙ sym (by-black (at-args .p .now) (at-args .q .now) (sym (at-byte-at .ensures) ∙ at-if1 .left ∙ at-byte-at2 .ensures))
 
 pub rights-differ-spec : {M : Type 1} → statement M
 rights-differ-spec =

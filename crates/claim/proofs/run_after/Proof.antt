@@ -23,7 +23,13 @@ from-requires-2 c κs = search needs
 
 returns : tie.Need-returns
 unfolding runAfter
-returns c = simp (c .before .before .from .ensures, c .from2 .ensures, c .before .before .before .either .ensures, c .before .either2 .ensures, c .before .before .before .before .before .is-irreversible .ensures, c .before .before .before .before .rights-differ .ensures)
+returns c =
+    let at-is-irreversible = c .before .before .before .before .before .is-irreversible in
+    let at-rights-differ = c .before .before .before .before .rights-differ in
+    let at-either = c .before .before .before .either in
+    let at-from = c .before .before .from in
+    let at-either2 = c .before .either2 in
+    simp (at-from .ensures, c .from2 .ensures, at-either .ensures, at-either2 .ensures, at-is-irreversible .ensures, at-rights-differ .ensures)
 
 pub run-after-spec : {M : Type 1} → statement M
 run-after-spec =

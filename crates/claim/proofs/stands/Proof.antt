@@ -9,7 +9,9 @@ use Rattle.claim.proofs.stands.Statement.{statement}
 use Rattle.claim.proofs.stands.Tie as tie
 
 returns : tie.Need-returns
-returns c = sym (not-there (c .before .before .before .args .acts .now) (c .before .before .before .args .ps .now) (c .before .before .before .args .n) (c .before .before .before .args .m) (omega (arith, c .if1 .taken)))
+returns c =
+    let a = c .before .before .before .args in
+    sym (not-there (a .acts .now) (a .ps .now) (a .n) (a .m) (omega (arith, c .if1 .taken)))
 
 run-at-requires : tie.Need-run-at-requires
 run-at-requires c κs = search needs
@@ -18,7 +20,13 @@ claim-in-requires : tie.Need-claim-in-requires
 claim-in-requires c κs = search needs
 
 returns-2 : tie.Need-returns-2
-returns-2 c = c .claim-in .ensures ∙ ap (claimIn (c .before .before .before .before .before .args .ps .now) (c .before .before .before .before .before .args .m)) (c .before .run-at .ensures) ∙ sym (there (c .before .before .before .before .before .args .acts .now) (c .before .before .before .before .before .args .ps .now) (c .before .before .before .before .before .args .n) (c .before .before .before .before .before .args .m) (omega (arith, c .before .before .if1 .left)))
+returns-2 c =
+    let a = c .before .before .before .before .before .args in
+    let at-if1 = c .before .before .if1 in
+    let at-run-at = c .before .run-at in
+    c .claim-in .ensures
+    ∙ ap (claimIn (a .ps .now) (a .m)) (at-run-at .ensures)
+    ∙ sym (there (a .acts .now) (a .ps .now) (a .n) (a .m) (omega (arith, at-if1 .left)))
 
 pub stands-spec : {M : Type 1} → statement M
 stands-spec = tie.close (tie.spec returns run-at-requires claim-in-requires returns-2)

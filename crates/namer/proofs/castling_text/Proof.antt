@@ -21,7 +21,14 @@ same-length c = search needs
 
 returns : tie.Need-returns
 unfolding castlingName
-returns c = rw (← c .before .before .before .before .before .before .castling-move .ensures, eq-eqb _ _ (c .before .before .before .before .before .if1 .taken)) (found-written kingSideText (c .before .before .before .before .before .before .before .before .args .bytes .now) _ (lit≤ tt, lit≤ tt) (c .before .before .before .before .before .before .before .before .pre) (c .before .before .write-text .ensures .1))
+returns c =
+    let a = c .before .before .before .before .before .before .before .before .args in
+    let at-pre = c .before .before .before .before .before .before .before .before .pre in
+    let at-castling-move = c .before .before .before .before .before .before .castling-move in
+    let at-if1 = c .before .before .before .before .before .if1 in
+    let at-write-text = c .before .before .write-text in
+    rw (← at-castling-move .ensures, eq-eqb _ _ (at-if1 .taken))
+    (found-written kingSideText (a .bytes .now) _ (lit≤ tt, lit≤ tt) at-pre (at-write-text .ensures .1))
 
 castling-move-requires-2 : tie.Need-castling-move-requires-2
 castling-move-requires-2 c κs = search needs
@@ -37,11 +44,26 @@ same-length-2 c = search needs
 
 returns-2 : tie.Need-returns-2
 unfolding castlingName
-returns-2 c = rw (← c .before .before .before .before .before .before .before .before .castling-move .ensures, ne-eqb _ _ (c .before .before .before .before .before .before .before .if1 .left), ← c .before .before .before .before .before .before .castling-move2 .ensures, eq-eqb _ _ (c .before .before .before .before .before .if2 .taken)) (found-written queenSideText (c .before .before .before .before .before .before .before .before .before .before .args .bytes .now) _ (lit≤ tt, lit≤ tt) (c .before .before .before .before .before .before .before .before .before .before .pre) (c .before .before .write-text2 .ensures .1))
+returns-2 c =
+    let a = c .before .before .before .before .before .before .before .before .before .before .args in
+    let at-pre = c .before .before .before .before .before .before .before .before .before .before .pre in
+    let at-castling-move = c .before .before .before .before .before .before .before .before .castling-move in
+    let at-if1 = c .before .before .before .before .before .before .before .if1 in
+    let at-castling-move2 = c .before .before .before .before .before .before .castling-move2 in
+    let at-if2 = c .before .before .before .before .before .if2 in
+    let at-write-text2 = c .before .before .write-text2 in
+    rw (← at-castling-move .ensures, ne-eqb _ _ (at-if1 .left), ← at-castling-move2 .ensures, eq-eqb _ _ (at-if2 .taken))
+    (found-written queenSideText (a .bytes .now) _ (lit≤ tt, lit≤ tt) at-pre (at-write-text2 .ensures .1))
 
 returns-3 : tie.Need-returns-3
 unfolding castlingName
-returns-3 c = rw (← c .before .before .before .castling-move .ensures, ne-eqb _ _ (c .before .before .if1 .left), ← c .before .castling-move2 .ensures, ne-eqb _ _ (c .if2 .left)) (found-none (c .before .before .before .before .before .args .bytes .now) (c .before .before .before .before .before .pre))
+returns-3 c =
+    let a = c .before .before .before .before .before .args in
+    let at-pre = c .before .before .before .before .before .pre in
+    let at-castling-move = c .before .before .before .castling-move in
+    let at-if1 = c .before .before .if1 in
+    let at-castling-move2 = c .before .castling-move2 in
+    rw (← at-castling-move .ensures, ne-eqb _ _ (at-if1 .left), ← at-castling-move2 .ensures, ne-eqb _ _ (c .if2 .left)) (found-none (a .bytes .now) at-pre)
 
 pub castling-text-spec : {M : Type 1} → statement M
 castling-text-spec =

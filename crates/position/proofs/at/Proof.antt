@@ -28,7 +28,10 @@ part-result-end : tie.Need-part-result-end
 part-result-end c = search needs
 
 returns-2 : tie.Need-returns-2
-returns-2 c = sym (item-cut positionSize (c .before .before .before .before .args .k) (c .before .before .before .before .args .ps .now) (omega (arith, c .before .if2 .taken)))
+returns-2 c =
+    let a = c .before .before .before .before .args in
+    let at-if2 = c .before .if2 in
+    sym (item-cut positionSize (a .k) (a .ps .now) (omega (arith, at-if2 .taken)))
 
 position-requires : tie.Need-position-requires
 position-requires c κs = search needs

@@ -27,7 +27,9 @@ position-requires : tie.Need-position-requires Inv-loop μ-loop Inv-pairs μ-pai
 position-requires c κs = omega arith
 
 pairs-holds : tie.Need-pairs-holds Inv-loop μ-loop Inv-pairs μ-pairs
-pairs-holds c = (omega arith, omega arith, refl, omega (arith, earlier-none (c .before .before .args .ps .now) (positionAt (c .before .before .args .ps .now) (c .before .before .args .last)) (c .before .before .args .first)))
+pairs-holds c =
+    let a = c .before .before .args in
+    (omega arith, omega arith, refl, omega (arith, earlier-none (a .ps .now) (positionAt (a .ps .now) (a .last)) (a .first)))
 
 position-requires-2 : tie.Need-position-requires-2 Inv-loop μ-loop Inv-pairs μ-pairs
 position-requires-2 c κs = omega arith
@@ -51,14 +53,21 @@ loop-less : tie.Need-loop-less Inv-loop μ-loop Inv-pairs μ-pairs
 loop-less c = omega arith
 
 loop-again : tie.Need-loop-again Inv-loop μ-loop Inv-pairs μ-pairs
-loop-again c = (
-  omega arith,
-  omega arith,
-  c .before .before .before .before .loop .inv .2,
-  earlier-other (c .before .before .before .before .before .before .before .before .before .before .before .before .args .ps .now) (positionAt (c .before .before .before .before .before .before .before .before .before .before .before .before .args .ps .now) (c .before .before .before .before .before .before .before .before .before .before .before .before .args .last)) (c .before .before .before .before .before .before .before .before .before .before .before .before .args .first) (c .before .before .before .before .loop .j) (omega arith)
-      (equal-at (c .before .before .before .before .before .before .before .before .before .before .before .before .args .ps .now) (c .before .before .before .before .loop .j) (c .before .before .before .before .before .before .before .before .before .before .before .before .args .last) _ _ _ _ (c .before .before .position3 .ensures .is) (c .before .before .before .before .before .before .before .before .before .before .position .ensures .is) (c .before .same-position2 .ensures) (c .if2 .left))
-      ∙ c .before .before .before .before .loop .inv .3,
-)
+loop-again c =
+    let a = c .before .before .before .before .before .before .before .before .before .before .before .before .args in
+    let at-position = c .before .before .before .before .before .before .before .before .before .before .position in
+    let at-loop = c .before .before .before .before .loop in
+    let at-position3 = c .before .before .position3 in
+    let at-same-position2 = c .before .same-position2 in
+    (
+      omega arith,
+      omega arith,
+      at-loop .inv .2,
+      earlier-other (a .ps .now) (positionAt (a .ps .now) (a .last)) (a .first) (at-loop .j) (omega arith)
+          (equal-at (a .ps .now) (at-loop .j) (a .last) _ _ _ _ (at-position3 .ensures .is) (at-position .ensures .is)
+              (at-same-position2 .ensures) (c .if2 .left))
+          ∙ at-loop .inv .3,
+    )
 
 add-i : tie.Need-add-i Inv-loop μ-loop Inv-pairs μ-pairs
 add-i c = omega arith
@@ -68,38 +77,56 @@ pairs-less c = omega arith
 
 pairs-again : tie.Need-pairs-again Inv-loop μ-loop Inv-pairs μ-pairs
 pairs-again c =
+    let a = c .before .before .before .before .before .before .before .args in
+    let at-position = c .before .before .before .before .before .position in
+    let at-pairs = c .before .before .before .before .pairs in
+    let at-position2 = c .before .before .position2 in
+    let at-same-position = c .before .same-position in
     ⊎-elim
     (λ w.
-    let e : w .1 .j ≡ c .before .before .before .before .pairs .i = omega arith in (
+    let e : w .1 .j ≡ at-pairs .i = omega arith in (
       omega arith,
       omega arith,
       w .3 ∙ w .1 .inv .2,
-      turn-equal (c .before .before .before .before .before .before .before .args .ps .now) (positionAt (c .before .before .before .before .before .before .before .args .ps .now) (c .before .before .before .before .before .before .before .args .last)) (c .before .before .before .before .before .before .before .args .first) (c .before .before .before .before .pairs .i) (omega arith)
-          (equal-at (c .before .before .before .before .before .before .before .args .ps .now) (c .before .before .before .before .pairs .i) (c .before .before .before .before .before .before .before .args .last) _ _ _ _ (c .before .before .position2 .ensures .is) (c .before .before .before .before .before .position .ensures .is) (c .before .same-position .ensures) (w .0 .taken))
+      turn-equal (a .ps .now) (positionAt (a .ps .now) (a .last)) (a .first) (at-pairs .i) (omega arith)
+          (equal-at (a .ps .now) (at-pairs .i) (a .last) _ _ _ _ (at-position2 .ensures .is) (at-position .ensures .is)
+              (at-same-position .ensures) (w .0 .taken))
           (rw e at (w .1 .inv .3)),
     ))
     (λ w. (
       omega arith,
       omega arith,
-      w .1 ∙ c .before .before .before .before .pairs .inv .2,
-      turn-other (c .before .before .before .before .before .before .before .args .ps .now) (positionAt (c .before .before .before .before .before .before .before .args .ps .now) (c .before .before .before .before .before .before .before .args .last)) (c .before .before .before .before .before .before .before .args .first) (c .before .before .before .before .pairs .i) (omega arith)
-          (equal-at (c .before .before .before .before .before .before .before .args .ps .now) (c .before .before .before .before .pairs .i) (c .before .before .before .before .before .before .before .args .last) _ _ _ _ (c .before .before .position2 .ensures .is) (c .before .before .before .before .before .position .ensures .is) (c .before .same-position .ensures) (w .0 .left))
-          (c .before .before .before .before .pairs .inv .3),
+      w .1 ∙ at-pairs .inv .2,
+      turn-other (a .ps .now) (positionAt (a .ps .now) (a .last)) (a .first) (at-pairs .i) (omega arith)
+          (equal-at (a .ps .now) (at-pairs .i) (a .last) _ _ _ _ (at-position2 .ensures .is) (at-position .ensures .is)
+              (at-same-position .ensures) (w .0 .left))
+          (at-pairs .inv .3),
     ))
     (c .if1 .came)
 
 returns : tie.Need-returns Inv-loop μ-loop Inv-pairs μ-pairs
 returns c =
-    c .before .pairs .inv .2
-    ∙ sym (one-found (c .before .before .before .before .args .ps .now) _ (c .before .before .before .before .args .first) (c .before .pairs .i) (c .before .before .before .before .args .last) (omega arith) (c .before .pairs .inv .3))
+    let a = c .before .before .before .before .args in
+    let at-pairs = c .before .pairs in
+    at-pairs .inv .2
+    ∙ sym (one-found (a .ps .now) _ (a .first) (at-pairs .i) (a .last) (omega arith) (at-pairs .inv .3))
 
 returns-2 : tie.Need-returns-2 Inv-loop μ-loop Inv-pairs μ-pairs
 returns-2 c =
+    let a = c .before .before .before .before .before .before .before .before .before .before .before .before .args in
+    let at-position = c .before .before .before .before .before .before .before .before .before .before .position in
+    let at-pairs = c .before .before .before .before .before .before .before .before .before .pairs in
+    let at-position2 = c .before .before .before .before .before .before .before .position2 in
+    let at-same-position = c .before .before .before .before .before .before .same-position in
+    let at-if1 = c .before .before .before .before .before .if1 in
+    let at-loop = c .before .before .before .before .loop in
+    let at-position3 = c .before .before .position3 in
+    let at-same-position2 = c .before .same-position2 in
     sym
-    (le-leb 2 (earlier (c .before .before .before .before .before .before .before .before .before .before .before .before .args .ps .now) (positionAt (c .before .before .before .before .before .before .before .before .before .before .before .before .args .ps .now) (c .before .before .before .before .before .before .before .before .before .before .before .before .args .last)) (c .before .before .before .before .before .before .before .before .before .before .before .before .args .first) (c .before .before .before .before .before .before .before .before .before .before .before .before .args .last))
-    (two-found (c .before .before .before .before .before .before .before .before .before .before .before .before .args .ps .now) (positionAt (c .before .before .before .before .before .before .before .before .before .before .before .before .args .ps .now) (c .before .before .before .before .before .before .before .before .before .before .before .before .args .last)) (c .before .before .before .before .before .before .before .before .before .before .before .before .args .first) (c .before .before .before .before .before .before .before .before .before .pairs .i) (c .before .before .before .before .loop .j) (c .before .before .before .before .before .before .before .before .before .before .before .before .args .last) (omega arith) (omega arith) (omega arith)
-    (equal-at (c .before .before .before .before .before .before .before .before .before .before .before .before .args .ps .now) (c .before .before .before .before .loop .j) (c .before .before .before .before .before .before .before .before .before .before .before .before .args .last) _ _ _ _ (c .before .before .position3 .ensures .is) (c .before .before .before .before .before .before .before .before .before .before .position .ensures .is) (c .before .same-position2 .ensures) (c .if2 .taken))
-    (equal-at (c .before .before .before .before .before .before .before .before .before .before .before .before .args .ps .now) (c .before .before .before .before .before .before .before .before .before .pairs .i) (c .before .before .before .before .before .before .before .before .before .before .before .before .args .last) _ _ _ _ (c .before .before .before .before .before .before .before .position2 .ensures .is) (c .before .before .before .before .before .before .before .before .before .before .position .ensures .is) (c .before .before .before .before .before .before .same-position .ensures) (c .before .before .before .before .before .if1 .taken))))
+    (le-leb 2 (earlier (a .ps .now) (positionAt (a .ps .now) (a .last)) (a .first) (a .last))
+    (two-found (a .ps .now) (positionAt (a .ps .now) (a .last)) (a .first) (at-pairs .i) (at-loop .j) (a .last) (omega arith) (omega arith) (omega arith)
+    (equal-at (a .ps .now) (at-loop .j) (a .last) _ _ _ _ (at-position3 .ensures .is) (at-position .ensures .is) (at-same-position2 .ensures) (c .if2 .taken))
+    (equal-at (a .ps .now) (at-pairs .i) (a .last) _ _ _ _ (at-position2 .ensures .is) (at-position .ensures .is) (at-same-position .ensures) (at-if1 .taken))))
 
 pub repeated-spec : {M : Type 1} → statement M
 repeated-spec =

@@ -55,10 +55,16 @@ same-bytes-requires-2 c κs = search needs
 
 returns-2 : tie.Need-returns-2
 returns-2 c =
+    let a = c .before .before .before .before .before .before .before .before .before .before .args in
+    let at-pre = c .before .before .before .before .before .before .before .before .before .before .pre in
+    let at-shared-slice-known2 = c .before .before .before .before .before .before .before .before .shared-slice-known2 in
+    let at-same-bytes = c .before .before .before .before .before .same-bytes in
+    let at-if1 = c .before .before .before .before .if1 in
+    let at-shared-slice-known3 = c .before .before .before .shared-slice-known3 in
     c .same-bytes2 .ensures
-    ∙ same-lists (c .before .before .before .before .before .before .before .before .before .before .args .p .now) (c .before .before .before .before .before .before .before .before .before .before .args .q .now)
-    (λ i. c .before .before .before .shared-slice-known3 .given i .fits) (λ i. c .before .before .before .before .before .before .before .before .shared-slice-known2 .given i .fits) (c .before .before .before .before .before .before .before .before .before .before .pre .0) (c .before .before .before .before .before .before .before .before .before .before .pre .1)
-    ∙ sym (equal-lists (c .before .before .before .before .before .before .before .before .before .before .args .p .now) (c .before .before .before .before .before .before .before .before .before .before .args .q .now) (sym (c .before .before .before .before .before .same-bytes .ensures) ∙ not-false _ (c .before .before .before .before .if1 .left)))
+    ∙ same-lists (a .p .now) (a .q .now)
+      (λ i. at-shared-slice-known3 .given i .fits) (λ i. at-shared-slice-known2 .given i .fits) (at-pre .0) (at-pre .1)
+    ∙ sym (equal-lists (a .p .now) (a .q .now) (sym (at-same-bytes .ensures) ∙ not-false _ (at-if1 .left)))
 
 pub same-position-spec : {M : Type 1} → statement M
 same-position-spec =

@@ -21,29 +21,45 @@ add-push-if c = search needs
 
 push-if-requires-2 : tie.Need-push-if-requires-2
 push-if-requires-2 c κs =
-    let h = one-put (not (eqb (c .before .before .before .piece-byte .result) 0)) (c .before .before .before .piece-byte .result) (c .before .push-if .ensures) in
-    (c .before .push-if .ensures .long, omega arith)
+    let at-piece-byte = c .before .before .before .piece-byte in
+    let at-push-if = c .before .push-if in
+    let h = one-put (not (eqb (at-piece-byte .result) 0)) (at-piece-byte .result) (at-push-if .ensures) in
+    (at-push-if .ensures .long, omega arith)
 
 add-push-if-2 : tie.Need-add-push-if-2
 add-push-if-2 c = search needs
 
 push-if-requires-3 : tie.Need-push-if-requires-3
 push-if-requires-3 c κs =
-    let h = one-put (not (eqb (c .before .before .before .before .before .piece-byte .result) 0)) (c .before .before .before .before .before .piece-byte .result) (c .before .before .before .push-if .ensures) in
-    let k = one-put (c .before .before .before .before .before .before .args .file) (97 + c .before .before .before .before .before .before .args .source % 8) (c .before .push-if2 .ensures) in
-    (c .before .push-if2 .ensures .long, omega arith)
+    let a = c .before .before .before .before .before .before .args in
+    let at-piece-byte = c .before .before .before .before .before .piece-byte in
+    let at-push-if = c .before .before .before .push-if in
+    let at-push-if2 = c .before .push-if2 in
+    let h = one-put (not (eqb (at-piece-byte .result) 0)) (at-piece-byte .result) (at-push-if .ensures) in
+    let k = one-put (a .file) (97 + a .source % 8) (at-push-if2 .ensures) in
+    (at-push-if2 .ensures .long, omega arith)
 
 push-if-requires-4 : tie.Need-push-if-requires-4
 push-if-requires-4 c κs =
-    let h = one-put (not (eqb (c .before .before .before .before .before .before .before .piece-byte .result) 0)) (c .before .before .before .before .before .before .before .piece-byte .result) (c .before .before .before .before .before .push-if .ensures) in
-    let k = one-put (c .before .before .before .before .before .before .before .before .args .file) (97 + c .before .before .before .before .before .before .before .before .args .source % 8) (c .before .before .before .push-if2 .ensures) in
-    let l = one-put (c .before .before .before .before .before .before .before .before .args .rank) (49 + c .before .before .before .before .before .before .before .before .args .source / 8) (c .before .push-if3 .ensures) in
-    (c .before .push-if3 .ensures .long, omega arith)
+    let a = c .before .before .before .before .before .before .before .before .args in
+    let at-piece-byte = c .before .before .before .before .before .before .before .piece-byte in
+    let at-push-if = c .before .before .before .before .before .push-if in
+    let at-push-if2 = c .before .before .before .push-if2 in
+    let at-push-if3 = c .before .push-if3 in
+    let h = one-put (not (eqb (at-piece-byte .result) 0)) (at-piece-byte .result) (at-push-if .ensures) in
+    let k = one-put (a .file) (97 + a .source % 8) (at-push-if2 .ensures) in
+    let l = one-put (a .rank) (49 + a .source / 8) (at-push-if3 .ensures) in
+    (at-push-if3 .ensures .long, omega arith)
 
 returns : tie.Need-returns
 returns c =
-    let letter = ap letterIf (c .before .before .before .before .before .before .before .before .piece-byte .ensures) ∙ letter-piece (c .before .before .before .before .before .before .before .before .before .args .kind) in
-    put-both (put-as letter (c .before .before .before .before .before .before .push-if .ensures)) (put-both (c .before .before .before .before .push-if2 .ensures) (put-both (c .before .before .push-if3 .ensures) (c .push-if4 .ensures)))
+    let a = c .before .before .before .before .before .before .before .before .before .args in
+    let at-piece-byte = c .before .before .before .before .before .before .before .before .piece-byte in
+    let at-push-if = c .before .before .before .before .before .before .push-if in
+    let at-push-if2 = c .before .before .before .before .push-if2 in
+    let at-push-if3 = c .before .before .push-if3 in
+    let letter = ap letterIf (at-piece-byte .ensures) ∙ letter-piece (a .kind) in
+    put-both (put-as letter (at-push-if .ensures)) (put-both (at-push-if2 .ensures) (put-both (at-push-if3 .ensures) (c .push-if4 .ensures)))
 
 pub head-spec : {M : Type 1} → statement M
 head-spec =

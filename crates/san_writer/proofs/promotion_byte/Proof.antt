@@ -22,7 +22,8 @@ returns-4 c = sym (ap promotionByte (c .match .keys4))
 
 returns-5 : tie.Need-returns-5
 unfolding promotionByte
-returns-5 c = simp (ne-eqb _ 2 (c .match .rest .0 .0 .0 .1), ne-eqb _ 3 (c .match .rest .0 .0 .1), ne-eqb _ 4 (c .match .rest .0 .1), ne-eqb _ 5 (c .match .rest .1))
+returns-5 c =
+    simp (ne-eqb _ 2 (c .match .rest .0 .0 .0 .1), ne-eqb _ 3 (c .match .rest .0 .0 .1), ne-eqb _ 4 (c .match .rest .0 .1), ne-eqb _ 5 (c .match .rest .1))
 
 pub promotion-byte-spec : {M : Type 1} → statement M
 promotion-byte-spec = tie.close (tie.spec returns returns-2 returns-3 returns-4 returns-5)

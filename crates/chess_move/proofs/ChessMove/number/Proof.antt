@@ -20,7 +20,11 @@ refused-requires-3 : tie.Need-refused-requires-3
 refused-requires-3 c κs = search needs
 
 returns-3 : tie.Need-returns-3
-returns-3 c = c .refused3 .ensures ∙ simp (le-leb _ _ (c .before .before .before .before .before .if1 .left), le-leb _ _ (c .before .before .before .if2 .left), lt-leb _ 6 (c .before .if3 .taken))
+returns-3 c =
+    let at-if1 = c .before .before .before .before .before .if1 in
+    let at-if2 = c .before .before .before .if2 in
+    let at-if3 = c .before .if3 in
+    c .refused3 .ensures ∙ simp (le-leb _ _ (at-if1 .left), le-leb _ _ (at-if2 .left), lt-leb _ 6 (at-if3 .taken))
 
 cast-accepted : tie.Need-cast-accepted
 cast-accepted c = search needs
@@ -47,7 +51,11 @@ accepted-requires : tie.Need-accepted-requires
 accepted-requires c κs = search needs
 
 returns-4 : tie.Need-returns-4
-returns-4 c = c .accepted .ensures ∙ simp (le-leb _ _ (c .before .before .before .before .before .before .before .before .if1 .left), le-leb _ _ (c .before .before .before .before .before .before .if2 .left), le-leb _ _ (c .before .before .before .before .if3 .left))
+returns-4 c =
+    let at-if1 = c .before .before .before .before .before .before .before .before .if1 in
+    let at-if2 = c .before .before .before .before .before .before .if2 in
+    let at-if3 = c .before .before .before .before .if3 in
+    c .accepted .ensures ∙ simp (le-leb _ _ (at-if1 .left), le-leb _ _ (at-if2 .left), le-leb _ _ (at-if3 .left))
 
 pub number-spec : {M : Type 1} → statement M
 number-spec =

@@ -12,7 +12,8 @@ use Rattle.san.proofs.gathering.gather_all.Statement.{statement}
 use Rattle.san.proofs.gathering.gather_all.Tie as tie
 
 abbrev Inv-loop : tie.InvT-loop
-Inv-loop moves mask want front back g₀ k₀ i₀ g k i = (i ≤ front) × ((k + front ≡ 32768 + (back + i)) × Left (picked mask want) moves (atFront moves front i) (behind moves front (back + i)) g)
+Inv-loop moves mask want front back g₀ k₀ i₀ g k i =
+    (i ≤ front) × ((k + front ≡ 32768 + (back + i)) × Left (picked mask want) moves (atFront moves front i) (behind moves front (back + i)) g)
 
 abbrev μ-loop : tie.MeasureT-loop
 μ-loop moves mask want front back g₀ k₀ i₀ g k i = front - i
@@ -76,14 +77,15 @@ both-requires c κs = omega arith
 
 gather-two-requires : tie.Need-gather-two-requires Inv-loop μ-loop
 gather-two-requires c κs =
-    let moves = c .before .before .before .before .before .before .before .before .before .args .moves .now in
-    let p = picked (c .before .before .before .before .before .before .before .before .before .args .mask) (c .before .before .before .before .before .before .before .before .before .args .want) in
+    let a = c .before .before .before .before .before .before .before .before .before .args in
+    let at-loop = c .before .before .before .before .before .before .before .loop in
+    let moves = a .moves .now in
+    let p = picked (a .mask) (a .want) in
     let front : ℕ = (length moves + 15) / 16 * 8 in
     let back : ℕ = length moves - front in
-    let s = c .before .before .before .before .before .before .before .loop in
-    let left = s .inv .1 .1 in
-    let count = left-count p moves (atFront moves front (s .i)) (behind moves front (back + s .i)) (s .g) left in
-    let sum = left-sum p moves (atFront moves front (s .i)) (behind moves front (back + s .i)) (s .g) left in
+    let left = at-loop .inv .1 .1 in
+    let count = left-count p moves (atFront moves front (at-loop .i)) (behind moves front (back + at-loop .i)) (at-loop .g) left in
+    let sum = left-sum p moves (atFront moves front (at-loop .i)) (behind moves front (back + at-loop .i)) (at-loop .g) left in
     omega (arith, count, sum)
 
 loop-less : tie.Need-loop-less Inv-loop μ-loop
@@ -91,16 +93,22 @@ loop-less c = omega arith
 
 loop-again : tie.Need-loop-again Inv-loop μ-loop
 loop-again c =
-    let moves = c .before .before .before .before .before .before .before .before .before .before .args .moves .now in
-    let p = picked (c .before .before .before .before .before .before .before .before .before .before .args .mask) (c .before .before .before .before .before .before .before .before .before .before .args .want) in
+    let a = c .before .before .before .before .before .before .before .before .before .before .args in
+    let at-loop = c .before .before .before .before .before .before .before .before .loop in
+    let at-loop-test = c .before .before .before .before .before .before .before .loop-test in
+    let at-number-if = c .before .before .before .before .number-if in
+    let at-picked = c .before .before .before .picked in
+    let at-picked2 = c .before .before .picked2 in
+    let at-both = c .before .both in
+    let moves = a .moves .now in
+    let p = picked (a .mask) (a .want) in
     let front : ℕ = (length moves + 15) / 16 * 8 in
     let back : ℕ = length moves - front in
-    let s = c .before .before .before .before .before .before .before .before .loop in
-    let left = s .inv .1 .1 in
-    let after : leb 32768 (s .k) ≡ true → front ≤ back + s .i = λ e. omega (arith, leb-true 32768 (s .k) e) in
-    let before : leb 32768 (s .k) ≡ false → back + s .i < front = λ e. omega (arith, leb-false 32768 (s .k) e) in
-    let next = turn p moves front back (s .i) (s .g) (leb 32768 (s .k)) (c .before .before .before .before .before .before .before .loop-test .taken) (omega arith) (omega arith) after before left in
-    rw (c .gather-two .ensures, c .before .before .before .picked .ensures, c .before .both .ensures, c .before .before .picked2 .ensures, c .before .before .before .before .number-if .ensures) (omega arith, (omega arith, next))
+    let left = at-loop .inv .1 .1 in
+    let after : leb 32768 (at-loop .k) ≡ true → front ≤ back + at-loop .i = λ e. omega (arith, leb-true 32768 (at-loop .k) e) in
+    let before : leb 32768 (at-loop .k) ≡ false → back + at-loop .i < front = λ e. omega (arith, leb-false 32768 (at-loop .k) e) in
+    let next = turn p moves front back (at-loop .i) (at-loop .g) (leb 32768 (at-loop .k)) (at-loop-test .taken) (omega arith) (omega arith) after before left in
+    rw (c .gather-two .ensures, at-picked .ensures, at-both .ensures, at-picked2 .ensures, at-number-if .ensures) (omega arith, (omega arith, next))
 
 returns : tie.Need-returns Inv-loop μ-loop
 returns c =

@@ -31,13 +31,23 @@ number-if-requires-4 : tie.Need-number-if-requires-4
 number-if-requires-4 c κs = search needs
 
 add-t16 : tie.Need-add-t16
-add-t16 c = omega (arith, c .before .before .number-if3 .ensures, number-most (c .before .before .before .before .before .before .before .before .args .here) 1, c .number-if4 .ensures, number-most (c .before .before .before .before .before .before .before .before .args .there) 1)
+add-t16 c =
+    let a = c .before .before .before .before .before .before .before .before .args in
+    let at-number-if3 = c .before .before .number-if3 in
+    omega (arith, at-number-if3 .ensures, number-most (a .here) 1, c .number-if4 .ensures, number-most (a .there) 1)
 
 add-t17 : tie.Need-add-t17
-add-t17 c = omega (arith, c .before .before .before .before .before .before .before .before .number-if .ensures, number-most (c .before .before .before .before .before .before .before .before .before .args .here) (c .before .before .before .before .before .before .before .before .before .args .m % 64))
+add-t17 c =
+    let a = c .before .before .before .before .before .before .before .before .before .args in
+    let at-number-if = c .before .before .before .before .before .before .before .before .number-if in
+    omega (arith, at-number-if .ensures, number-most (a .here) (a .m % 64))
 
 add-t18 : tie.Need-add-t18
-add-t18 c = omega (arith, c .before .before .before .before .before .before .before .before .number-if .ensures, number-most (c .before .before .before .before .before .before .before .before .before .args .here) (c .before .before .before .before .before .before .before .before .before .args .m % 64), c .before .before .before .before .before .before .before .number-if2 .ensures, number-most (c .before .before .before .before .before .before .before .before .before .args .there) (c .before .before .before .before .before .before .before .before .before .args .n % 64))
+add-t18 c =
+    let a = c .before .before .before .before .before .before .before .before .before .args in
+    let at-number-if = c .before .before .before .before .before .before .before .before .number-if in
+    let at-number-if2 = c .before .before .before .before .before .before .before .number-if2 in
+    omega (arith, at-number-if .ensures, number-most (a .here) (a .m % 64), at-number-if2 .ensures, number-most (a .there) (a .n % 64))
 
 larger-requires : tie.Need-larger-requires
 larger-requires c κs = search needs
@@ -47,7 +57,24 @@ larger-requires-2 c κs = search needs
 
 returns : tie.Need-returns
 unfolding gatherTwo
-returns c = simp (c .before .before .before .before .before .before .before .before .over .ensures, c .before .before .before .before .before .before .over2 .ensures, c .before .before .before .before .before .before .before .before .before .before .number-if .ensures, c .before .before .before .before .before .before .before .before .before .number-if2 .ensures, c .before .before .before .before .before .number-if3 .ensures, c .before .before .before .number-if4 .ensures, c .before .larger .ensures, c .larger2 .ensures)
+returns c =
+    let at-number-if = c .before .before .before .before .before .before .before .before .before .before .number-if in
+    let at-number-if2 = c .before .before .before .before .before .before .before .before .before .number-if2 in
+    let at-over = c .before .before .before .before .before .before .before .before .over in
+    let at-over2 = c .before .before .before .before .before .before .over2 in
+    let at-number-if3 = c .before .before .before .before .before .number-if3 in
+    let at-number-if4 = c .before .before .before .number-if4 in
+    let at-larger = c .before .larger in
+    simp (
+      at-over .ensures,
+      at-over2 .ensures,
+      at-number-if .ensures,
+      at-number-if2 .ensures,
+      at-number-if3 .ensures,
+      at-number-if4 .ensures,
+      at-larger .ensures,
+      c .larger2 .ensures,
+    )
 
 pub gather-two-spec : {M : Type 1} → statement M
 gather-two-spec =

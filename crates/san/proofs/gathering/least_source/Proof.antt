@@ -9,7 +9,8 @@ use Rattle.san.proofs.gathering.least_source.Statement.{statement}
 use Rattle.san.proofs.gathering.least_source.Tie as tie
 
 abbrev Inv-loop : tie.InvT-loop
-Inv-loop moves mask want least₀ i₀ least i = (i ≤ length moves) × ((least ≤ 64) × (lowest least (sources (picked mask want) (drop i moves)) ≡ lowest 64 (sources (picked mask want) moves)))
+Inv-loop moves mask want least₀ i₀ least i =
+    (i ≤ length moves) × ((least ≤ 64) × (lowest least (sources (picked mask want) (drop i moves)) ≡ lowest 64 (sources (picked mask want) moves)))
 
 abbrev μ-loop : tie.MeasureT-loop
 μ-loop moves mask want least₀ i₀ least i = length moves - i
@@ -40,13 +41,20 @@ loop-less c = search needs
 
 loop-again : tie.Need-loop-again Inv-loop μ-loop
 loop-again c =
-    let moves = c .before .before .before .before .before .before .before .args .moves .now in
-    let s = c .before .before .before .before .before .loop in
-    let turn = least-turn (picked (c .before .before .before .before .before .before .before .args .mask) (c .before .before .before .before .before .before .before .args .want)) (s .least) moves (s .i) (s .inv .1 .0) (c .before .before .before .before .loop-test .taken) in
-    rw (c .smaller .ensures, c .before .number-or .ensures, c .before .before .picked .ensures) (omega arith, (omega arith, sym turn ∙ s .inv .1 .1))
+    let a = c .before .before .before .before .before .before .before .args in
+    let at-loop = c .before .before .before .before .before .loop in
+    let at-loop-test = c .before .before .before .before .loop-test in
+    let at-picked = c .before .before .picked in
+    let at-number-or = c .before .number-or in
+    let moves = a .moves .now in
+    let turn = least-turn (picked (a .mask) (a .want)) (at-loop .least) moves (at-loop .i) (at-loop .inv .1 .0) (at-loop-test .taken) in
+    rw (c .smaller .ensures, at-number-or .ensures, at-picked .ensures) (omega arith, (omega arith, sym turn ∙ at-loop .inv .1 .1))
 
 returns : tie.Need-returns Inv-loop μ-loop
-returns c = sym (least-end (picked (c .before .before .before .args .mask) (c .before .before .before .args .want)) (c .before .loop .least) (c .before .before .before .args .moves .now) (c .before .loop .i) (c .loop-test .left)) ∙ c .before .loop .inv .1 .1
+returns c =
+    let a = c .before .before .before .args in
+    let at-loop = c .before .loop in
+    sym (least-end (picked (a .mask) (a .want)) (at-loop .least) (a .moves .now) (at-loop .i) (c .loop-test .left)) ∙ at-loop .inv .1 .1
 
 pub least-source-spec : {M : Type 1} → statement M
 least-source-spec =

@@ -15,7 +15,10 @@ number-if-requires-2 : tie.Need-number-if-requires-2
 number-if-requires-2 c κs = search needs
 
 add-result-2 : tie.Need-add-result-2
-add-result-2 c = omega (arith, c .before .before .number-if .ensures, number-most (given (c .before .before .before .before .args .t .file)) 7, c .number-if2 .ensures, number-most (given (c .before .before .before .before .args .t .rank)) 56)
+add-result-2 c =
+    let a = c .before .before .before .before .args in
+    let at-number-if = c .before .before .number-if in
+    omega (arith, at-number-if .ensures, number-most (given (a .t .file)) 7, c .number-if2 .ensures, number-most (given (a .t .rank)) 56)
 
 returns : tie.Need-returns
 returns c = search needs

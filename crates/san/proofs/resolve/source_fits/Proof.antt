@@ -35,7 +35,13 @@ both-requires-2 c κs = search needs
 
 returns : tie.Need-returns
 unfolding sourceFits
-returns c = simp (c .both2 .ensures, c .before .both .ensures, c .before .before .before .agrees .ensures, c .before .before .agrees2 .ensures, c .before .before .before .before .before .kind-of .ensures, c .before .before .before .before .before .before .before .narrow .ensures)
+returns c =
+    let at-narrow = c .before .before .before .before .before .before .before .narrow in
+    let at-kind-of = c .before .before .before .before .before .kind-of in
+    let at-agrees = c .before .before .before .agrees in
+    let at-agrees2 = c .before .before .agrees2 in
+    let at-both = c .before .both in
+    simp (c .both2 .ensures, at-both .ensures, at-agrees .ensures, at-agrees2 .ensures, at-kind-of .ensures, at-narrow .ensures)
 
 pub source-fits-spec : {M : Type 1} → statement M
 source-fits-spec =

@@ -20,14 +20,22 @@ nothing-requires-2 c κs = search needs
 
 returns-2 : tie.Need-returns-2
 unfolding pawnTakes
-returns-2 c = simp (ne-eqb _ _ (λ w. c .before .before .if1 .left (c .before .before .before .place-from .ensures ∙ w)), ne-eqb _ _ (c .before .if2 .taken), c .nothing2 .ensures)
+returns-2 c =
+    let at-place-from = c .before .before .before .place-from in
+    let at-if1 = c .before .before .if1 in
+    let at-if2 = c .before .if2 in
+    simp (ne-eqb _ _ (λ w. at-if1 .left (at-place-from .ensures ∙ w)), ne-eqb _ _ (at-if2 .taken), c .nothing2 .ensures)
 
 square-of-requires : tie.Need-square-of-requires
 square-of-requires c κs = search needs
 
 returns-3 : tie.Need-returns-3
 unfolding pawnTakes
-returns-3 c = simp (ne-eqb _ _ (λ w. c .before .before .if1 .left (c .before .before .before .place-from .ensures ∙ w)), eq-eqb _ _ (c .before .if2 .left), c .before .before .before .place-from .ensures, c .square-of .ensures)
+returns-3 c =
+    let at-place-from = c .before .before .before .place-from in
+    let at-if1 = c .before .before .if1 in
+    let at-if2 = c .before .if2 in
+    simp (ne-eqb _ _ (λ w. at-if1 .left (at-place-from .ensures ∙ w)), eq-eqb _ _ (at-if2 .left), at-place-from .ensures, c .square-of .ensures)
 
 pub pawn-takes-spec : {M : Type 1} → statement M
 pawn-takes-spec =

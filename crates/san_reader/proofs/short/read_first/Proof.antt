@@ -37,7 +37,10 @@ read-four-requires c κs = search needs
 
 returns-2 : tie.Need-returns-2
 unfolding shortOf
-returns-2 c = simp (ne-eqb _ _ (c .before .before .before .before .before .before .if1 .left), eq-eqb _ _ (c .before .before .before .before .before .if2 .taken), c .read-four .ensures)
+returns-2 c =
+    let at-if1 = c .before .before .before .before .before .before .if1 in
+    let at-if2 = c .before .before .before .before .before .if2 in
+    simp (ne-eqb _ _ (at-if1 .left), eq-eqb _ _ (at-if2 .taken), c .read-four .ensures)
 
 shared-slice-read-read-two : tie.Need-shared-slice-read-read-two
 shared-slice-read-read-two c = search needs
@@ -50,14 +53,22 @@ read-two-requires c κs = search needs
 
 returns-3 : tie.Need-returns-3
 unfolding shortOf
-returns-3 c = simp (ne-eqb _ _ (c .before .before .before .before .before .if1 .left), ne-eqb _ _ (c .before .before .before .before .if2 .left), eq-eqb _ _ (c .before .before .before .if3 .taken), c .read-two .ensures)
+returns-3 c =
+    let at-if1 = c .before .before .before .before .before .if1 in
+    let at-if2 = c .before .before .before .before .if2 in
+    let at-if3 = c .before .before .before .if3 in
+    simp (ne-eqb _ _ (at-if1 .left), ne-eqb _ _ (at-if2 .left), eq-eqb _ _ (at-if3 .taken), c .read-two .ensures)
 
 nothing-requires : tie.Need-nothing-requires
 nothing-requires c κs = search needs
 
 returns-4 : tie.Need-returns-4
 unfolding shortOf
-returns-4 c = simp (ne-eqb _ _ (c .before .before .before .if1 .left), ne-eqb _ _ (c .before .before .if2 .left), ne-eqb _ _ (c .before .if3 .left), c .nothing .ensures)
+returns-4 c =
+    let at-if1 = c .before .before .before .if1 in
+    let at-if2 = c .before .before .if2 in
+    let at-if3 = c .before .if3 in
+    simp (ne-eqb _ _ (at-if1 .left), ne-eqb _ _ (at-if2 .left), ne-eqb _ _ (at-if3 .left), c .nothing .ensures)
 
 pub read-first-spec : {M : Type 1} → statement M
 read-first-spec =

@@ -22,7 +22,11 @@ square-of-requires c κs = search needs
 
 returns-2 : tie.Need-returns-2
 unfolding shortFour letterFour
-returns-2 c = simp (ne-eqb _ _ (λ w. c .before .before .if1 .left (c .before .before .before .piece-kind .ensures ∙ w)), eq-eqb _ _ (c .if2 .taken), c .before .before .before .piece-kind .ensures, c .before .square-of .ensures)
+returns-2 c =
+    let at-piece-kind = c .before .before .before .piece-kind in
+    let at-if1 = c .before .before .if1 in
+    let at-square-of = c .before .square-of in
+    simp (ne-eqb _ _ (λ w. at-if1 .left (at-piece-kind .ensures ∙ w)), eq-eqb _ _ (c .if2 .taken), at-piece-kind .ensures, at-square-of .ensures)
 
 place-from-requires : tie.Need-place-from-requires
 place-from-requires c κs = search needs
@@ -31,18 +35,48 @@ place-from-requires-2 : tie.Need-place-from-requires-2
 place-from-requires-2 c κs = search needs
 
 add-if3 : tie.Need-add-if3
-add-if3 c = omega (arith, c .before .place-from .ensures, place-most 96 (c .before .before .before .before .before .before .args .b), c .place-from2 .ensures, place-most 48 (c .before .before .before .before .before .before .args .b))
+add-if3 c =
+    let a = c .before .before .before .before .before .before .args in
+    let at-place-from = c .before .place-from in
+    omega (arith, at-place-from .ensures, place-most 96 (a .b), c .place-from2 .ensures, place-most 48 (a .b))
 
 nothing-requires : tie.Need-nothing-requires
 nothing-requires c κs = search needs
 
 returns-3 : tie.Need-returns-3
 unfolding shortFour letterFour
-returns-3 c = simp (ne-eqb _ _ (λ w. c .before .before .before .before .before .before .if1 .left (c .before .before .before .before .before .before .before .piece-kind .ensures ∙ w)), ne-eqb _ _ (c .before .before .before .before .if2 .left), eq-eqb _ _ (rw (c .before .before .before .place-from .ensures, c .before .before .place-from2 .ensures) at (c .before .if3 .taken)), c .nothing .ensures)
+returns-3 c =
+    let at-piece-kind = c .before .before .before .before .before .before .before .piece-kind in
+    let at-if1 = c .before .before .before .before .before .before .if1 in
+    let at-if2 = c .before .before .before .before .if2 in
+    let at-place-from = c .before .before .before .place-from in
+    let at-place-from2 = c .before .before .place-from2 in
+    let at-if3 = c .before .if3 in
+    simp (
+      ne-eqb _ _ (λ w. at-if1 .left (at-piece-kind .ensures ∙ w)),
+      ne-eqb _ _ (at-if2 .left),
+      eq-eqb _ _ (rw (at-place-from .ensures, at-place-from2 .ensures) at (at-if3 .taken)),
+      c .nothing .ensures,
+    )
 
 returns-4 : tie.Need-returns-4
 unfolding shortFour letterFour
-returns-4 c = simp (ne-eqb _ _ (λ w. c .before .before .before .before .before .if1 .left (c .before .before .before .before .before .before .piece-kind .ensures ∙ w)), ne-eqb _ _ (c .before .before .before .if2 .left), ne-eqb _ _ (rw (c .before .before .place-from .ensures, c .before .place-from2 .ensures) at (c .if3 .left)), c .before .before .before .before .before .before .piece-kind .ensures, c .before .before .place-from .ensures, c .before .place-from2 .ensures, c .before .before .before .before .square-of .ensures)
+returns-4 c =
+    let at-piece-kind = c .before .before .before .before .before .before .piece-kind in
+    let at-if1 = c .before .before .before .before .before .if1 in
+    let at-square-of = c .before .before .before .before .square-of in
+    let at-if2 = c .before .before .before .if2 in
+    let at-place-from = c .before .before .place-from in
+    let at-place-from2 = c .before .place-from2 in
+    simp (
+      ne-eqb _ _ (λ w. at-if1 .left (at-piece-kind .ensures ∙ w)),
+      ne-eqb _ _ (at-if2 .left),
+      ne-eqb _ _ (rw (at-place-from .ensures, at-place-from2 .ensures) at (c .if3 .left)),
+      at-piece-kind .ensures,
+      at-place-from .ensures,
+      at-place-from2 .ensures,
+      at-square-of .ensures,
+    )
 
 pub read-four-spec : {M : Type 1} → statement M
 read-four-spec =

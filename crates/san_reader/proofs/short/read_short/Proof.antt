@@ -26,13 +26,21 @@ read-first-requires : tie.Need-read-first-requires
 read-first-requires c κs = search needs
 
 returns-2 : tie.Need-returns-2
-returns-2 c = c .read-first .ensures ∙ short-checked (c .before .before .before .before .before .before .args .s .now) (sym (c .before .before .is-check .ensures) ∙ c .before .if2 .taken)
+returns-2 c =
+    let a = c .before .before .before .before .before .before .args in
+    let at-is-check = c .before .before .is-check in
+    let at-if2 = c .before .if2 in
+    c .read-first .ensures ∙ short-checked (a .s .now) (sym (at-is-check .ensures) ∙ at-if2 .taken)
 
 read-first-requires-2 : tie.Need-read-first-requires-2
 read-first-requires-2 c κs = search needs
 
 returns-3 : tie.Need-returns-3
-returns-3 c = c .read-first2 .ensures ∙ short-plain (c .before .before .before .before .before .before .args .s .now) (sym (c .before .before .is-check .ensures) ∙ c .before .if2 .left)
+returns-3 c =
+    let a = c .before .before .before .before .before .before .args in
+    let at-is-check = c .before .before .is-check in
+    let at-if2 = c .before .if2 in
+    c .read-first2 .ensures ∙ short-plain (a .s .now) (sym (at-is-check .ensures) ∙ at-if2 .left)
 
 pub read-short-spec : {M : Type 1} → statement M
 read-short-spec =

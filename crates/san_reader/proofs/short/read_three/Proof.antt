@@ -20,7 +20,10 @@ square-of-requires c κs = search needs
 
 returns-2 : tie.Need-returns-2
 unfolding shortThree
-returns-2 c = simp (ne-eqb _ _ (λ w. c .before .if1 .left (c .before .before .piece-kind .ensures ∙ w)), c .before .before .piece-kind .ensures, c .square-of .ensures)
+returns-2 c =
+    let at-piece-kind = c .before .before .piece-kind in
+    let at-if1 = c .before .if1 in
+    simp (ne-eqb _ _ (λ w. at-if1 .left (at-piece-kind .ensures ∙ w)), at-piece-kind .ensures, c .square-of .ensures)
 
 pub read-three-spec : {M : Type 1} → statement M
 read-three-spec =

@@ -13,7 +13,12 @@ add-result-2 : tie.Need-add-result-2
 add-result-2 c = search needs
 
 returns : tie.Need-returns
-returns c = square-here (c .before .before .before .before .args .a) (c .before .before .before .before .args .b) (c .before .before .before .if1 .left) (c .before .before .if2 .taken) (c .before .if3 .left) (c .if4 .taken)
+returns c =
+    let at-args = c .before .before .before .before .args in
+    let at-if1 = c .before .before .before .if1 in
+    let at-if2 = c .before .before .if2 in
+    let at-if3 = c .before .if3 in
+    square-here (at-args .a) (at-args .b) (at-if1 .left) (at-if2 .taken) (at-if3 .left) (c .if4 .taken)
 
 returns-2 : tie.Need-returns-2
 returns-2 c = rank-low (c .before .before .before .args .a) (c .before .before .before .args .b) (c .if3 .taken)

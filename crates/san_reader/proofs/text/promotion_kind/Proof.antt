@@ -21,7 +21,8 @@ returns-4 c = simp (c .match .keys4)
 
 returns-5 : tie.Need-returns-5
 unfolding promotionKind
-returns-5 c = simp (ne-eqb _ _ (c .match .rest .0 .0 .0 .1), ne-eqb _ _ (c .match .rest .0 .0 .1), ne-eqb _ _ (c .match .rest .0 .1), ne-eqb _ _ (c .match .rest .1))
+returns-5 c =
+    simp (ne-eqb _ _ (c .match .rest .0 .0 .0 .1), ne-eqb _ _ (c .match .rest .0 .0 .1), ne-eqb _ _ (c .match .rest .0 .1), ne-eqb _ _ (c .match .rest .1))
 
 pub promotion-kind-spec : {M : Type 1} → statement M
 promotion-kind-spec = tie.close (tie.spec returns returns-2 returns-3 returns-4 returns-5)
