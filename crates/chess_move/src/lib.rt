@@ -8,7 +8,7 @@ use square::Placed;
 ghost use mathlib.Core.Path.{_≡_};
 ghost use lib.ListN.{length};
 ghost use Rattle.square.specs.Answer.{writeAnswer, writeBytes};
-ghost use Rattle.chess_move.specs.Number.{moveOf, numberAnswer};
+ghost use Rattle.chess_move.specs.Number.{sourceOf, destOf, moveOf, numberAnswer};
 ghost use Rattle.chess_move.specs.Coordinate.{promotionNamed, ended, withDest, readMove, moveText, moveCheck};
 
 // The largest number of a move: h8 to h8 with promotion 6.
@@ -18,6 +18,19 @@ pub struct ChessMove {
     pub source: u8,
     pub dest: u8,
     pub promotion: u8,
+}
+
+// The source of a move's number, and its destination.
+pub fn source_of(n: u16) -> u8
+    ensures { λ r. ⌜ r ≡ sourceOf n ⌝ }
+{
+    (n % 64) as u8
+}
+
+pub fn dest_of(n: u16) -> u8
+    ensures { λ r. ⌜ r ≡ destOf n ⌝ }
+{
+    (n / 64 % 64) as u8
 }
 
 impl ChessMove {

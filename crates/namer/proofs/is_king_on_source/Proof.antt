@@ -2,8 +2,8 @@ use borrow.Author.Needs.{needs}
 use Rattle.namer.proofs.is_king_on_source.Statement.{statement}
 use Rattle.namer.proofs.is_king_on_source.Tie as tie
 
-narrow-requires : tie.Need-narrow-requires
-narrow-requires c κs = search needs
+source-of-requires : tie.Need-source-of-requires
+source-of-requires c κs = search needs
 
 cast-kind-of : tie.Need-cast-kind-of
 cast-kind-of c = search needs
@@ -15,9 +15,9 @@ kind-of-requires : tie.Need-kind-of-requires
 kind-of-requires c κs = search needs
 
 returns : tie.Need-returns
-returns c = simp (c .before .before .narrow .ensures, c .kind-of .ensures)
+returns c = simp (c .before .before .source-of .ensures, c .kind-of .ensures)
 
 pub is-king-on-source-spec : {M : Type 1} → statement M
 is-king-on-source-spec =
     tie.close
-    (tie.spec narrow-requires cast-kind-of element-copy-out-kind-of kind-of-requires returns)
+    (tie.spec source-of-requires cast-kind-of element-copy-out-kind-of kind-of-requires returns)

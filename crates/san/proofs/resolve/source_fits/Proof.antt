@@ -3,8 +3,8 @@ use Rattle.san.specs.Fitting.{sourceFits}
 use Rattle.san.proofs.resolve.source_fits.Statement.{statement}
 use Rattle.san.proofs.resolve.source_fits.Tie as tie
 
-narrow-requires : tie.Need-narrow-requires
-narrow-requires c κs = search needs
+source-of-requires : tie.Need-source-of-requires
+source-of-requires c κs = search needs
 
 cast-kind-of : tie.Need-cast-kind-of
 cast-kind-of c = search needs
@@ -36,18 +36,18 @@ both-requires-2 c κs = search needs
 returns : tie.Need-returns
 unfolding sourceFits
 returns c =
-    let at-narrow = c .before .before .before .before .before .before .before .narrow in
+    let at-source-of = c .before .before .before .before .before .before .before .source-of in
     let at-kind-of = c .before .before .before .before .before .kind-of in
     let at-agrees = c .before .before .before .agrees in
     let at-agrees2 = c .before .before .agrees2 in
     let at-both = c .before .both in
-    simp (c .both2 .ensures, at-both .ensures, at-agrees .ensures, at-agrees2 .ensures, at-kind-of .ensures, at-narrow .ensures)
+    simp (c .both2 .ensures, at-both .ensures, at-agrees .ensures, at-agrees2 .ensures, at-kind-of .ensures, at-source-of .ensures)
 
 pub source-fits-spec : {M : Type 1} → statement M
 source-fits-spec =
     tie.close
     (tie.spec
-    narrow-requires
+    source-of-requires
     cast-kind-of
     element-copy-out-kind-of
     kind-of-requires
