@@ -124,7 +124,8 @@ of-fields (suc (suc (suc (suc zero)))) c l u a hl h = alone 0 4 c l u DeclareDra
 of-fields (suc (suc (suc (suc (suc zero))))) c l u a hl h = alone 1 5 c l u (Resign c) a h (resigned c)
 of-fields zero c l u a hl h = absurd (false≢true (ap isHeld h))
 of-fields (suc (suc (suc (suc (suc (suc k)))))) c l u a hl h =
-    let n = no-kind (suc (suc (suc (suc (suc (suc k)))))) c (l + 256 * u) (λ e. omega arith) (λ e. omega arith) (λ e. omega arith) (λ e. omega arith) (λ e. omega arith) in
+    let n = no-kind (suc (suc (suc (suc (suc (suc k)))))) c (l + 256 * u)
+    (λ e. omega arith) (λ e. omega arith) (λ e. omega arith) (λ e. omega arith) (λ e. omega arith) in
     absurd (false≢true (ap isHeld (sym n ∙ h)))
 
 pub one-form : OneForm

@@ -105,7 +105,9 @@ count-more acts i = rw (add-one i) (go (leb (moveAt acts i) lastMove))
 
 -- a turn of the loop over the stored actions
 pub count-turn : (acts : List ℕ) (i : ℕ) → actionSize * i + actionSize ≤ length acts
-    → movesIn acts (i + 1) ≡ movesIn acts i + oneIfMove (getD acts (actionSize * i) 0) (getD acts (actionSize * i + 1) 0) (ofBytes (getD acts (actionSize * i + 2) 0) (getD acts (actionSize * i + 3) 0))
+    → movesIn acts (i + 1) ≡ movesIn acts i
+    + oneIfMove (getD acts (actionSize * i) 0) (getD acts (actionSize * i + 1) 0)
+    (ofBytes (getD acts (actionSize * i + 2) 0) (getD acts (actionSize * i + 3) 0))
 count-turn acts i h =
     let at : (j : ℕ) → j < actionSize → getD (item actionSize acts i) j 0 ≡ getD acts (actionSize * i + j) 0 =
     λ j k. getD-take actionSize (drop (actionSize * i) acts) j 0 k ∙ getD-drop (actionSize * i) acts j 0 in

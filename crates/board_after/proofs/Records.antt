@@ -62,7 +62,8 @@ module _ (l : List ℕ) (side white black file : ℕ) (b : BoardBuilder) (h : le
   given = l ++ (side ∷ white ∷ black ∷ file ∷ [])
 
   five-tests : same given (numbers b)
-      ≡ same l (b .pieces) && (eqb side (b .«side_to_move») && (eqb white (b .«white_castle_rights») && (eqb black (b .«black_castle_rights») && (eqb file (b .«en_passant») && true))))
+      ≡ same l (b .pieces) && (eqb side (b .«side_to_move»)
+      && (eqb white (b .«white_castle_rights») && (eqb black (b .«black_castle_rights») && (eqb file (b .«en_passant») && true))))
   unfolding same numbers
   five-tests = same-append l (b .pieces) _ _ h
 

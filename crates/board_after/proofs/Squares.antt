@@ -14,7 +14,8 @@ use Rattle.square.proofs.Below.{holds, fails, belows}
 use Rattle.square.proofs.Bounds.{bound-at}
 use Rattle.square.proofs.Numbers.{most-set}
 use Rattle.square.specs.Square.{squareOf}
-use Rattle.board_after.specs.After.{pawn, rank, file, twoApart, stepsTwice, manOn, colourStep, castles, corner, passedOver, rookMoved, takesInPassing, pawnRemoved, setDown, squaresAfter}
+use Rattle.board_after.specs.After.{pawn, rank, file, twoApart, stepsTwice, manOn, colourStep, castles, corner, passedOver, rookMoved, takesInPassing}
+use Rattle.board_after.specs.After.{pawnRemoved, setDown, squaresAfter}
 use Rattle.board_after.specs.Differ.{touchesMore}
 
 pub step-most : (man : ℕ) → colourStep man ≤ 6

@@ -13,7 +13,8 @@ use Rattle.square.specs.Numbers.{among}
 use Rattle.square.specs.Piece.{kindOf}
 use Rattle.square.proofs.Numbers.{both-left, both-right}
 use Rattle.board_builder.specs.declared.BoardBuilder.{BoardBuilder}
-use Rattle.board_after.specs.After.{rank, file, king, twoApart, manOn, castles, corner, passedOver, rookMoved, takesInPassing, pawnRemoved, setDown, squaresAfter, afterAnswer}
+use Rattle.board_after.specs.After.{rank, file, king, twoApart, manOn, castles, corner, passedOver, rookMoved, takesInPassing, pawnRemoved, setDown}
+use Rattle.board_after.specs.After.{squaresAfter, afterAnswer}
 use Rattle.board_after.specs.Promises.{taken, named, OthersStay, NamedChange, RulesHold, CallIsAnswered}
 use Rattle.board_after.proofs.Squares.{rook-length, pawn-length, corner-below}
 

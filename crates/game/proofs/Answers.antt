@@ -27,7 +27,8 @@ use Rattle.stored_position.specs.Bytes.{positionCheck, listsMove}
 use Rattle.stored_position.proofs.Checks.{position-fits}
 use Rattle.ending.specs.Ending.{resultAt}
 use Rattle.game_rules.specs.Limits.{limits, actionsLength, positionsLength}
-use Rattle.game_rules.specs.Rules.{Call, makeMove, offerDraw, acceptDraw, declareDraw, resign, isMove, actionMade, result, unless, firstRefusal, comesAfter, ownChecks, roomFor, answer}
+use Rattle.game_rules.specs.Rules.{Call, makeMove, offerDraw, acceptDraw, declareDraw, resign, isMove, actionMade, result, unless, firstRefusal, comesAfter}
+use Rattle.game_rules.specs.Rules.{ownChecks, roomFor, answer}
 use Rattle.game_rules.specs.Good.{historyOf, sound, isGood}
 use Rattle.game_rules.specs.Calls.{longEnough, logCheck, callAnswer, counts}
 use Rattle.game_rules.proofs.Checks.{none-refuses, refusals-joined, test-held, current-in-range, accepted-number}
@@ -135,7 +136,8 @@ module _ (acts ps : List ℕ) (n m : ℕ) where
   other-is c e =
       by-first (openCheck acts ps n m) (otherCheck acts ps n m (actionMade c) ∷ unless (ltb n (limits .most-actions)) logFull ∷ []) _
       (λ h. let r = open-ready h in
-      rw (own-is r c e, room-is r c, e) (ap (λ (t : Bool). firstRefusal (otherCheck acts ps n m (actionMade c) ∷ unless t logFull ∷ [])) (sym (and-true (ltb n (limits .most-actions))))))
+      rw (own-is r c e, room-is r c, e)
+      (ap (λ (t : Bool). firstRefusal (otherCheck acts ps n m (actionMade c) ∷ unless t logFull ∷ [])) (sym (and-true (ltb n (limits .most-actions))))))
       ∙ sym (in-a-row c)
 
   -- the position on the board is in range, and so is a move that it lists

@@ -31,7 +31,8 @@ use Rattle.game_rules.specs.declared.Counts.{Counts}
 use Rattle.game_rules.specs.Limits.{limits, actionsLength, positionsLength}
 use Rattle.game_rules.specs.Rules.{makeMove, unless, comesAfter, firstRefusal, result, ended, claimStands}
 use Rattle.game_rules.specs.Good.{historyOf}
-use Rattle.game_rules.specs.Calls.{longEnough, logCheck, callAnswer, startAnswer, resultAnswer, claimAnswer, counts, countsAfter, actionsAfter, positionsAfter, positionsBegun, told}
+use Rattle.game_rules.specs.Calls.{longEnough, logCheck, callAnswer, startAnswer, resultAnswer, claimAnswer, counts, countsAfter, actionsAfter}
+use Rattle.game_rules.specs.Calls.{positionsAfter, positionsBegun, told}
 use Rattle.good_log.specs.Steps.{otherCheck}
 use Rattle.game_rules.proofs.Checks.{first-refuses, first-passes, start-says}
 use Rattle.game_rules.proofs.Log.{result-is}
@@ -94,7 +95,8 @@ module _ (a x : ℕ) (ps : List ℕ) (p : Position) (r : Counts) (e : x ≡ a) w
   unfolding positionsBegun
   start-refused some given = rw (ne-eqb a 0 (λ z. some (e ∙ z))) (given ∙ ap (λ (j : ℕ). counts j 0 0) e, refl)
 
-  pub start-accepted : (w : List ℕ) → x ≡ 0 → r ≡ counts 0 0 0 → w ≡ written ps (positionSize * 0) (positionBytes p) → (r ≡ counts a 0 0) × (w ≡ positionsBegun a ps p)
+  pub start-accepted : (w : List ℕ) → x ≡ 0 → r ≡ counts 0 0 0 → w ≡ written ps (positionSize * 0) (positionBytes p)
+      → (r ≡ counts a 0 0) × (w ≡ positionsBegun a ps p)
   unfolding positionsBegun
   start-accepted w z given placed = rw (sym e ∙ z) (given, placed)
 
@@ -124,7 +126,8 @@ module _ (acts ps : List ℕ) (n m x : ℕ) (e : x ≡ logCheck limits acts ps n
   pub open-passed : (r : ℕ) → x ≡ 0 → r ≡ resultAt acts ps n m → r ≡ 0 → 0 ≡ openCheck acts ps n m
   unfolding openCheck
   open-passed r z f y =
-      passed-by (logCheck limits acts ps n m) x 0 over e z (held (eqb (resultAt acts ps n m) 0) gameOver 0 [] (eq-eqb (resultAt acts ps n m) 0 (sym f ∙ y)) none-left)
+      passed-by (logCheck limits acts ps n m) x 0 over e z
+      (held (eqb (resultAt acts ps n m) 0) gameOver 0 [] (eq-eqb (resultAt acts ps n m) 0 (sym f ∙ y)) none-left)
 
 -- then the own check of a call without a move, then 13
 module _ (acts ps : List ℕ) (n m x : ℕ) (action : Action) (e : x ≡ openCheck acts ps n m) where
@@ -145,12 +148,14 @@ module _ (acts ps : List ℕ) (n m x : ℕ) (action : Action) (e : x ≡ openChe
   pub other-full : (y : ℕ) → x ≡ 0 → y ≡ own → y ≡ 0 → limits .most-actions ≤ n → logFull ≡ otherAnswer acts ps n m action
   unfolding otherAnswer
   other-full y z f u h =
-      passed-by (openCheck acts ps n m) x logFull (own ∷ full) e z (passed-by own y logFull full f u (failed (ltb n (limits .most-actions)) logFull [] refl (le-ltb _ _ h)))
+      passed-by (openCheck acts ps n m) x logFull (own ∷ full) e z
+      (passed-by own y logFull full f u (failed (ltb n (limits .most-actions)) logFull [] refl (le-ltb _ _ h)))
 
   pub other-passed : (y : ℕ) → x ≡ 0 → y ≡ own → y ≡ 0 → n < limits .most-actions → 0 ≡ otherAnswer acts ps n m action
   unfolding otherAnswer
   other-passed y z f u h =
-      passed-by (openCheck acts ps n m) x 0 (own ∷ full) e z (passed-by own y 0 full f u (held (ltb n (limits .most-actions)) logFull 0 [] (lt-ltb _ _ h) none-left))
+      passed-by (openCheck acts ps n m) x 0 (own ∷ full) e z
+      (passed-by own y 0 full f u (held (ltb n (limits .most-actions)) logFull 0 [] (lt-ltb _ _ h) none-left))
 
 -- then 11, 5 or 6, 12, 24, 13 for move k to position q
 module _ (acts ps : List ℕ) (n m k x : ℕ) (q : Position) (e : x ≡ openCheck acts ps n m) where
@@ -228,7 +233,8 @@ module _ (acts ps : List ℕ) (n m k x : ℕ) (q : Position) (e : x ≡ openChec
           move-passed h g = followed 0 (held room logFull 0 [] (ap₂ _&&_ (lt-ltb n (limits .most-actions) h) (lt-ltb m (limits .most-moves) g)) none-left)
 
 -- the side of a board that is given, and that of the position in the log, as a byte
-module _ (b : BoardBuilder) (check : ℕ) (list ps p : List ℕ) (m x : ℕ) (long : length (b .pieces) ≡ squares) (here : p ≡ item positionSize ps m) (e : x ≡ getD p sideAt 0) where
+module _ (b : BoardBuilder) (check : ℕ) (list ps p : List ℕ) (m x : ℕ) (long : length (b .pieces) ≡ squares) (here : p ≡ item positionSize ps m)
+    (e : x ≡ getD p sideAt 0) where
   given-side : side (positionGiven b check list) ≡ b .«side_to_move»
   unfolding numbers
   given-side = behind b long 0
@@ -253,7 +259,8 @@ record-tells b check list ps p m x t here long e =
 module _ (acts ps : List ℕ) (p : Position) where
   pub start-no-actions : length acts < actionsLength limits → partTooShort ≡ startAnswer limits acts ps p
   unfolding startAnswer
-  start-no-actions h = failed (longEnough limits acts ps) partTooShort (positionCheck p ∷ []) refl (ap (λ (t : Bool). t && leb (positionsLength limits) (length ps)) (lt-leb _ _ h))
+  start-no-actions h = failed (longEnough limits acts ps) partTooShort (positionCheck p ∷ []) refl
+      (ap (λ (t : Bool). t && leb (positionsLength limits) (length ps)) (lt-leb _ _ h))
 
   pub start-no-positions : actionsLength limits ≤ length acts → length ps < positionsLength limits → partTooShort ≡ startAnswer limits acts ps p
   unfolding startAnswer
@@ -261,12 +268,15 @@ module _ (acts ps : List ℕ) (p : Position) where
 
   pub start-checked : (x : ℕ) → actionsLength limits ≤ length acts → positionsLength limits ≤ length ps → x ≡ positionCheck p → x ≡ startAnswer limits acts ps p
   unfolding startAnswer
-  start-checked x h g e = held (longEnough limits acts ps) partTooShort x (positionCheck p ∷ []) (ap₂ _&&_ (le-leb _ _ h) (le-leb _ _ g)) (only (positionCheck p) x e)
+  start-checked x h g e = held (longEnough limits acts ps) partTooShort x (positionCheck p ∷ []) (ap₂ _&&_ (le-leb _ _ h) (le-leb _ _ g))
+      (only (positionCheck p) x e)
 
   pub start-found : startAnswer limits acts ps p ≡ 0 → (positionSize * 0 + positionSize ≤ length ps) × (positionCheck p ≡ 0)
   start-found h =
       let s = start-says limits acts ps p h in
-      (omega (arith, leb-true (positionsLength limits) (length ps) (both-right (leb (actionsLength limits) (length acts)) (leb (positionsLength limits) (length ps)) (s .0))), s .1)
+      let long : leb (positionsLength limits) (length ps) ≡ true =
+      both-right (leb (actionsLength limits) (length acts)) (leb (positionsLength limits) (length ps)) (s .0) in
+      (omega (arith, leb-true (positionsLength limits) (length ps) long), s .1)
 
 -- the queries
 module _ (acts ps : List ℕ) (n m x v : ℕ) (r : Answer) (e : x ≡ logCheck limits acts ps n m) (f : v ≡ resultAt acts ps n m) where
@@ -297,5 +307,6 @@ module _ (acts ps : List ℕ) (n m x v : ℕ) (r : Answer) (e : x ≡ logCheck l
     claim-told t y g given =
         told-value (logCheck limits acts ps n m) x (cond ruled 1 0) r e z
         (given
-        ∙ ap (λ (u : Bool). accepted (cond u 1 0)) (g ∙ claim-is acts ps n m (ready .counted) (omega (arith, ready .few, ready .room)) (omega (arith, ready .some, ready .place)))
+        ∙ ap (λ (u : Bool). accepted (cond u 1 0))
+        (g ∙ claim-is acts ps n m (ready .counted) (omega (arith, ready .few, ready .room)) (omega (arith, ready .some, ready .place)))
         ∙ rw (eq-eqb (result (historyOf acts ps n)) 0 (sym result-here ∙ y)))

@@ -104,7 +104,8 @@ fn act(acts: &mut [u8], ps: &[u8], n: usize, m: usize, action: Action) -> Counts
 
 pub fn offer_draw(acts: &mut [u8], ps: &[u8], n: u64, m: u64, colour: u8) -> Counts
     ensures counts { λ r. ⌜ r ≡ countsAfter (callAnswer limits (now (acts .entry)) (now (ps .entry)) n m (offerDraw colour)) n m (offerDraw colour) ⌝ }
-    ensures actions { λ r. ⌜ now (acts .exit) ≡ actionsAfter (callAnswer limits (now (acts .entry)) (now (ps .entry)) n m (offerDraw colour)) (now (acts .entry)) n (offerDraw colour) ⌝ }
+    ensures actions { λ r. ⌜ now (acts .exit) ≡ actionsAfter (callAnswer limits (now (acts .entry)) (now (ps .entry)) n m (offerDraw colour))
+        (now (acts .entry)) n (offerDraw colour) ⌝ }
 {
     act(acts, ps, n as usize, m as usize, Action::OfferDraw(colour))
 }
@@ -112,7 +113,8 @@ pub fn offer_draw(acts: &mut [u8], ps: &[u8], n: u64, m: u64, colour: u8) -> Cou
 // Accepts the offer that stands.
 pub fn accept_draw(acts: &mut [u8], ps: &[u8], n: u64, m: u64) -> Counts
     ensures counts { λ r. ⌜ r ≡ countsAfter (callAnswer limits (now (acts .entry)) (now (ps .entry)) n m acceptDraw) n m acceptDraw ⌝ }
-    ensures actions { λ r. ⌜ now (acts .exit) ≡ actionsAfter (callAnswer limits (now (acts .entry)) (now (ps .entry)) n m acceptDraw) (now (acts .entry)) n acceptDraw ⌝ }
+    ensures actions { λ r. ⌜ now (acts .exit) ≡ actionsAfter (callAnswer limits (now (acts .entry)) (now (ps .entry)) n m acceptDraw)
+        (now (acts .entry)) n acceptDraw ⌝ }
 {
     act(acts, ps, n as usize, m as usize, Action::AcceptDraw)
 }
@@ -120,14 +122,16 @@ pub fn accept_draw(acts: &mut [u8], ps: &[u8], n: u64, m: u64) -> Counts
 // Declares the draw that may be claimed.
 pub fn declare_draw(acts: &mut [u8], ps: &[u8], n: u64, m: u64) -> Counts
     ensures counts { λ r. ⌜ r ≡ countsAfter (callAnswer limits (now (acts .entry)) (now (ps .entry)) n m declareDraw) n m declareDraw ⌝ }
-    ensures actions { λ r. ⌜ now (acts .exit) ≡ actionsAfter (callAnswer limits (now (acts .entry)) (now (ps .entry)) n m declareDraw) (now (acts .entry)) n declareDraw ⌝ }
+    ensures actions { λ r. ⌜ now (acts .exit) ≡ actionsAfter (callAnswer limits (now (acts .entry)) (now (ps .entry)) n m declareDraw)
+        (now (acts .entry)) n declareDraw ⌝ }
 {
     act(acts, ps, n as usize, m as usize, Action::DeclareDraw)
 }
 
 pub fn resign(acts: &mut [u8], ps: &[u8], n: u64, m: u64, colour: u8) -> Counts
     ensures counts { λ r. ⌜ r ≡ countsAfter (callAnswer limits (now (acts .entry)) (now (ps .entry)) n m (resign colour)) n m (resign colour) ⌝ }
-    ensures actions { λ r. ⌜ now (acts .exit) ≡ actionsAfter (callAnswer limits (now (acts .entry)) (now (ps .entry)) n m (resign colour)) (now (acts .entry)) n (resign colour) ⌝ }
+    ensures actions { λ r. ⌜ now (acts .exit) ≡ actionsAfter (callAnswer limits (now (acts .entry)) (now (ps .entry)) n m (resign colour))
+        (now (acts .entry)) n (resign colour) ⌝ }
 {
     act(acts, ps, n as usize, m as usize, Action::Resign(colour))
 }
@@ -183,9 +187,15 @@ pub fn make_move(
     in_check: u8,
     list: &[u16],
 ) -> Counts
-    ensures counts { λ r. ⌜ r ≡ countsAfter (callAnswer limits (now (acts .entry)) (now (ps .entry)) n m (makeMove x (positionGiven next in_check (now (list .entry))))) n m (makeMove x (positionGiven next in_check (now (list .entry)))) ⌝ }
-    ensures actions { λ r. ⌜ now (acts .exit) ≡ actionsAfter (callAnswer limits (now (acts .entry)) (now (ps .entry)) n m (makeMove x (positionGiven next in_check (now (list .entry))))) (now (acts .entry)) n (makeMove x (positionGiven next in_check (now (list .entry)))) ⌝ }
-    ensures positions { λ r. ⌜ now (ps .exit) ≡ positionsAfter (callAnswer limits (now (acts .entry)) (now (ps .entry)) n m (makeMove x (positionGiven next in_check (now (list .entry))))) (now (ps .entry)) m (makeMove x (positionGiven next in_check (now (list .entry)))) ⌝ }
+    ensures counts { λ r. ⌜ r ≡ countsAfter
+        (callAnswer limits (now (acts .entry)) (now (ps .entry)) n m (makeMove x (positionGiven next in_check (now (list .entry)))))
+        n m (makeMove x (positionGiven next in_check (now (list .entry)))) ⌝ }
+    ensures actions { λ r. ⌜ now (acts .exit) ≡ actionsAfter
+        (callAnswer limits (now (acts .entry)) (now (ps .entry)) n m (makeMove x (positionGiven next in_check (now (list .entry)))))
+        (now (acts .entry)) n (makeMove x (positionGiven next in_check (now (list .entry)))) ⌝ }
+    ensures positions { λ r. ⌜ now (ps .exit) ≡ positionsAfter
+        (callAnswer limits (now (acts .entry)) (now (ps .entry)) n m (makeMove x (positionGiven next in_check (now (list .entry)))))
+        (now (ps .entry)) m (makeMove x (positionGiven next in_check (now (list .entry)))) ⌝ }
 {
     let actions = n as usize;
     let moves = m as usize;
@@ -217,7 +227,9 @@ fn start_answer(acts: &[u8], ps: &[u8], b: BoardBuilder, in_check: u8, list: &[u
 // Begins a log with a position: a board, its in-check byte and its list of moves. The actions part is measured and not written.
 pub fn start(acts: &[u8], ps: &mut [u8], b: BoardBuilder, in_check: u8, list: &[u16]) -> Counts
     ensures counts { λ r. ⌜ r ≡ counts (startAnswer limits (now (acts .entry)) (now (ps .entry)) (positionGiven b in_check (now (list .entry)))) 0 0 ⌝ }
-    ensures positions { λ r. ⌜ now (ps .exit) ≡ positionsBegun (startAnswer limits (now (acts .entry)) (now (ps .entry)) (positionGiven b in_check (now (list .entry)))) (now (ps .entry)) (positionGiven b in_check (now (list .entry))) ⌝ }
+    ensures positions { λ r. ⌜ now (ps .exit) ≡ positionsBegun
+        (startAnswer limits (now (acts .entry)) (now (ps .entry)) (positionGiven b in_check (now (list .entry))))
+        (now (ps .entry)) (positionGiven b in_check (now (list .entry))) ⌝ }
 {
     let number = start_answer(acts, ps, b, in_check, list);
     if number != ACCEPTED {

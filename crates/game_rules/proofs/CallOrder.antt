@@ -19,7 +19,8 @@ use Rattle.game_rules.specs.CallOrder.{ChecksInOrder}
 
 pub checks-in-order : ChecksInOrder
 unfolding same allAtMost among kindOf numbers inRange numbersInRange castles rookMoved takesInPassing pawnRemoved setDown squaresAfter rightsWithout
-    rightsAfter twoApart stepsTwice fileAfter afterParts recordAfter listInRange movesIn movesFrom positionOf times moveBytes positionBytes positionCheck isPosition
+    rightsAfter twoApart stepsTwice fileAfter afterParts recordAfter listInRange movesIn movesFrom positionOf times moveBytes positionBytes
+    positionCheck isPosition
     resultOf offerIn current actions lastMade lastButOne result offerStands ruling claimStands firstRefusal answer historyOf sound isGood logCheck
     callAnswer
 checks-in-order = record {

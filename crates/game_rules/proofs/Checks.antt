@@ -21,7 +21,9 @@ use Rattle.position.specs.Layout.{Position, side}
 use Rattle.stored_position.specs.Bytes.{positionCheck}
 use Rattle.stored_position.proofs.Checks.{position-fits}
 use Rattle.game_rules.specs.Limits.{Limits}
-use Rattle.game_rules.specs.Rules.{Call, makeMove, offerDraw, acceptDraw, declareDraw, resign, History, begun, after, isMove, actionMade, positionAfter, current, actions, moves, ended, offerStands, claimStands, unless, firstRefusal, comesAfter, ownChecks, roomFor, answer}
+use Rattle.game_rules.specs.Rules.{Call, makeMove, offerDraw, acceptDraw, declareDraw, resign, History, begun, after, isMove, actionMade}
+use Rattle.game_rules.specs.Rules.{positionAfter, current, actions, moves, ended, offerStands, claimStands, unless, firstRefusal, comesAfter}
+use Rattle.game_rules.specs.Rules.{ownChecks, roomFor, answer}
 use Rattle.game_rules.specs.Good.{Accepted, positionMade, callOf, historyOf, positionHere, isGood}
 use Rattle.game_rules.specs.Calls.{longEnough, logCheck, callAnswer, startAnswer}
 
@@ -101,8 +103,10 @@ answer-says L h c e =
 pub passes-answered : (L : Limits) (h : History) (c : Call) → Passes L h c → answer L h c ≡ 0
 unfolding answer firstRefusal
 passes-answered L h c p =
-    all-pass (unless (not (ended h)) gameOver) (ownChecks h c ++ (unless (roomFor L h c) logFull ∷ [])) (test-passes (not (ended h)) gameOver (rw (p .goes-on) refl))
-    (both-pass (ownChecks h c) (unless (roomFor L h c) logFull ∷ []) (p .own) (all-pass (unless (roomFor L h c) logFull) [] (test-passes (roomFor L h c) logFull (p .room)) refl))
+    all-pass (unless (not (ended h)) gameOver) (ownChecks h c ++ (unless (roomFor L h c) logFull ∷ []))
+    (test-passes (not (ended h)) gameOver (rw (p .goes-on) refl))
+    (both-pass (ownChecks h c) (unless (roomFor L h c) logFull ∷ []) (p .own)
+    (all-pass (unless (roomFor L h c) logFull) [] (test-passes (roomFor L h c) logFull (p .room)) refl))
 
 -- the room, and each call's own checks
 pub room-of-actions : (L : Limits) (h : History) (c : Call) → answer L h c ≡ 0 → actions h < L .most-actions
@@ -122,7 +126,9 @@ pub record MovePasses (h : History) (m : ℕ) (p : Position) : Type 0 where
 pub move-says : (L : Limits) (h : History) (m : ℕ) (p : Position) → answer L h (makeMove m p) ≡ 0 → MovePasses h m p
 move-says L h m p e =
     let last : List ℕ = unless (comesAfter (current h) m p) wrongRecord ∷ [] in
-    let a : _ = none-refuses (unless (among m (current h .moves)) notListed) (positionCheck p ∷ unless (not (eqb (side p) (side (current h)))) wrongSide ∷ last) (answer-says L h (makeMove m p) e .own) in
+    let a : _ = none-refuses (unless (among m (current h .moves)) notListed)
+    (positionCheck p ∷ unless (not (eqb (side p) (side (current h)))) wrongSide ∷ last)
+    (answer-says L h (makeMove m p) e .own) in
     let b : _ = none-refuses (positionCheck p) (unless (not (eqb (side p) (side (current h)))) wrongSide ∷ last) (a .1) in
     let d : _ = none-refuses (unless (not (eqb (side p) (side (current h)))) wrongSide) last (b .1) in
     record {

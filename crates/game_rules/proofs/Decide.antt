@@ -29,7 +29,8 @@ use Rattle.stored_position.specs.Bytes.{isPosition}
 use Rattle.stored_position.proofs.ReadBack.{position-round, one-size, written-is-position, one-position-form}
 use Rattle.game_rules.specs.Limits.{Limits}
 use Rattle.game_rules.specs.Rules.{Call, makeMove, History, begun, after, isMove, actionMade, actions, moves, answer}
-use Rattle.game_rules.specs.Good.{Accepted, actionPart, positionMade, positionPart, Holding, Good, callOf, callAt, historyOf, positionHere, nextSound, sound, isGood}
+use Rattle.game_rules.specs.Good.{Accepted, actionPart, positionMade, positionPart, Holding, Good, callOf, callAt, historyOf, positionHere, nextSound}
+use Rattle.game_rules.specs.Good.{sound, isGood}
 use Rattle.game_rules.specs.Promises.{GoodIsDecided, OneHistory}
 use Rattle.game_rules.proofs.Checks.{move-says, by-kind, no-bytes-made, no-bytes-here, call-of-action, accepted-number, accepted-action}
 
@@ -49,7 +50,8 @@ positions-grow : (ps : List ℕ) (k : ℕ) (c : Call) → positionHere c (item p
     → take (positionSize * suc (cond (isMove c) (suc k) k)) ps ≡ take (positionSize * suc k) ps ++ positionMade c
 positions-grow ps k =
     by-kind
-    (λ c. positionHere c (item positionSize ps (suc k)) ≡ positionMade c → take (positionSize * suc (cond (isMove c) (suc k) k)) ps ≡ take (positionSize * suc k) ps ++ positionMade c)
+    (λ c. positionHere c (item positionSize ps (suc k)) ≡ positionMade c
+    → take (positionSize * suc (cond (isMove c) (suc k) k)) ps ≡ take (positionSize * suc k) ps ++ positionMade c)
     (λ m p e. used-grows positionSize (suc k) ps ∙ ap (λ (x : List ℕ). take (positionSize * suc k) ps ++ x) e)
     (λ c no e. rw (no, no-bytes-made c no) (sym (append-nil _)))
 
@@ -139,7 +141,8 @@ module _ (L : Limits) (acts ps : List ℕ) (n m : ℕ) (h : History) (c : Call) 
   call-back : take (length (positionMade c)) (drop (positionSize * suc m) ps) ≡ positionMade c → callOf (Holds (actionMade c)) (positionAt ps (suc m)) ≡ c
   call-back =
       by-kind
-      (λ d. answer L h d ≡ 0 → take (length (positionMade d)) (drop (positionSize * suc m) ps) ≡ positionMade d → callOf (Holds (actionMade d)) (positionAt ps (suc m)) ≡ d)
+      (λ d. answer L h d ≡ 0 → take (length (positionMade d)) (drop (positionSize * suc m) ps) ≡ positionMade d
+      → callOf (Holds (actionMade d)) (positionAt ps (suc m)) ≡ d)
       (λ k p f s.
       let check = move-says L h k p f .check in
       ap₂ makeMove (ap (λ (x : Answer). x .value) (number-of-parts k (accepted-number L h k p a f)))
@@ -150,7 +153,8 @@ module _ (L : Limits) (acts ps : List ℕ) (n m : ℕ) (h : History) (c : Call) 
   here-made : take (length (positionMade c)) (drop (positionSize * suc m) ps) ≡ positionMade c → positionHere c (item positionSize ps (suc m)) ≡ positionMade c
   here-made =
       by-kind
-      (λ d. answer L h d ≡ 0 → take (length (positionMade d)) (drop (positionSize * suc m) ps) ≡ positionMade d → positionHere d (item positionSize ps (suc m)) ≡ positionMade d)
+      (λ d. answer L h d ≡ 0 → take (length (positionMade d)) (drop (positionSize * suc m) ps) ≡ positionMade d
+      → positionHere d (item positionSize ps (suc m)) ≡ positionMade d)
       (λ k p f s. rw (one-size p (move-says L h k p f .check)) at s)
       (λ d no f s. no-bytes-here d (item positionSize ps (suc m)) no ∙ sym (no-bytes-made d no))
       c e

@@ -40,7 +40,8 @@ holding-begun acts ps p e =
     }
 
 pub holding-after : (L : Limits) (acts ps : List ℕ) (n m : ℕ) (h : History) (c : Call) → Accepted L h → Holding acts ps n m h → answer L h c ≡ 0
-    → Holding (written acts (actionSize * n) (actionBytes (actionMade c))) (written ps (positionSize * suc m) (positionMade c)) (n + 1) (cond (isMove c) (m + 1) m) (after h c)
+    → Holding (written acts (actionSize * n) (actionBytes (actionMade c))) (written ps (positionSize * suc m) (positionMade c))
+    (n + 1) (cond (isMove c) (m + 1) m) (after h c)
 unfolding actions moves actionPart positionPart
 holding-after L acts ps n m h c a g e =
     let la : length (actionPart h) ≡ actionSize * n = length-action-part h ∙ ap (λ (k : ℕ). actionSize * k) (sym (g .action-count)) in
@@ -68,11 +69,16 @@ start-is-good L acts ps p e =
 -- what is left, accepted and refused
 pub left-accepted : (acts ps : List ℕ) (n m : ℕ) (c : Call)
     → leftBy 0 acts ps n m c
-    ≡ record { counts = counts 0 (n + 1) (cond (isMove c) (m + 1) m); acts = written acts (actionSize * n) (actionBytes (actionMade c)); ps = written ps (positionSize * suc m) (positionMade c) }
+    ≡ record {
+      counts = counts 0 (n + 1) (cond (isMove c) (m + 1) m);
+      acts = written acts (actionSize * n) (actionBytes (actionMade c));
+      ps = written ps (positionSize * suc m) (positionMade c);
+    }
 unfolding countsAfter actionsAfter positionsAfter
 left-accepted acts ps n m c = refl
 
-pub left-refused : (a : ℕ) (acts ps : List ℕ) (n m : ℕ) (c : Call) → (a ≡ 0 → ⊥) → leftBy a acts ps n m c ≡ record { counts = counts a n m; acts = acts; ps = ps }
+pub left-refused : (a : ℕ) (acts ps : List ℕ) (n m : ℕ) (c : Call) → (a ≡ 0 → ⊥)
+    → leftBy a acts ps n m c ≡ record { counts = counts a n m; acts = acts; ps = ps }
 unfolding countsAfter actionsAfter positionsAfter
 left-refused a acts ps n m c z = rw (ne-eqb _ _ z) refl
 

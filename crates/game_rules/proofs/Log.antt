@@ -62,7 +62,8 @@ pub moves-at : (acts ps : List ℕ) (n : ℕ) → moves (historyOf acts ps n) �
 unfolding moves historyOf movesIn callAt
 moves-at acts ps zero = refl
 moves-at acts ps (suc n) =
-    ap (λ (t : Bool). cond t (suc (moves (historyOf acts ps n))) (moves (historyOf acts ps n))) (is-move (actionAt acts n) (positionAt ps (suc (movesIn acts n))))
+    ap (λ (t : Bool). cond t (suc (moves (historyOf acts ps n))) (moves (historyOf acts ps n)))
+    (is-move (actionAt acts n) (positionAt ps (suc (movesIn acts n))))
     ∙ ap (λ (k : ℕ). cond (holdsMove (actionAt acts n)) (suc k) k) (moves-at acts ps n)
 
 -- an action that was read is the one that its call leaves
@@ -86,7 +87,9 @@ made-back b p =
     move c n false u e = tt
 
     go : (w k₁ k₂ k₃ k₄ k₅ : Bool) (c n : ℕ)
-        → Back (cond w (cond k₁ (movesHere c n) (cond k₂ (standsAlone 1 c n (OfferDraw c)) (cond k₃ (standsAlone 0 c n AcceptDraw) (cond k₄ (standsAlone 0 c n DeclareDraw) (cond k₅ (standsAlone 1 c n (Resign c)) Nothing))))) Nothing) p
+        → Back (cond w (cond k₁ (movesHere c n)
+        (cond k₂ (standsAlone 1 c n (OfferDraw c))
+        (cond k₃ (standsAlone 0 c n AcceptDraw) (cond k₄ (standsAlone 0 c n DeclareDraw) (cond k₅ (standsAlone 1 c n (Resign c)) Nothing))))) Nothing) p
     go false k₁ k₂ k₃ k₄ k₅ c n = tt
     go true true k₂ k₃ k₄ k₅ c n = move c n (eqb c 0) (leb n lastMove) refl
     go true false true k₃ k₄ k₅ c n = alone (leb c 1 && eqb n 0) (OfferDraw c) refl

@@ -34,7 +34,8 @@ long-actions L acts ps e = leb-true _ _ (both-left (leb (actionsLength L) (lengt
 long-positions : (L : Limits) (acts ps : List ℕ) → longEnough L acts ps ≡ true → positionSize * suc (L .most-moves) ≤ length ps
 long-positions L acts ps e = leb-true _ _ (both-right (leb (actionsLength L) (length acts)) (leb (positionsLength L) (length ps)) e)
 
-as-long : (L : Limits) (acts bacts ps qs : List ℕ) → length bacts ≡ length acts → length qs ≡ length ps → longEnough L acts ps ≡ true → longEnough L bacts qs ≡ true
+as-long : (L : Limits) (acts bacts ps qs : List ℕ) → length bacts ≡ length acts → length qs ≡ length ps → longEnough L acts ps ≡ true
+    → longEnough L bacts qs ≡ true
 as-long L acts bacts ps qs a p e = rw (a, p) e
 
 -- a log that holds an accepted history passes 16 and 9
@@ -44,7 +45,8 @@ held-passes L acts ps n m h a g long =
     log-passes L acts ps n m
     (record {
       long = long;
-      within = ap₂ _&&_ (le-leb n (L .most-actions) (rw (g .action-count) (actions-most L h a))) (le-leb m (L .most-moves) (rw (g .move-count) (moves-most L h a)));
+      within = ap₂ _&&_ (le-leb n (L .most-actions) (rw (g .action-count) (actions-most L h a)))
+          (le-leb m (L .most-moves) (rw (g .move-count) (moves-most L h a)));
       good = good-is-decided L acts ps n m .1 (h, a, g);
     })
 
@@ -99,7 +101,10 @@ plays-call L h c x a e was =
     (record {
       number = refl;
       holding = holding-after L (x .acts) (x .ps) n m h c a (was .holding) e;
-      long = as-long L (x .acts) acts (x .ps) ps (length-written (x .acts) (actionSize * n) (actionBytes (actionMade c)) fa) (length-written (x .ps) (positionSize * suc m) (positionMade c) fp) (was .long);
+      long = as-long L (x .acts) acts (x .ps) ps
+          (length-written (x .acts) (actionSize * n) (actionBytes (actionMade c)) fa)
+          (length-written (x .ps) (positionSize * suc m) (positionMade c) fp)
+          (was .long);
     })
 
 -- what the calls and queries answer to it

@@ -74,14 +74,16 @@ module _ (L : Limits) (acts bacts ps qs : List ℕ) (n m : ℕ) (u : SameUsed L 
   unfolding callAnswer firstRefusal
   one-answer c =
       rw one-check
-      (where-passed (logCheck L acts ps n m) (firstRefusal (answer L (historyOf acts ps n) c ∷ [])) (firstRefusal (answer L (historyOf bacts qs n) c ∷ [])) (logCheck L acts ps n m)
+      (where-passed (logCheck L acts ps n m) (firstRefusal (answer L (historyOf acts ps n) c ∷ [])) (firstRefusal (answer L (historyOf bacts qs n) c ∷ []))
+      (logCheck L acts ps n m)
       (λ e. ap (λ (h : History). firstRefusal (answer L h c ∷ [])) (one-history e)))
 
   one-result : resultAnswer L acts ps n m ≡ resultAnswer L bacts qs n m
   unfolding resultAnswer
   one-result =
       rw one-check
-      (where-passed (logCheck L acts ps n m) (accepted (result (historyOf acts ps n))) (accepted (result (historyOf bacts qs n))) (refused (logCheck L acts ps n m))
+      (where-passed (logCheck L acts ps n m) (accepted (result (historyOf acts ps n))) (accepted (result (historyOf bacts qs n)))
+      (refused (logCheck L acts ps n m))
       (λ e. ap (λ (h : History). accepted (result h)) (one-history e)))
 
   one-claim : claimAnswer L acts ps n m ≡ claimAnswer L bacts qs n m

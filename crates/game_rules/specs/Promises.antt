@@ -16,7 +16,8 @@ use Rattle.game_rules.specs.Limits.{Limits}
 use Rattle.game_rules.specs.Rules.{Call, makeMove, offerDraw, acceptDraw, declareDraw, resign}
 use Rattle.game_rules.specs.Rules.{isMove, History, begun, after, current, answer, result, ended, claimStands}
 use Rattle.game_rules.specs.Good.{Accepted, Holding, Good, historyOf, isGood}
-use Rattle.game_rules.specs.Calls.{longEnough, callAnswer, counts, countsAfter, actionsAfter, positionsAfter, startAnswer, positionsBegun, resultAnswer, claimAnswer}
+use Rattle.game_rules.specs.Calls.{longEnough, callAnswer, counts, countsAfter, actionsAfter, positionsAfter, startAnswer, positionsBegun}
+use Rattle.game_rules.specs.Calls.{resultAnswer, claimAnswer}
 
 -- the one-pass test decides whether a log is good
 abbrev pub GoodIsDecided : Type 0
@@ -65,7 +66,8 @@ abbrev pub LogCall : Type 0
 LogCall = Limits → List ℕ → List ℕ → ℕ → ℕ → Call → Left
 
 abbrev pub KeepsGood : LogCall → Type 0
-KeepsGood call = (L : Limits) (acts ps : List ℕ) (n m : ℕ) (c : Call) → Good L acts ps n m → call L acts ps n m c .counts .number ≡ 0 → GoodLeft L (call L acts ps n m c)
+KeepsGood call =
+    (L : Limits) (acts ps : List ℕ) (n m : ℕ) (c : Call) → Good L acts ps n m → call L acts ps n m c .counts .number ≡ 0 → GoodLeft L (call L acts ps n m c)
 
 -- only a good log is answered 0
 abbrev pub AcceptedIsGood : Type 0

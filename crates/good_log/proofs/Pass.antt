@@ -24,7 +24,8 @@ use Rattle.good_log.specs.Steps.{turnsTo, moveLeads, moveMayStand, other
 use Rattle.good_log.proofs.Counted.{notSound, moveStep, step}
 use Rattle.good_log.proofs.Turns.{leads-in-range}
 use Rattle.good_log.proofs.Steps.{stepTo, step-is}
-use Rattle.good_log.proofs.Moves.{Left, movesAfter, move-goes-on, move-unsound, move-sound-by, sound-leaves, step-of-listed, step-after-end, other-sound-by, unsound}
+use Rattle.good_log.proofs.Moves.{Left, movesAfter, move-goes-on, move-unsound, move-sound-by, sound-leaves, step-of-listed, step-after-end}
+use Rattle.good_log.proofs.Moves.{other-sound-by, unsound}
 
 module _ (acts : List ℕ) where
   moves-step : (i : ℕ) → movesIn acts i ≤ movesIn acts (suc i)
@@ -68,7 +69,8 @@ module _ (acts ps : List ℕ) (n m i k : ℕ) (here : k ≡ stepTo acts ps m i) 
   unfolding isGood
   turn-out over before = go (nextSound limits acts ps i) refl (leb (movesIn acts (suc i)) m) refl
     where
-      go : (t : Bool) → nextSound limits acts ps i ≡ t → (u : Bool) → leb (movesIn acts (suc i)) m ≡ u → (eqb m (movesIn acts n) && sound limits acts ps n) ≡ false
+      go : (t : Bool) → nextSound limits acts ps i ≡ t → (u : Bool) → leb (movesIn acts (suc i)) m ≡ u
+          → (eqb m (movesIn acts n) && sound limits acts ps n) ≡ false
       go false e u f = rw (sound-all limits acts ps i n before e, and-false (eqb m (movesIn acts n)))
       go true e true f =
           let s : stepTo acts ps m i ≡ movesIn acts (suc i) = rw (e, f) in
@@ -80,7 +82,8 @@ module _ (acts ps : List ℕ) (n m i k : ℕ) (here : k ≡ stepTo acts ps m i) 
   pub turn-on : k ≤ m → (k ≡ movesIn acts (i + 1)) × (nextSound limits acts ps i ≡ true)
   turn-on fits = rw (add-one i) (go (nextSound limits acts ps i) refl (leb (movesIn acts (suc i)) m) refl)
     where
-      go : (t : Bool) → nextSound limits acts ps i ≡ t → (u : Bool) → leb (movesIn acts (suc i)) m ≡ u → (k ≡ movesIn acts (suc i)) × (nextSound limits acts ps i ≡ true)
+      go : (t : Bool) → nextSound limits acts ps i ≡ t → (u : Bool) → leb (movesIn acts (suc i)) m ≡ u
+          → (k ≡ movesIn acts (suc i)) × (nextSound limits acts ps i ≡ true)
       go true e true f = let s : stepTo acts ps m i ≡ movesIn acts (suc i) = rw (e, f) in (here ∙ s, e)
       go true e false f = let s : stepTo acts ps m i ≡ notSound = rw (e, f) in absurd (omega (arith, here ∙ s))
       go false e u f = let s : stepTo acts ps m i ≡ notSound = rw e in absurd (omega (arith, here ∙ s))
@@ -131,7 +134,8 @@ module _ (acts ps : List ℕ) (n m i k : ℕ) (g : Given acts ps n m) (at : Goin
       (omega (arith, g .few)) (g .some) (omega (arith, g .few, g .room)) (omega (arith, at .within, g .some, g .place))
 
   pub going-out : ltb (step acts ps m i k) notSound ≡ false → isGood limits acts ps n m ≡ false
-  going-out e = turn-out acts ps n m i (step acts ps m i k) going-step (omega (arith, g .some)) (omega (arith, g .some, ltb-false (step acts ps m i k) notSound e)) before
+  going-out e = turn-out acts ps n m i (step acts ps m i k) going-step (omega (arith, g .some))
+      (omega (arith, g .some, ltb-false (step acts ps m i k) notSound e)) before
 
   pub going-on : (r : ℕ) → r ≡ movesAfter acts i k → ltb (step acts ps m i k) notSound ≡ true → Going acts ps n m (i + 1) r
   going-on r e sound =
@@ -155,7 +159,8 @@ pub record Passing (acts ps : List ℕ) (n m i k : ℕ) : Type 0 where
 -- an action that is no move and may stand has not ended the game, or is the last
 other-goes-on : (acts ps : List ℕ) (n i k : ℕ) → otherMayStand acts ps n i k ≡ true → i + 1 < n → resultOfAction (lastAction acts (i + 1)) ≡ 0
 other-goes-on acts ps n i k e more =
-    rw (add-one i) (go (eqb (suc i) n) refl (eqb (resultOfAction (lastAction acts (suc i))) 0) refl (rw (add-one i) at more) (both-right (otherSound acts ps i k) _ e))
+    rw (add-one i)
+    (go (eqb (suc i) n) refl (eqb (resultOfAction (lastAction acts (suc i))) 0) refl (rw (add-one i) at more) (both-right (otherSound acts ps i k) _ e))
   where
     go : (l : Bool) → eqb (suc i) n ≡ l → (o : Bool) → eqb (resultOfAction (lastAction acts (suc i))) 0 ≡ o → suc i < n → l || o ≡ true
         → resultOfAction (lastAction acts (suc i)) ≡ 0
@@ -284,7 +289,8 @@ module _
       unfolding isPositionWith
       no-step e here = go (ltb k m) refl (listsMove p x) refl turned refl (simp here at e)
         where
-          go : (a : Bool) → ltb k m ≡ a → (b : Bool) → listsMove p x ≡ b → (t : Bool) → turned ≡ t → a && (b && t) ≡ false → ltb (moveStep ps m k x) notSound ≡ false
+          go : (a : Bool) → ltb k m ≡ a → (b : Bool) → listsMove p x ≡ b → (t : Bool) → turned ≡ t → a && (b && t) ≡ false
+              → ltb (moveStep ps m k x) notSound ≡ false
           go false e b f t h w = move-unsound ps m k (ltb-false k m e) (at .within) x
           go true e false f t h w = move-sound-by ps m k x (ltb-true k m e) (g .some) ∙ rw f
           go true e true f false h w = move-sound-by ps m k x (ltb-true k m e) (g .some) ∙ rw (f, h) (and-false (isPosition q))
@@ -304,7 +310,8 @@ module _
           go : (t : Bool) → isPosition q ≡ t → Reaching acts ps n m (i + 1) (k + 1)
           go true f = reached acts ps n m (i + 1) (k + 1) (move-on acts ps n m i k g (passing acts ps n m i k at here) before bytes x read move (by ∙ f))
           go false f =
-              let next : nextSound limits acts ps i ≡ false = move-off acts ps n m i k g (passing acts ps n m i k at here) before bytes x read move (by ∙ f) (omega (arith, moves-here)) in
+              let next : nextSound limits acts ps i ≡ false =
+                  move-off acts ps n m i k g (passing acts ps n m i k at here) before bytes x read move (by ∙ f) (omega (arith, moves-here)) in
               record {
                 far = omega arith;
                 counted = rw (add-one i, add-one k) (sym moves-here);

@@ -27,7 +27,8 @@ use Rattle.actions.proofs.Counting.{value-most}
 use Rattle.position.specs.Layout.{Position, positionSize, side, positionAt}
 use Rattle.stored_position.specs.Bytes.{positionBytes, positionCheck, isPosition, listsMove}
 use Rattle.game_rules.specs.Limits.{Limits, limits}
-use Rattle.game_rules.specs.Rules.{Call, makeMove, History, moves, isMove, actionMade, result, ended, unless, firstRefusal, comesAfter, ownChecks, roomFor, answer}
+use Rattle.game_rules.specs.Rules.{Call, makeMove, History, moves, isMove, actionMade, result, ended, unless, firstRefusal, comesAfter, ownChecks, roomFor}
+use Rattle.game_rules.specs.Rules.{answer}
 use Rattle.game_rules.specs.Good.{callOf, callAt, historyOf, positionHere, positionMade, wasMade, nextSound, sound}
 use Rattle.game_rules.proofs.Log.{actions-at, moves-at, made-back, Back, current-is, result-is, offer-is}
 use Rattle.game_rules.proofs.Checks.{nothing-refused}
@@ -87,7 +88,8 @@ module _
     -- a held action stands in exactly its bytes
     own-bytes : (a : Action) → actionAt acts i ≡ Holds a → same (item actionSize acts i) (actionBytes (actionMade (callOf (Holds a) q))) ≡ true
     own-bytes a e =
-        let s : allAtMost 255 (item actionSize acts i) ≡ true = most-take actionSize 255 (drop (actionSize * i) acts) (most-drop (actionSize * i) 255 acts bytes) in
+        let s : allAtMost 255 (item actionSize acts i) ≡ true =
+        most-take actionSize 255 (drop (actionSize * i) acts) (most-drop (actionSize * i) 255 acts bytes) in
         let f : item actionSize acts i ≡ actionBytes a = one-form (item actionSize acts i) a s e .1 in
         let b : Back (Holds a) q = rw e at (made-back (item actionSize acts i) q) in
         rw (b, f) (same-refl (actionBytes a))
@@ -153,7 +155,8 @@ module _
           → positionMade (callOf (Holds a) q) ≡ [] → soundBy (Holds a) ≡ eqb (otherCheck acts ps i k a) 0
       unfolding answer same
       other-sound a e still own none made =
-          rw (on, own, room-for (callOf (Holds a) q) (λ t. absurd (false≢true (sym still ∙ t))), own-bytes a e, none, made, own-alone (otherCheck acts ps i k a))
+          rw (on, own, room-for (callOf (Holds a) q) (λ t. absurd (false≢true (sym still ∙ t))), own-bytes a e, none, made,
+          own-alone (otherCheck acts ps i k a))
           (and-true (eqb (otherCheck acts ps i k a) 0))
 
     ended-is : (t : Bool) → eqb (result h) 0 ≡ t → ended h ≡ not t
@@ -172,12 +175,14 @@ module _
         go false g =
             let other : k ≡ m → ⊥ = eqb-false k m g in
             let more : k < m = omega (arith, other) in
-            rw (move-sound e x f more, le-leb (suc k) m more, and-true (moveFits (item positionSize ps k) (numberAnswer x .value) (item positionSize ps (suc k))))
+            rw (move-sound e x f more, le-leb (suc k) m more,
+                and-true (moveFits (item positionSize ps k) (numberAnswer x .value) (item positionSize ps (suc k))))
     settled true e (Holds (OfferDraw c)) f = by-own (OfferDraw c) (other-sound e (OfferDraw c) f refl refl refl refl)
     settled true e (Holds AcceptDraw) f =
         by-own AcceptDraw (other-sound e AcceptDraw f refl (ap (λ (t : Bool). unless t noOffer ∷ []) (sym (offer-is limits acts ps i k counted ok))) refl refl)
     settled true e (Holds DeclareDraw) f =
-        by-own DeclareDraw (other-sound e DeclareDraw f refl (ap (λ (t : Bool). unless t noClaim ∷ []) (sym (claim-is acts ps i k counted room place))) refl refl)
+        by-own DeclareDraw
+            (other-sound e DeclareDraw f refl (ap (λ (t : Bool). unless t noClaim ∷ []) (sym (claim-is acts ps i k counted room place))) refl refl)
     settled true e (Holds (Resign c)) f = by-own (Resign c) (other-sound e (Resign c) f refl refl refl refl)
     settled true e Nothing f = rw (ne-eqb _ 0 (nothing-refused limits h q))
 

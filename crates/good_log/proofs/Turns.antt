@@ -72,5 +72,6 @@ module _ (p : List ℕ) (fits : recordFits p ≡ true) where
     unfolding recordFits positionOf
     leads-in-range h e =
         let turns : turnsTo p m q ≡ true = both-right (isPositionWith p m) (turnsTo p m q) e in
-        let r : take recordSize q ≡ recordAfter (take recordSize p) m = same-eq _ _ (both-right (not (eqb (side (positionOf q)) (side (positionOf p)))) _ turns) in
+        let r : take recordSize q ≡ recordAfter (take recordSize p) m =
+        same-eq _ _ (both-right (not (eqb (side (positionOf q)) (side (positionOf p)))) _ turns) in
         rw r (record-after-in-range (take recordSize p) m here h)

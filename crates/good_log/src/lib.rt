@@ -117,7 +117,8 @@ fn other_may_stand(acts: &[u8], ps: &[u8], n: usize, i: usize, k: usize) -> bool
 // the end; but of the records only the first: each other one is in range since it is the one after a move. No turn finds its action past the part: it is
 // tested so that the compiler sees that the action's bytes are there.
 fn is_good(acts: &[u8], ps: &[u8], n: usize, m: usize) -> bool
-    requires { ⌜ (n ≤ limits .most-actions) × (m ≤ limits .most-moves) × (actionsLength limits ≤ length (now acts)) × (positionsLength limits ≤ length (now ps)) ⌝ }
+    requires { ⌜ (n ≤ limits .most-actions) × (m ≤ limits .most-moves)
+        × (actionsLength limits ≤ length (now acts)) × (positionsLength limits ≤ length (now ps)) ⌝ }
     ensures { λ r. ⌜ r ≡ isGood limits (now (acts .entry)) (now (ps .entry)) n m ⌝ }
 {
     if !stored_position::has_record(position::at(ps, 0)) {

@@ -41,7 +41,8 @@ count-listed f m fm (x ∷ xs) e = go (count-listed f m fm xs) (f x) (eqb x m) r
     go ih false false p q k = ih k
 
 -- A test that only m passes finds m alone where a wider one finds just one entry.
-pub sole : (f g : ℕ → Bool) (m : ℕ) (l : List ℕ) → ((x : ℕ) → f x ≡ true → x ≡ m) → f m ≡ true → g m ≡ true → count g l ≡ 1 → among m l ≡ true → (count f l ≡ 1) × (firstOf f l ≡ m)
+pub sole : (f g : ℕ → Bool) (m : ℕ) (l : List ℕ) → ((x : ℕ) → f x ≡ true → x ≡ m) → f m ≡ true → g m ≡ true → count g l ≡ 1 → among m l ≡ true
+    → (count f l ≡ 1) × (firstOf f l ≡ m)
 sole f g m l only fm gm one e =
     let low : 1 ≤ count f l = count-listed f m fm l e in
     let high : count f l ≤ count g l = count-mono f g (λ x p. ap g (only x p) ∙ gm) l in
@@ -65,6 +66,7 @@ unfolding count firstOf among
 first-listed f [] h = absurd (omega arith)
 first-listed f (x ∷ xs) h = go (first-listed f xs) (f x) h
   where
-    go : (1 ≤ count f xs → among (firstOf f xs) xs ≡ true) → (b : Bool) → 1 ≤ cond b (suc (count f xs)) (count f xs) → eqb x (cond b x (firstOf f xs)) || among (cond b x (firstOf f xs)) xs ≡ true
+    go : (1 ≤ count f xs → among (firstOf f xs) xs ≡ true) → (b : Bool) → 1 ≤ cond b (suc (count f xs)) (count f xs)
+        → eqb x (cond b x (firstOf f xs)) || among (cond b x (firstOf f xs)) xs ≡ true
     go ih true k = rw (eq-eqb x x refl)
     go ih false k = or-right (eqb x (firstOf f xs)) (among (firstOf f xs) xs) (ih k)

@@ -62,7 +62,8 @@ module _ (s : List ℕ) (entries : ℕ) where
 
   -- a short list's zeros, in two parts that overlap
   pub not-near : (block : ℕ) → allAtMost 0 (take (2 * block) (drop (movesAt + 2 * entries) s)) ≡ false → listFits s entries ≡ false
-  not-near block e = not-past (bound-parts 0 s (movesAt + 2 * entries) (2 * block) ∙ ap (λ (t : Bool). t && allAtMost 0 (drop (movesAt + 2 * entries + 2 * block) s)) e)
+  not-near block e = not-past
+      (bound-parts 0 s (movesAt + 2 * entries) (2 * block) ∙ ap (λ (t : Bool). t && allAtMost 0 (drop (movesAt + 2 * entries + 2 * block) s)) e)
 
   pub far : (block : ℕ) → entries < block → allAtMost 0 (take (2 * block) (drop (movesAt + 2 * entries) s)) ≡ true
       → allAtMost 0 (drop (behind block) s) ≡ allAtMost 0 (drop (movesAt + 2 * entries) s)

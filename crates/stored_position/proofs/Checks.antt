@@ -80,7 +80,8 @@ position-fits p h = go (numbersInRange (p .board) && leb (p .check) 1) (listInRa
   where
     go : (a b : Bool) → (numbersInRange (p .board) && leb (p .check) 1) ≡ a → listInRange (p .moves) ≡ b → Fits p
     go true true e f = record {
-      wide = eqb-true _ _ (both-left (eqb (length (p .board)) recordSize) (inRange (boardOf (p .board))) (both-left (numbersInRange (p .board)) (leb (p .check) 1) e));
+      wide = eqb-true _ _
+          (both-left (eqb (length (p .board)) recordSize) (inRange (boardOf (p .board))) (both-left (numbersInRange (p .board)) (leb (p .check) 1) e));
       short = leb-true _ _ (both-left (leb (length (p .moves)) longestList) (allAtMost lastMove (p .moves)) f);
       list = f;
     }

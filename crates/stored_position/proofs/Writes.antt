@@ -83,7 +83,8 @@ module _ (p : Position) (out : List ℕ) (n : ℕ) (checked : n ≡ positionChec
       let d = passed h in
       rw (d .0, ← d .1) (write-short (positionBytes p) out (omega arith))
 
-  pub way-written : n ≡ 0 → positionSize ≤ length out → Written (positionCheck p) (positionBytes p) out (accepted positionSize) (written out 0 (positionBytes p))
+  pub way-written : n ≡ 0 → positionSize ≤ length out
+      → Written (positionCheck p) (positionBytes p) out (accepted positionSize) (written out 0 (positionBytes p))
   way-written h room =
       let d = passed h in
       let e : 0 + length (positionBytes p) ≡ length (positionBytes p) = omega arith in

@@ -114,8 +114,10 @@ fn write_position(b: BoardBuilder, in_check: u8, list: &[u16], out: &mut [u8])
 
 // Writes a position to the front of `out`. Checks 5, 6, then 7.
 pub fn to_bytes(b: BoardBuilder, in_check: u8, list: &[u16], out: &mut [u8]) -> Answer
-    ensures answer { λ r. ⌜ r ≡ writeAnswer (positionCheck (positionGiven b in_check (now (list .entry)))) (positionBytes (positionGiven b in_check (now (list .entry)))) (length (now (out .entry))) ⌝ }
-    ensures bytes { λ r. ⌜ now (out .exit) ≡ writeBytes (positionCheck (positionGiven b in_check (now (list .entry)))) (positionBytes (positionGiven b in_check (now (list .entry)))) (now (out .entry)) ⌝ }
+    ensures answer { λ r. ⌜ r ≡ writeAnswer (positionCheck (positionGiven b in_check (now (list .entry))))
+        (positionBytes (positionGiven b in_check (now (list .entry)))) (length (now (out .entry))) ⌝ }
+    ensures bytes { λ r. ⌜ now (out .exit) ≡ writeBytes (positionCheck (positionGiven b in_check (now (list .entry))))
+        (positionBytes (positionGiven b in_check (now (list .entry)))) (now (out .entry)) ⌝ }
 {
     let number = check(b, in_check, list);
     if number != ACCEPTED {

@@ -63,7 +63,10 @@ returns-6 : tie.Need-returns-6
 returns-6 c = c .stands-alone4 .ensures ∙ sym (of-resign _ (c .before .before .before .before .before .before .if1 .left) (c .before .match .keys5))
 
 returns-7 : tie.Need-returns-7
-returns-7 c = let r = c .match .rest in sym (of-none _ (c .before .before .before .before .before .if1 .left) (r .0 .0 .0 .0 .1) (r .0 .0 .0 .1) (r .0 .0 .1) (r .0 .1) (r .1))
+returns-7 c =
+    let at-if1 = c .before .before .before .before .before .if1 in
+    let r = c .match .rest in
+    sym (of-none _ (at-if1 .left) (r .0 .0 .0 .0 .1) (r .0 .0 .0 .1) (r .0 .0 .1) (r .0 .1) (r .1))
 
 pub from-bytes-spec : {M : Type 1} → statement M
 from-bytes-spec =

@@ -22,8 +22,12 @@ same-length : tie.Need-same-length
 same-length c = search needs
 
 returns-2 : tie.Need-returns-2
-returns-2 c = let k : colourCheck (c .before .before .before .before .before .before .before .args .colour) ≡ 0 = simp (le-leb _ _ (c .before .before .before .before .before .if1 .left)) in
-    rw k (c .before .before .write-text .ensures .0, c .before .before .write-text .ensures .1)
+returns-2 c =
+    let a = c .before .before .before .before .before .before .before .args in
+    let at-if1 = c .before .before .before .before .before .if1 in
+    let at-write-text = c .before .before .write-text in
+    let k : colourCheck (a .colour) ≡ 0 = simp (le-leb _ _ (at-if1 .left)) in
+    rw k (at-write-text .ensures .0, at-write-text .ensures .1)
 
 pub write-colour-spec : {M : Type 1} → statement M
 write-colour-spec =

@@ -18,8 +18,10 @@ refused-requires : tie.Need-refused-requires
 refused-requires c κs = search needs
 
 returns : tie.Need-returns
-returns c = let a = c .before .before .before .before .before .args in
-    let k : numberAnswer (a .m) .number ≡ 5 = number-five (a .m) (λ e. c .before .if1 .taken (ap (λ (x : Answer). x .number) (c .before .before .before .number .ensures) ∙ e)) in
+returns c =
+    let a = c .before .before .before .before .before .args in
+    let at-number = c .before .before .before .number in
+    let k : numberAnswer (a .m) .number ≡ 5 = number-five (a .m) (λ e. c .before .if1 .taken (ap (λ (x : Answer). x .number) (at-number .ensures) ∙ e)) in
     let w = write-refused 5 (fields 1 0 (numberAnswer (a .m) .value)) (a .out .now) (λ e. omega arith) in
     rw k (c .refused .ensures ∙ w .answer, w .bytes)
 
@@ -29,9 +31,12 @@ cast-t7 c = let a = c .before .before .before .before .before .args in
     rw (c .before .before .before .number .ensures) (omega (arith, k))
 
 cast-t9 : tie.Need-cast-t9
-cast-t9 c = let a = c .before .before .before .before .before .before .args in
-    let k : numberAnswer (a .m) .value ≤ lastMove = parts-of-number (a .m) (rw (← c .before .before .before .before .number .ensures) (c .before .before .if1 .left)) .0 in
-    rw (c .before .before .before .before .number .ensures) (omega (arith, k))
+cast-t9 c =
+    let a = c .before .before .before .before .before .before .args in
+    let at-number = c .before .before .before .before .number in
+    let at-if1 = c .before .before .if1 in
+    let k : numberAnswer (a .m) .value ≤ lastMove = parts-of-number (a .m) (rw (← at-number .ensures) (at-if1 .left)) .0 in
+    rw (at-number .ensures) (omega (arith, k))
 
 slice-aggregate-write-text : tie.Need-slice-aggregate-write-text
 slice-aggregate-write-text c = search needs
@@ -43,9 +48,13 @@ same-length : tie.Need-same-length
 same-length c = search needs
 
 returns-2 : tie.Need-returns-2
-returns-2 c = let a = c .before .before .before .before .before .before .before .before .before .before .before .args in
-    let k : numberAnswer (a .m) .number ≡ 0 = rw (← c .before .before .before .before .before .before .before .before .before .number .ensures) (c .before .before .before .before .before .before .before .if1 .left) in
-    rw (k, ← c .before .before .before .before .before .before .before .before .before .number .ensures) (c .before .before .write-text .ensures .0, c .before .before .write-text .ensures .1)
+returns-2 c =
+    let a = c .before .before .before .before .before .before .before .before .before .before .before .args in
+    let at-number = c .before .before .before .before .before .before .before .before .before .number in
+    let at-if1 = c .before .before .before .before .before .before .before .if1 in
+    let at-write-text = c .before .before .write-text in
+    let k : numberAnswer (a .m) .number ≡ 0 = rw (← at-number .ensures) (at-if1 .left) in
+    rw (k, ← at-number .ensures) (at-write-text .ensures .0, at-write-text .ensures .1)
 
 pub write-move-spec : {M : Type 1} → statement M
 write-move-spec =

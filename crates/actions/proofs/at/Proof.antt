@@ -45,7 +45,10 @@ part-result-end-2 : tie.Need-part-result-end-2
 part-result-end-2 c = search needs
 
 returns-3 : tie.Need-returns-3
-returns-3 c = let e : actionSize * c .before .before .before .args .i + actionSize - actionSize * c .before .before .before .args .i ≡ actionSize = omega arith in ap (λ (n : ℕ). take n (drop (actionSize * c .before .before .before .args .i) (c .before .before .before .args .acts .now))) e
+returns-3 c =
+    let a = c .before .before .before .args in
+    let e : actionSize * a .i + actionSize - actionSize * a .i ≡ actionSize = omega arith in
+    ap (λ (n : ℕ). take n (drop (actionSize * a .i) (a .acts .now))) e
 
 pub at-spec : {M : Type 1} → statement M
 at-spec =

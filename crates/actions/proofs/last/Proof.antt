@@ -19,7 +19,10 @@ from-bytes-requires : tie.Need-from-bytes-requires
 from-bytes-requires c κs = search needs
 
 returns-2 : tie.Need-returns-2
-returns-2 c = c .from-bytes .ensures ∙ ap actionOf (c .before .at .ensures) ∙ sym (last-some (c .before .before .before .before .args .acts .now) (c .before .before .before .before .args .n) (c .before .before .if1 .left))
+returns-2 c =
+    let a = c .before .before .before .before .args in
+    let at-if1 = c .before .before .if1 in
+    c .from-bytes .ensures ∙ ap actionOf (c .before .at .ensures) ∙ sym (last-some (a .acts .now) (a .n) (at-if1 .left))
 
 pub last-spec : {M : Type 1} → statement M
 last-spec = tie.close (tie.spec returns sub-at at-requires from-bytes-requires returns-2)

@@ -21,7 +21,11 @@ enum-told : tie.Need-enum-told
 enum-told c = search needs
 
 returns : tie.Need-returns
-returns c = c .move-made .ensures ∙ ap moveHeld (sym (c .before .before .action .given .1) ∙ c .before .before .before .before .from-bytes .ensures ∙ ap actionOf (c .before .before .before .before .before .at .ensures))
+returns c =
+    let at-at = c .before .before .before .before .before .at in
+    let at-from-bytes = c .before .before .before .before .from-bytes in
+    let at-action = c .before .before .action in
+    c .move-made .ensures ∙ ap moveHeld (sym (at-action .given .1) ∙ at-from-bytes .ensures ∙ ap actionOf (at-at .ensures))
 
 returns-2 : tie.Need-returns-2
 returns-2 c = ap moveHeld (sym (c .enum-told .given .1) ∙ c .before .before .from-bytes .ensures ∙ ap actionOf (c .before .before .before .at .ensures))

@@ -11,10 +11,16 @@ returns-2 : tie.Need-returns-2
 returns-2 c = rw (eq-eqb _ _ (c .before .if1 .left), ne-eqb _ _ (c .if2 .taken))
 
 returns-3 : tie.Need-returns-3
-returns-3 c = rw (eq-eqb _ _ (c .before .before .if1 .left), eq-eqb _ _ (c .before .if2 .left), lt-leb (c .before .before .before .args .number) lastMove (omega (arith, c .if3 .taken)))
+returns-3 c =
+    let a = c .before .before .before .args in
+    let at-if1 = c .before .before .if1 in
+    rw (eq-eqb _ _ (at-if1 .left), eq-eqb _ _ (c .before .if2 .left), lt-leb (a .number) lastMove (omega (arith, c .if3 .taken)))
 
 returns-4 : tie.Need-returns-4
-returns-4 c = rw (eq-eqb _ _ (c .before .before .if1 .left), eq-eqb _ _ (c .before .if2 .left), le-leb (c .before .before .before .args .number) lastMove (omega (arith, c .if3 .left)))
+returns-4 c =
+    let a = c .before .before .before .args in
+    let at-if1 = c .before .before .if1 in
+    rw (eq-eqb _ _ (at-if1 .left), eq-eqb _ _ (c .before .if2 .left), le-leb (a .number) lastMove (omega (arith, c .if3 .left)))
 
 pub one-if-move-spec : {M : Type 1} → statement M
 one-if-move-spec = tie.close (tie.spec returns returns-2 returns-3 returns-4)

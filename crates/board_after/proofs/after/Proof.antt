@@ -44,7 +44,11 @@ rights-after-requires-2 c κs = search needs
 -- src/lib.rt:215:1
 returns : tie.Need-returns
 unfolding afterParts
-returns c = simp (c .before .before .before .before .move-men .ensures, c .before .before .before .before .before .before .file-after .ensures, c .before .before .side-after .ensures, c .before .rights-after .ensures, c .rights-after2 .ensures)
+returns c =
+    let at-file-after = c .before .before .before .before .before .before .file-after in
+    let at-move-men = c .before .before .before .before .move-men in
+    let at-side-after = c .before .before .side-after in
+    simp (at-move-men .ensures, at-file-after .ensures, at-side-after .ensures, c .before .rights-after .ensures, c .rights-after2 .ensures)
 
 pub after-spec : {M : Type 1} → statement M
 after-spec =

@@ -31,7 +31,10 @@ stepped-requires-2 c κs = search needs
 -- src/lib.rt:246:9
 returns-2 : tie.Need-returns-2
 unfolding afterAnswer
-returns-2 c = c .stepped2 .ensures ∙ simp (sym (c .before .before .before .in-range .ensures) ∙ not-false (c .before .before .before .in-range .result) (c .before .before .if1 .left), lt-leb _ _ (c .before .if2 .taken))
+returns-2 c =
+    let at-in-range = c .before .before .before .in-range in
+    let at-if1 = c .before .before .if1 in
+    c .stepped2 .ensures ∙ simp (sym (at-in-range .ensures) ∙ not-false (at-in-range .result) (at-if1 .left), lt-leb _ _ (c .before .if2 .taken))
 
 -- src/lib.rt:250:18
 cast-after : tie.Need-cast-after
@@ -56,7 +59,13 @@ stepped-requires-3 c κs = search needs
 -- src/lib.rt:239:1
 returns-3 : tie.Need-returns-3
 unfolding afterAnswer
-returns-3 c = c .stepped3 .ensures ∙ simp (sym (c .before .before .before .before .in-range .ensures) ∙ not-false (c .before .before .before .before .in-range .result) (c .before .before .before .if1 .left), le-leb _ _ (c .before .before .if2 .left)) (ap (stepped 0) (c .before .after .ensures))
+returns-3 c =
+    let at-in-range = c .before .before .before .before .in-range in
+    let at-if1 = c .before .before .before .if1 in
+    let at-if2 = c .before .before .if2 in
+    c .stepped3 .ensures
+    ∙ simp (sym (at-in-range .ensures) ∙ not-false (at-in-range .result) (at-if1 .left), le-leb _ _ (at-if2 .left))
+    (ap (stepped 0) (c .before .after .ensures))
 
 pub board-after-spec : {M : Type 1} → statement M
 board-after-spec =

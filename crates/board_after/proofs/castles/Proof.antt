@@ -32,7 +32,16 @@ both-requires-2 c κs = search needs
 -- src/lib.rt:54:1
 returns : tie.Need-returns
 unfolding castles
-returns c = c .both2 .ensures ∙ ap₂ (λ (x : ℕ) (t : Bool). eqb x 6 && t) (c .before .before .kind-of .ensures) (c .before .both .ensures ∙ ap (λ (t : Bool). eqb (c .before .before .before .before .args .source / 8) (c .before .before .before .before .args .dest / 8) && t) (c .before .before .before .two-apart .ensures) ∙ two-on-rank (c .before .before .before .before .args .source) (c .before .before .before .before .args .dest) (c .before .before .before .before .pre .0) (c .before .before .before .before .pre .1))
+returns c =
+    let a = c .before .before .before .before .args in
+    let at-pre = c .before .before .before .before .pre in
+    let at-two-apart = c .before .before .before .two-apart in
+    let at-kind-of = c .before .before .kind-of in
+    c .both2 .ensures
+    ∙ ap₂ (λ (x : ℕ) (t : Bool). eqb x 6 && t) (at-kind-of .ensures)
+    (c .before .both .ensures
+    ∙ ap (λ (t : Bool). eqb (a .source / 8) (a .dest / 8) && t) (at-two-apart .ensures)
+    ∙ two-on-rank (a .source) (a .dest) (at-pre .0) (at-pre .1))
 
 pub castles-spec : {M : Type 1} → statement M
 castles-spec =

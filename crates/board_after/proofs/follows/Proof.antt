@@ -43,7 +43,10 @@ side-after-requires c κs = search needs
 
 -- src/lib.rt:358:9
 returns : tie.Need-returns
-returns c = not-side (c .before .before .before .before .before .before .before .args .p .now) (c .before .before .before .before .before .before .before .args .q .now) (c .before .before .before .before .before .before .before .args .m) (c .before .before .before .before .before .before .before .pre .0) (c .before .before .before .before .before .before .before .pre .1) _ (c .before .side-after .ensures) (c .if1 .taken)
+returns c =
+    let a = c .before .before .before .before .before .before .before .args in
+    let at-pre = c .before .before .before .before .before .before .before .pre in
+    not-side (a .p .now) (a .q .now) (a .m) (at-pre .0) (at-pre .1) _ (c .before .side-after .ensures) (c .if1 .taken)
 
 -- src/lib.rt:361:9
 shared-slice-read-rights-follow : tie.Need-shared-slice-read-rights-follow
@@ -67,7 +70,11 @@ rights-follow-requires c κs = search needs
 
 -- src/lib.rt:368:9
 returns-2 : tie.Need-returns-2
-returns-2 c = not-rights (c .before .before .before .before .before .before .before .before .before .before .before .before .before .args .p .now) (c .before .before .before .before .before .before .before .before .before .before .before .before .before .args .q .now) (c .before .before .before .before .before .before .before .before .before .before .before .before .before .args .m) (c .before .before .before .before .before .before .before .before .before .before .before .before .before .pre .0) (c .before .before .before .before .before .before .before .before .before .before .before .before .before .pre .1) (sym (c .before .rights-follow .ensures) ∙ not-true (c .before .rights-follow .result) (c .if2 .taken))
+returns-2 c =
+    let a = c .before .before .before .before .before .before .before .before .before .before .before .before .before .args in
+    let at-pre = c .before .before .before .before .before .before .before .before .before .before .before .before .before .pre in
+    let at-rights-follow = c .before .rights-follow in
+    not-rights (a .p .now) (a .q .now) (a .m) (at-pre .0) (at-pre .1) (sym (at-rights-follow .ensures) ∙ not-true (at-rights-follow .result) (c .if2 .taken))
 
 -- src/lib.rt:370:8
 shared-slice-read-if3 : tie.Need-shared-slice-read-if3
@@ -79,27 +86,55 @@ cast-file-after c = search needs
 
 -- src/lib.rt:370:44
 shared-slice-read-file-after : tie.Need-shared-slice-read-file-after
-shared-slice-read-file-after c = simp length-take (omega (arith, c .before .before .before .before .before .before .before .before .before .before .before .before .before .before .before .pre .0))
+shared-slice-read-file-after c =
+    let early = c .before .before .before .before .before .before .before .before .before .before .before .before in
+    let at-pre = early .before .before .before .pre in
+    simp length-take (omega (arith, at-pre .0))
 
 -- src/lib.rt:370:28
 file-after-requires : tie.Need-file-after-requires
-file-after-requires c κs = (simp length-take (omega (arith, c .before .before .before .before .before .before .before .before .before .before .before .before .before .before .before .pre .0)), omega arith, omega arith)
+file-after-requires c κs =
+    let early = c .before .before .before .before .before .before .before .before .before .before .before .before in
+    let at-pre = early .before .before .before .pre in
+    (simp length-take (omega (arith, at-pre .0)), omega arith, omega arith)
 
 -- src/lib.rt:371:9
 returns-3 : tie.Need-returns-3
-returns-3 c = not-file (c .before .before .before .before .before .before .before .before .before .before .before .before .before .before .before .before .before .args .p .now) (c .before .before .before .before .before .before .before .before .before .before .before .before .before .before .before .before .before .args .q .now) (c .before .before .before .before .before .before .before .before .before .before .before .before .before .before .before .before .before .args .m) (c .before .before .before .before .before .before .before .before .before .before .before .before .before .before .before .before .before .pre .0) (c .before .before .before .before .before .before .before .before .before .before .before .before .before .before .before .before .before .pre .1) _ (c .before .file-after .ensures) (c .if3 .taken)
+returns-3 c =
+    let early = c .before .before .before .before .before .before .before .before .before .before .before .before in
+    let a = early .before .before .before .before .before .args in
+    let at-pre = early .before .before .before .before .before .pre in
+    not-file (a .p .now) (a .q .now) (a .m) (at-pre .0) (at-pre .1) _ (c .before .file-after .ensures) (c .if3 .taken)
 
 -- src/lib.rt:373:50
 slice-aggregate-squares-follow : tie.Need-slice-aggregate-squares-follow
-slice-aggregate-squares-follow c = simp length-take (omega (arith, c .before .before .before .before .before .before .before .before .before .before .before .before .before .before .before .before .before .before .pre .1))
+slice-aggregate-squares-follow c =
+    let early = c .before .before .before .before .before .before .before .before .before .before .before .before in
+    let at-pre = early .before .before .before .before .before .before .pre in
+    simp length-take (omega (arith, at-pre .1))
 
 -- src/lib.rt:373:5
 squares-follow-requires : tie.Need-squares-follow-requires
-squares-follow-requires c κs = (simp length-take (omega (arith, c .before .before .before .before .before .before .before .before .before .before .before .before .before .before .before .before .before .before .pre .0)), simp length-take (omega (arith, c .before .before .before .before .before .before .before .before .before .before .before .before .before .before .before .before .before .before .pre .1)), omega arith, omega arith, omega arith)
+squares-follow-requires c κs =
+    let early = c .before .before .before .before .before .before .before .before .before .before .before .before in
+    let at-pre = early .before .before .before .before .before .before .pre in
+    (simp length-take (omega (arith, at-pre .0)), simp length-take (omega (arith, at-pre .1)), omega arith, omega arith, omega arith)
 
 -- src/lib.rt:349:1
 returns-4 : tie.Need-returns-4
-returns-4 c = c .squares-follow .ensures ∙ so-by-squares (c .before .before .before .before .before .before .before .before .before .before .before .before .before .before .before .before .before .before .before .args .p .now) (c .before .before .before .before .before .before .before .before .before .before .before .before .before .before .before .before .before .before .before .args .q .now) (c .before .before .before .before .before .before .before .before .before .before .before .before .before .before .before .before .before .before .before .args .m) (c .before .before .before .before .before .before .before .before .before .before .before .before .before .before .before .before .before .before .before .pre .0) (c .before .before .before .before .before .before .before .before .before .before .before .before .before .before .before .before .before .before .before .pre .1) _ _ (c .before .before .before .before .before .before .before .before .before .before .before .before .before .side-after .ensures) (c .before .before .before .before .before .before .before .before .before .before .before .before .if1 .left) (sym (c .before .before .before .before .before .before .before .rights-follow .ensures) ∙ not-false (c .before .before .before .before .before .before .before .rights-follow .result) (c .before .before .before .before .before .before .if2 .left)) (c .before .before .before .file-after .ensures) (c .before .before .if3 .left)
+returns-4 c =
+    let early = c .before .before .before .before .before .before .before .before .before .before .before .before in
+    let a = early .before .before .before .before .before .before .before .args in
+    let at-pre = early .before .before .before .before .before .before .before .pre in
+    let at-side-after = early .before .side-after in
+    let at-if1 = early .if1 in
+    let at-rights-follow = c .before .before .before .before .before .before .before .rights-follow in
+    let at-if2 = c .before .before .before .before .before .before .if2 in
+    let at-file-after = c .before .before .before .file-after in
+    let at-if3 = c .before .before .if3 in
+    c .squares-follow .ensures
+    ∙ so-by-squares (a .p .now) (a .q .now) (a .m) (at-pre .0) (at-pre .1) _ _ (at-side-after .ensures) (at-if1 .left)
+    (sym (at-rights-follow .ensures) ∙ not-false (at-rights-follow .result) (at-if2 .left)) (at-file-after .ensures) (at-if3 .left)
 
 pub follows-spec : {M : Type 1} → statement M
 follows-spec =

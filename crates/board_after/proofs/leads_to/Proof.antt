@@ -10,11 +10,15 @@ use Rattle.board_after.proofs.follows.Reads as follows-reads
 
 -- src/lib.rt:382:9
 returns : tie.Need-returns
-returns c = none-before (c .before .before .before .args .p .now) (c .before .before .before .args .m) (take 68 (c .before .before .before .args .q .now)) (c .if1 .taken)
+returns c =
+    let a = c .before .before .before .args in
+    none-before (a .p .now) (a .m) (take 68 (a .q .now)) (c .if1 .taken)
 
 -- src/lib.rt:385:9
 returns-2 : tie.Need-returns-2
-returns-2 c = none-after (c .before .before .before .before .args .p .now) (c .before .before .before .before .args .m) (c .before .if1 .left) (c .before .before .before .before .args .q .now) (c .if2 .taken)
+returns-2 c =
+    let a = c .before .before .before .before .args in
+    none-after (a .p .now) (a .m) (c .before .if1 .left) (a .q .now) (c .if2 .taken)
 
 -- src/lib.rt:387:13
 slice-aggregate-follows : tie.Need-slice-aggregate-follows
@@ -30,7 +34,10 @@ follows-requires c κs = (simp length-take (omega (arith, c .before .before .bef
 
 -- src/lib.rt:378:1
 returns-3 : tie.Need-returns-3
-returns-3 c = c .follows .ensures ∙ from-record (c .before .before .before .before .before .before .before .args .p .now) (c .before .before .before .before .before .before .before .args .m) (c .before .before .before .before .if1 .left) (take 68 (c .before .before .before .before .before .before .before .args .q .now))
+returns-3 c =
+    let a = c .before .before .before .before .before .before .before .args in
+    let at-if1 = c .before .before .before .before .if1 in
+    c .follows .ensures ∙ from-record (a .p .now) (a .m) (at-if1 .left) (take 68 (a .q .now))
 
 pub leads-to-spec : {M : Type 1} → statement M
 leads-to-spec =

@@ -46,7 +46,14 @@ same-record-requires c κs = search needs
 -- src/lib.rt:426:1
 returns-2 : tie.Need-returns-2
 unfolding recordAfter
-returns-2 c = c .same-record .ensures ∙ ap (λ (b : BoardBuilder). same (numbers (c .before .before .before .before .before .args .next)) (numbers b)) (c .before .after .ensures ∙ ap (λ (b : BoardBuilder). afterParts b (c .before .before .before .before .before .args .m % 64) (c .before .before .before .before .before .args .m / 64 % 64) (c .before .before .before .before .before .args .m / 4096)) (c .before .before .record-at .ensures)) ∙ from-record (c .before .before .before .before .before .args .p .now) (c .before .before .before .before .before .args .m) (c .before .before .before .if1 .left) (numbers (c .before .before .before .before .before .args .next))
+returns-2 c =
+    let a = c .before .before .before .before .before .args in
+    let at-if1 = c .before .before .before .if1 in
+    let at-record-at = c .before .before .record-at in
+    c .same-record .ensures
+    ∙ ap (λ (b : BoardBuilder). same (numbers (a .next)) (numbers b))
+    (c .before .after .ensures ∙ ap (λ (b : BoardBuilder). afterParts b (a .m % 64) (a .m / 64 % 64) (a .m / 4096)) (at-record-at .ensures))
+    ∙ from-record (a .p .now) (a .m) (at-if1 .left) (numbers (a .next))
 
 pub leads-to-board-spec : {M : Type 1} → statement M
 leads-to-board-spec =

@@ -39,7 +39,11 @@ shared-slice-read-t16 c = search needs
 
 -- src/lib.rt:390:1
 returns : tie.Need-returns
-returns c = rw (c .before .before .before .before .before .copy .ensures) (board-front (c .before .before .before .before .before .before .before .before .before .args .p .now) (c .before .before .before .before .before .before .before .before .before .pre))
+returns c =
+    let a = c .before .before .before .before .before .before .before .before .before .args in
+    let at-pre = c .before .before .before .before .before .before .before .before .before .pre in
+    let at-copy = c .before .before .before .before .before .copy in
+    rw (at-copy .ensures) (board-front (a .p .now) at-pre)
 
 pub record-at-spec : {M : Type 1} → statement M
 record-at-spec =

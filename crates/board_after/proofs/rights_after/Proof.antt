@@ -19,7 +19,9 @@ rights-without-requires-2 c κs = search needs
 -- src/lib.rt:153:1
 returns : tie.Need-returns
 unfolding rightsAfter
-returns c = c .rights-without2 .ensures ∙ ap (λ (x : ℕ). rightsWithout (c .before .before .args .color) x (c .before .before .args .dest)) (c .before .rights-without .ensures)
+returns c =
+    let a = c .before .before .args in
+    c .rights-without2 .ensures ∙ ap (λ (x : ℕ). rightsWithout (a .color) x (a .dest)) (c .before .rights-without .ensures)
 
 pub rights-after-spec : {M : Type 1} → statement M
 rights-after-spec = tie.close (tie.spec rights-without-requires rights-without-requires-2 returns)

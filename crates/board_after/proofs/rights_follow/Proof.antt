@@ -24,7 +24,13 @@ both-requires-2 c κs = search needs
 
 -- src/lib.rt:340:9
 returns : tie.Need-returns
-returns c = let zeros : _ = sym (c .before .before .both .ensures) ∙ c .before .if1 .taken in c .both2 .ensures ∙ none-left (c .before .before .before .args .source) (c .before .before .before .args .dest) (c .before .before .before .args .left) (c .before .before .before .args .right) (c .before .before .before .args .white) (c .before .before .before .args .black) (eqb-true _ _ (both-left (eqb (c .before .before .before .args .white) 0) (eqb (c .before .before .before .args .black) 0) zeros)) (eqb-true _ _ (both-right (eqb (c .before .before .before .args .white) 0) (eqb (c .before .before .before .args .black) 0) zeros))
+returns c =
+    let a = c .before .before .before .args in
+    let at-both = c .before .before .both in
+    let zeros : _ = sym (at-both .ensures) ∙ c .before .if1 .taken in
+    c .both2 .ensures
+    ∙ none-left (a .source) (a .dest) (a .left) (a .right) (a .white) (a .black) (eqb-true _ _ (both-left (eqb (a .white) 0) (eqb (a .black) 0) zeros))
+    (eqb-true _ _ (both-right (eqb (a .white) 0) (eqb (a .black) 0) zeros))
 
 -- src/lib.rt:342:16
 rights-after-requires : tie.Need-rights-after-requires
@@ -32,7 +38,9 @@ rights-after-requires c κs = search needs
 
 -- src/lib.rt:343:9
 returns-2 : tie.Need-returns-2
-returns-2 c = rw (ne-eqb (c .before .before .before .before .args .left) (rightsAfter 0 (c .before .before .before .before .args .white) (c .before .before .before .before .args .source) (c .before .before .before .before .args .dest)) (λ e. c .if2 .taken (e ∙ sym (c .before .rights-after .ensures))))
+returns-2 c =
+    let a = c .before .before .before .before .args in
+    rw (ne-eqb (a .left) (rightsAfter 0 (a .white) (a .source) (a .dest)) (λ e. c .if2 .taken (e ∙ sym (c .before .rights-after .ensures))))
 
 -- src/lib.rt:345:14
 rights-after-requires-2 : tie.Need-rights-after-requires-2
@@ -40,7 +48,11 @@ rights-after-requires-2 c κs = search needs
 
 -- src/lib.rt:335:1
 returns-3 : tie.Need-returns-3
-returns-3 c = rw (eq-eqb (c .before .before .before .before .before .args .left) (rightsAfter 0 (c .before .before .before .before .before .args .white) (c .before .before .before .before .before .args .source) (c .before .before .before .before .before .args .dest)) (c .before .if2 .left ∙ c .before .before .rights-after .ensures)) (ap (λ (x : ℕ). eqb (c .before .before .before .before .before .args .right) x) (c .rights-after2 .ensures))
+returns-3 c =
+    let a = c .before .before .before .before .before .args in
+    let at-rights-after = c .before .before .rights-after in
+    rw (eq-eqb (a .left) (rightsAfter 0 (a .white) (a .source) (a .dest)) (c .before .if2 .left ∙ at-rights-after .ensures))
+    (ap (λ (x : ℕ). eqb (a .right) x) (c .rights-after2 .ensures))
 
 pub rights-follow-spec : {M : Type 1} → statement M
 rights-follow-spec =

@@ -15,7 +15,11 @@ square-to-castle-rights-requires c κs = search needs
 
 -- src/lib.rt:149:16
 cast-gone : tie.Need-cast-gone
-cast-gone c = omega (arith, gone-small (c .before .before .args .color) (c .before .before .args .square) (c .before .square-to-castle-rights .result) (c .before .before .pre .0) (c .before .before .pre .1) (c .before .square-to-castle-rights .ensures))
+cast-gone c =
+    let a = c .before .before .args in
+    let at-pre = c .before .before .pre in
+    let at-square-to-castle-rights = c .before .square-to-castle-rights in
+    omega (arith, gone-small (a .color) (a .square) (at-square-to-castle-rights .result) (at-pre .0) (at-pre .1) (at-square-to-castle-rights .ensures))
 
 -- src/lib.rt:150:5
 without-requires : tie.Need-without-requires
@@ -35,7 +39,13 @@ add-result c = search needs
 
 -- src/lib.rt:145:1
 returns : tie.Need-returns
-returns c = less-of (c .before .before .before .before .args .color) (c .before .before .before .before .args .rights) (c .before .before .before .before .args .square) _ (gone-is (c .before .before .before .before .args .color) (c .before .before .before .before .args .square) (c .before .before .before .square-to-castle-rights .result) (c .before .before .before .before .pre .0) (c .before .before .before .before .pre .1) (c .before .before .before .square-to-castle-rights .ensures)) _ _ (c .before .without .ensures) (c .without2 .ensures)
+returns c =
+    let a = c .before .before .before .before .args in
+    let at-pre = c .before .before .before .before .pre in
+    let at-square-to-castle-rights = c .before .before .before .square-to-castle-rights in
+    less-of (a .color) (a .rights) (a .square) _
+    (gone-is (a .color) (a .square) (at-square-to-castle-rights .result) (at-pre .0) (at-pre .1) (at-square-to-castle-rights .ensures)) _ _
+    (c .before .without .ensures) (c .without2 .ensures)
 
 pub rights-without-spec : {M : Type 1} → statement M
 rights-without-spec =

@@ -13,22 +13,46 @@ use Rattle.board_after.proofs.same_squares.Reads as same-squares-reads
 -- src/lib.rt:415:9
 returns : tie.Need-returns
 unfolding numbers
-returns c = let ha : length (c .before .before .before .args .a .pieces) ≡ 64 = search (length-unmapped, c .before .before .before .good) in let hb : length (c .before .before .before .args .b .pieces) ≡ 64 = search (length-unmapped, c .before .before .before .good) in let h = ha ∙ sym hb in off-side (c .before .before .before .args .a .pieces) _ _ _ _ (c .before .before .before .args .b) h (c .if1 .taken)
+returns c =
+    let at-args = c .before .before .before .args in
+    let at-good = c .before .before .before .good in
+    let ha : length (at-args .a .pieces) ≡ 64 = search (length-unmapped, at-good) in
+    let hb : length (at-args .b .pieces) ≡ 64 = search (length-unmapped, at-good) in
+    let h = ha ∙ sym hb in
+    off-side (at-args .a .pieces) _ _ _ _ (at-args .b) h (c .if1 .taken)
 
 -- src/lib.rt:418:9
 returns-2 : tie.Need-returns-2
 unfolding numbers
-returns-2 c = let ha : length (c .before .before .before .before .before .before .args .a .pieces) ≡ 64 = search (length-unmapped, c .before .before .before .before .before .before .good) in let hb : length (c .before .before .before .before .before .before .args .b .pieces) ≡ 64 = search (length-unmapped, c .before .before .before .before .before .before .good) in let h = ha ∙ sym hb in off-white (c .before .before .before .before .before .before .args .a .pieces) _ _ _ _ (c .before .before .before .before .before .before .args .b) h (c .if2 .taken)
+returns-2 c =
+    let at-args = c .before .before .before .before .before .before .args in
+    let at-good = c .before .before .before .before .before .before .good in
+    let ha : length (at-args .a .pieces) ≡ 64 = search (length-unmapped, at-good) in
+    let hb : length (at-args .b .pieces) ≡ 64 = search (length-unmapped, at-good) in
+    let h = ha ∙ sym hb in
+    off-white (at-args .a .pieces) _ _ _ _ (at-args .b) h (c .if2 .taken)
 
 -- src/lib.rt:421:9
 returns-3 : tie.Need-returns-3
 unfolding numbers
-returns-3 c = let ha : length (c .before .before .before .before .before .before .before .before .before .args .a .pieces) ≡ 64 = search (length-unmapped, c .before .before .before .before .before .before .before .before .before .good) in let hb : length (c .before .before .before .before .before .before .before .before .before .args .b .pieces) ≡ 64 = search (length-unmapped, c .before .before .before .before .before .before .before .before .before .good) in let h = ha ∙ sym hb in off-black (c .before .before .before .before .before .before .before .before .before .args .a .pieces) _ _ _ _ (c .before .before .before .before .before .before .before .before .before .args .b) h (c .if3 .taken)
+returns-3 c =
+    let at-args = c .before .before .before .before .before .before .before .before .before .args in
+    let at-good = c .before .before .before .before .before .before .before .before .before .good in
+    let ha : length (at-args .a .pieces) ≡ 64 = search (length-unmapped, at-good) in
+    let hb : length (at-args .b .pieces) ≡ 64 = search (length-unmapped, at-good) in
+    let h = ha ∙ sym hb in
+    off-black (at-args .a .pieces) _ _ _ _ (at-args .b) h (c .if3 .taken)
 
 -- src/lib.rt:424:9
 returns-4 : tie.Need-returns-4
 unfolding numbers
-returns-4 c = let ha : length (c .before .before .before .before .before .before .before .before .before .before .before .before .args .a .pieces) ≡ 64 = search (length-unmapped, c .before .before .before .before .before .before .before .before .before .before .before .before .good) in let hb : length (c .before .before .before .before .before .before .before .before .before .before .before .before .args .b .pieces) ≡ 64 = search (length-unmapped, c .before .before .before .before .before .before .before .before .before .before .before .before .good) in let h = ha ∙ sym hb in off-file (c .before .before .before .before .before .before .before .before .before .before .before .before .args .a .pieces) _ _ _ _ (c .before .before .before .before .before .before .before .before .before .before .before .before .args .b) h (c .if4 .taken)
+returns-4 c =
+    let at-args = c .before .before .before .before .before .before .before .before .before .before .before .before .args in
+    let at-good = c .before .before .before .before .before .before .before .before .before .before .before .before .good in
+    let ha : length (at-args .a .pieces) ≡ 64 = search (length-unmapped, at-good) in
+    let hb : length (at-args .b .pieces) ≡ 64 = search (length-unmapped, at-good) in
+    let h = ha ∙ sym hb in
+    off-file (at-args .a .pieces) _ _ _ _ (at-args .b) h (c .if4 .taken)
 
 -- src/lib.rt:428:5
 same-squares-requires : tie.Need-same-squares-requires
@@ -37,7 +61,18 @@ same-squares-requires c κs = search needs
 -- src/lib.rt:411:1
 returns-5 : tie.Need-returns-5
 unfolding numbers
-returns-5 c = let ha : length (c .before .before .before .before .before .before .before .before .before .before .before .before .before .before .before .args .a .pieces) ≡ 64 = search (length-unmapped, c .before .before .before .before .before .before .before .before .before .before .before .before .before .before .before .good) in let hb : length (c .before .before .before .before .before .before .before .before .before .before .before .before .before .before .before .args .b .pieces) ≡ 64 = search (length-unmapped, c .before .before .before .before .before .before .before .before .before .before .before .before .before .before .before .good) in let h = ha ∙ sym hb in c .same-squares .ensures ∙ by-squares (c .before .before .before .before .before .before .before .before .before .before .before .before .before .before .before .args .a .pieces) _ _ _ _ (c .before .before .before .before .before .before .before .before .before .before .before .before .before .before .before .args .b) h (c .before .before .before .before .before .before .before .before .before .before .before .before .if1 .left) (c .before .before .before .before .before .before .before .before .before .if2 .left) (c .before .before .before .before .before .before .if3 .left) (c .before .before .before .if4 .left)
+returns-5 c =
+    let early = c .before .before .before .before .before .before .before .before .before .before .before .before in
+    let at-args = early .before .before .before .args in
+    let at-good = early .before .before .before .good in
+    let at-if1 = early .if1 in
+    let at-if2 = c .before .before .before .before .before .before .before .before .before .if2 in
+    let at-if3 = c .before .before .before .before .before .before .if3 in
+    let at-if4 = c .before .before .before .if4 in
+    let ha : length (at-args .a .pieces) ≡ 64 = search (length-unmapped, at-good) in
+    let hb : length (at-args .b .pieces) ≡ 64 = search (length-unmapped, at-good) in
+    let h = ha ∙ sym hb in
+    c .same-squares .ensures ∙ by-squares (at-args .a .pieces) _ _ _ _ (at-args .b) h (at-if1 .left) (at-if2 .left) (at-if3 .left) (at-if4 .left)
 
 pub same-record-spec : {M : Type 1} → statement M
 same-record-spec =

@@ -31,7 +31,10 @@ add-result c = omega (arith, c .colour-step .ensures, step-most (c .before .befo
 -- src/lib.rt:113:1
 returns-3 : tie.Need-returns-3
 unfolding setDown
-returns-3 c = simp (ne-eqb _ _ (c .before .before .if1 .left), ne-eqb _ _ (c .before .if2 .left)) (ap (λ (x : ℕ). c .before .before .before .args .promotion + x) (c .colour-step .ensures))
+returns-3 c =
+    let a = c .before .before .before .args in
+    let at-if1 = c .before .before .if1 in
+    simp (ne-eqb _ _ (at-if1 .left), ne-eqb _ _ (c .before .if2 .left)) (ap (λ (x : ℕ). a .promotion + x) (c .colour-step .ensures))
 
 pub set-down-spec : {M : Type 1} → statement M
 set-down-spec = tie.close (tie.spec returns returns-2 colour-step-requires add-result returns-3)

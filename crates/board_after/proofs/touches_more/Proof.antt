@@ -30,7 +30,12 @@ either-requires-2 c κs = search needs
 -- src/lib.rt:274:1
 returns : tie.Need-returns
 unfolding touchesMore
-returns c = c .either2 .ensures ∙ ap₂ _||_ (c .before .before .castles .ensures) (c .before .either .ensures ∙ ap (λ (t : Bool). t || eqb (c .before .before .before .before .before .args .source) (c .before .before .before .before .before .args .dest)) (c .before .before .before .takes-in-passing .ensures))
+returns c =
+    let a = c .before .before .before .before .before .args in
+    let at-takes-in-passing = c .before .before .before .takes-in-passing in
+    let at-castles = c .before .before .castles in
+    c .either2 .ensures
+    ∙ ap₂ _||_ (at-castles .ensures) (c .before .either .ensures ∙ ap (λ (t : Bool). t || eqb (a .source) (a .dest)) (at-takes-in-passing .ensures))
 
 pub touches-more-spec : {M : Type 1} → statement M
 touches-more-spec =

@@ -22,7 +22,10 @@ shared-slice-read-if3 : tie.Need-shared-slice-read-if3
 shared-slice-read-if3 c = search needs
 
 returns-3 : tie.Need-returns-3
-returns-3 c = sym (first-byte-goes-on (c .before .before .before .before .before .args .acts .now) (c .before .before .before .before .before .args .n) (c .before .before .before .if1 .left) (omega (arith, c .if3 .taken)))
+returns-3 c =
+    let a = c .before .before .before .before .before .args in
+    let at-if1 = c .before .before .before .if1 in
+    sym (first-byte-goes-on (a .acts .now) (a .n) (at-if1 .left) (omega (arith, c .if3 .taken)))
 
 last-requires : tie.Need-last-requires
 last-requires c κs = search needs

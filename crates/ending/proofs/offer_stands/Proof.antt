@@ -19,11 +19,21 @@ is-offer-requires : tie.Need-is-offer-requires
 is-offer-requires c κs = search needs
 
 returns : tie.Need-returns
-returns c = sym (stands-last (positionAt (c .before .before .before .before .before .args .ps .now) (c .before .before .before .before .before .args .m)) (lastAction (c .before .before .before .before .before .args .acts .now) (c .before .before .before .before .before .args .n)) (lastAction (c .before .before .before .before .before .args .acts .now) (c .before .before .before .before .before .args .n - 1)) (ap isOffer (sym (c .before .before .last .ensures)) ∙ sym (c .before .is-offer .ensures) ∙ c .if1 .taken))
+returns c =
+    let a = c .before .before .before .before .before .args in
+    let at-last = c .before .before .last in
+    sym (stands-last (positionAt (a .ps .now) (a .m)) (lastAction (a .acts .now) (a .n)) (lastAction (a .acts .now) (a .n - 1))
+    (ap isOffer (sym (at-last .ensures)) ∙ sym (c .before .is-offer .ensures) ∙ c .if1 .taken))
 
 returns-2 : tie.Need-returns-2
-returns-2 c = let before = lastAction (c .before .before .before .before .before .before .args .acts .now) (c .before .before .before .before .before .before .args .n - 1) in
-    sym (stands-before (positionAt (c .before .before .before .before .before .before .args .ps .now) (c .before .before .before .before .before .before .args .m)) (lastAction (c .before .before .before .before .before .before .args .acts .now) (c .before .before .before .before .before .before .args .n)) before (ap isOffer (sym (c .before .before .before .last .ensures)) ∙ sym (c .before .before .is-offer .ensures) ∙ c .before .if1 .left) ∙ none-before (c .before .before .before .before .before .before .args .acts .now) (c .before .before .before .before .before .before .args .n) _ (c .if2 .taken))
+returns-2 c =
+    let a = c .before .before .before .before .before .before .args in
+    let at-last = c .before .before .before .last in
+    let at-is-offer = c .before .before .is-offer in
+    let before = lastAction (a .acts .now) (a .n - 1) in
+    sym (stands-before (positionAt (a .ps .now) (a .m)) (lastAction (a .acts .now) (a .n)) before
+    (ap isOffer (sym (at-last .ensures)) ∙ sym (at-is-offer .ensures) ∙ c .before .if1 .left)
+    ∙ none-before (a .acts .now) (a .n) _ (c .if2 .taken))
 
 at-requires : tie.Need-at-requires
 at-requires c κs = search needs
@@ -44,11 +54,21 @@ is-offer-by-requires : tie.Need-is-offer-by-requires
 is-offer-by-requires c κs = search needs
 
 returns-3 : tie.Need-returns-3
-returns-3 c = let before = lastAction (c .before .before .before .before .before .before .before .before .before .before .before .args .acts .now) (c .before .before .before .before .before .before .before .before .before .before .before .args .n - 1) in
-    let side-is : c .before .before .before .byte-at .result ≡ side (positionAt (c .before .before .before .before .before .before .before .before .before .before .before .args .ps .now) (c .before .before .before .before .before .before .before .before .before .before .before .args .m)) = c .before .before .before .byte-at .ensures ∙ ap (λ (p : List ℕ). getD p sideAt 0) (c .before .before .before .before .at .ensures) ∙ sym (side-at _) in
+returns-3 c =
+    let a = c .before .before .before .before .before .before .before .before .before .before .before .args in
+    let at-last = c .before .before .before .before .before .before .before .before .last in
+    let at-is-offer = c .before .before .before .before .before .before .before .is-offer in
+    let at-if1 = c .before .before .before .before .before .before .if1 in
+    let at-at = c .before .before .before .before .at in
+    let at-byte-at = c .before .before .before .byte-at in
+    let at-other-side = c .before .before .other-side in
+    let before = lastAction (a .acts .now) (a .n - 1) in
+    let side-is : at-byte-at .result ≡ side (positionAt (a .ps .now) (a .m)) =
+    at-byte-at .ensures ∙ ap (λ (p : List ℕ). getD p sideAt 0) (at-at .ensures) ∙ sym (side-at _) in
     c .is-offer-by .ensures
-    ∙ ap₂ isOfferBy (c .before .before .other-side .ensures ∙ ap (λ (s : ℕ). 1 - s) side-is) (c .before .last2 .ensures)
-    ∙ sym (stands-before (positionAt (c .before .before .before .before .before .before .before .before .before .before .before .args .ps .now) (c .before .before .before .before .before .before .before .before .before .before .before .args .m)) (lastAction (c .before .before .before .before .before .before .before .before .before .before .before .args .acts .now) (c .before .before .before .before .before .before .before .before .before .before .before .args .n)) before (ap isOffer (sym (c .before .before .before .before .before .before .before .before .last .ensures)) ∙ sym (c .before .before .before .before .before .before .before .is-offer .ensures) ∙ c .before .before .before .before .before .before .if1 .left))
+    ∙ ap₂ isOfferBy (at-other-side .ensures ∙ ap (λ (s : ℕ). 1 - s) side-is) (c .before .last2 .ensures)
+    ∙ sym (stands-before (positionAt (a .ps .now) (a .m)) (lastAction (a .acts .now) (a .n)) before
+    (ap isOffer (sym (at-last .ensures)) ∙ sym (at-is-offer .ensures) ∙ at-if1 .left))
 
 pub offer-stands-spec : {M : Type 1} → statement M
 offer-stands-spec =

@@ -27,11 +27,17 @@ without-moves-requires : tie.Need-without-moves-requires
 without-moves-requires c κs = search needs
 
 returns : tie.Need-returns
-returns c = let last = lastAction (c .before .before .before .before .before .before .before .before .args .acts .now) (c .before .before .before .before .before .before .before .before .args .n) in
+returns c =
+    let a = c .before .before .before .before .before .before .before .before .args in
+    let at-at = c .before .before .before .before .before .at in
+    let at-byte-at = c .before .before .before .before .byte-at in
+    let at-if1 = c .before .before .before .if1 in
+    let at-byte-at2 = c .before .before .byte-at2 in
+    let last = lastAction (a .acts .now) (a .n) in
     c .without-moves .ensures
-    ∙ ap₂ resultWithoutMoves (c .before .before .byte-at2 .ensures) (c .before .byte-at3 .ensures)
-    ∙ sym (result-empty (c .before .before .before .before .before .at .result .now) last (sym (c .before .before .before .before .byte-at .ensures) ∙ c .before .before .before .if1 .taken))
-    ∙ ap (λ (p : List ℕ). resultOf (positionOf p) last) (c .before .before .before .before .before .at .ensures)
+    ∙ ap₂ resultWithoutMoves (at-byte-at2 .ensures) (c .before .byte-at3 .ensures)
+    ∙ sym (result-empty (at-at .result .now) last (sym (at-byte-at .ensures) ∙ at-if1 .taken))
+    ∙ ap (λ (p : List ℕ). resultOf (positionOf p) last) (at-at .ensures)
 
 by-last-action-requires : tie.Need-by-last-action-requires
 by-last-action-requires c κs = search needs

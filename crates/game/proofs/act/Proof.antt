@@ -24,7 +24,9 @@ same-length c = search needs
 returns : tie.Need-returns
 returns c =
     let a = c .before .before .before .before .before .before .args in
-    ways.other-refused (otherAnswer (a .acts .now) (a .ps .now) (a .n) (a .m) (a .action)) (c .before .before .other-answer .result) (a .n) (a .m) (a .acts .now) (a .action) (c .counts .result) (c .before .before .other-answer .ensures) (c .before .if1 .taken) (c .counts .ensures)
+    let at-other-answer = c .before .before .other-answer in
+    ways.other-refused (otherAnswer (a .acts .now) (a .ps .now) (a .n) (a .m) (a .action)) (at-other-answer .result) (a .n) (a .m) (a .acts .now)
+    (a .action) (c .counts .result) (at-other-answer .ensures) (c .before .if1 .taken) (c .counts .ensures)
 
 put-action-requires : tie.Need-put-action-requires
 put-action-requires c κs =
@@ -35,7 +37,9 @@ put-action-requires c κs =
 add-counts : tie.Need-add-counts
 add-counts c =
     let a = c .before .before .before .before .before .before .before .before .before .args in
-    let f = other-found (a .acts .now) (a .ps .now) (a .n) (a .m) (a .action) (sym (c .before .before .before .before .before .other-answer .ensures) ∙ c .before .before .before .before .if1 .left) in
+    let at-other-answer = c .before .before .before .before .before .other-answer in
+    let at-if1 = c .before .before .before .before .if1 in
+    let f = other-found (a .acts .now) (a .ps .now) (a .n) (a .m) (a .action) (sym (at-other-answer .ensures) ∙ at-if1 .left) in
     omega (arith, f .few)
 
 counts-requires-2 : tie.Need-counts-requires-2
@@ -47,7 +51,11 @@ same-length-2 c = search needs
 returns-2 : tie.Need-returns-2
 returns-2 c =
     let a = c .before .before .before .before .before .before .before .before .before .before .args in
-    ways.other-accepted (otherAnswer (a .acts .now) (a .ps .now) (a .n) (a .m) (a .action)) (c .before .before .before .before .before .before .other-answer .result) (a .n) (a .m) (a .acts .now) (a .action) (c .counts2 .result) (c .before .before .before .before .before .before .other-answer .ensures) _ (c .before .before .before .before .before .if1 .left) (c .counts2 .ensures) (c .before .before .before .put-action .ensures)
+    let at-other-answer = c .before .before .before .before .before .before .other-answer in
+    let at-if1 = c .before .before .before .before .before .if1 in
+    let at-put-action = c .before .before .before .put-action in
+    ways.other-accepted (otherAnswer (a .acts .now) (a .ps .now) (a .n) (a .m) (a .action)) (at-other-answer .result) (a .n) (a .m) (a .acts .now)
+    (a .action) (c .counts2 .result) (at-other-answer .ensures) _ (at-if1 .left) (c .counts2 .ensures) (at-put-action .ensures)
 
 pub act-spec : {M : Type 1} → statement M
 act-spec =

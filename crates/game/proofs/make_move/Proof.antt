@@ -33,8 +33,10 @@ same-length-2 c = search needs
 returns : tie.Need-returns
 returns c =
     let a = c .before .before .before .before .before .before .before .before .args in
+    let at-move-answer = c .before .before .move-answer in
     let q : Position = positionGiven (a .next) (a .in-check) (a .list .now) in
-    ways.move-refused (callAnswer limits (a .acts .now) (a .ps .now) (a .n) (a .m) (makeMove (a .x) q)) (c .before .before .move-answer .result) (a .n) (a .m) (a .x) (a .acts .now) (a .ps .now) q (c .counts .result) (c .before .before .move-answer .ensures) (c .before .if1 .taken) (c .counts .ensures)
+    ways.move-refused (callAnswer limits (a .acts .now) (a .ps .now) (a .n) (a .m) (makeMove (a .x) q)) (at-move-answer .result) (a .n) (a .m) (a .x)
+    (a .acts .now) (a .ps .now) q (c .counts .result) (at-move-answer .ensures) (c .before .if1 .taken) (c .counts .ensures)
 
 cast-from-number : tie.Need-cast-from-number
 cast-from-number c =
@@ -50,36 +52,48 @@ put-action-requires : tie.Need-put-action-requires
 unfolding actionCheck
 put-action-requires c κs =
     let a = c .before .before .before .before .before .before .before .before .before .args in
+    let at-move-answer = c .before .before .before .move-answer in
+    let at-if1 = c .before .before .if1 in
     let q : Position = positionGiven (a .next) (a .in-check) (a .list .now) in
-    let f = move-found (a .acts .now) (a .ps .now) (a .n) (a .m) (a .x) q (sym (c .before .before .before .move-answer .ensures) ∙ c .before .before .if1 .left) in
+    let f = move-found (a .acts .now) (a .ps .now) (a .n) (a .m) (a .x) q (sym (at-move-answer .ensures) ∙ at-if1 .left) in
     (f .room, ap (λ (x : ChessMove). actionCheck (MakeMove x)) (c .from-number .ensures) ∙ ap (λ (x : Answer). x .number) (number-of-parts (a .x) (f .number)))
 
 add-put-position : tie.Need-add-put-position
 add-put-position c =
     let a = c .before .before .before .before .before .before .before .before .before .before .before .before .before .args in
+    let at-move-answer = c .before .before .before .before .before .before .before .move-answer in
+    let at-if1 = c .before .before .before .before .before .before .if1 in
     let q : Position = positionGiven (a .next) (a .in-check) (a .list .now) in
-    let f = move-found (a .acts .now) (a .ps .now) (a .n) (a .m) (a .x) q (sym (c .before .before .before .before .before .before .before .move-answer .ensures) ∙ c .before .before .before .before .before .before .if1 .left) in
+    let f = move-found (a .acts .now) (a .ps .now) (a .n) (a .m) (a .x) q (sym (at-move-answer .ensures) ∙ at-if1 .left) in
     omega (arith, f .some)
 
 put-position-requires : tie.Need-put-position-requires
 put-position-requires c κs =
     let a = c .before .before .before .before .before .before .before .before .before .before .before .before .before .args in
+    let at-move-answer = c .before .before .before .before .before .before .before .move-answer in
+    let at-if1 = c .before .before .before .before .before .before .if1 in
     let q : Position = positionGiven (a .next) (a .in-check) (a .list .now) in
-    let f = move-found (a .acts .now) (a .ps .now) (a .n) (a .m) (a .x) q (sym (c .before .before .before .before .before .before .before .move-answer .ensures) ∙ c .before .before .before .before .before .before .if1 .left) in
+    let f = move-found (a .acts .now) (a .ps .now) (a .n) (a .m) (a .x) q (sym (at-move-answer .ensures) ∙ at-if1 .left) in
     (omega (arith, f .place), f .check)
 
 add-counts : tie.Need-add-counts
 add-counts c =
-    let a = c .before .before .before .before .before .before .before .before .before .before .before .before .before .before .before .before .args in
+    let early = c .before .before .before .before .before .before .before .before .before .before .before .before in
+    let a = early .before .before .before .before .args in
+    let at-move-answer = c .before .before .before .before .before .before .before .before .before .before .move-answer in
+    let at-if1 = c .before .before .before .before .before .before .before .before .before .if1 in
     let q : Position = positionGiven (a .next) (a .in-check) (a .list .now) in
-    let f = move-found (a .acts .now) (a .ps .now) (a .n) (a .m) (a .x) q (sym (c .before .before .before .before .before .before .before .before .before .before .move-answer .ensures) ∙ c .before .before .before .before .before .before .before .before .before .if1 .left) in
+    let f = move-found (a .acts .now) (a .ps .now) (a .n) (a .m) (a .x) q (sym (at-move-answer .ensures) ∙ at-if1 .left) in
     omega (arith, f .few)
 
 add-counts-2 : tie.Need-add-counts-2
 add-counts-2 c =
-    let a = c .before .before .before .before .before .before .before .before .before .before .before .before .before .before .before .before .args in
+    let early = c .before .before .before .before .before .before .before .before .before .before .before .before in
+    let a = early .before .before .before .before .args in
+    let at-move-answer = c .before .before .before .before .before .before .before .before .before .before .move-answer in
+    let at-if1 = c .before .before .before .before .before .before .before .before .before .if1 in
     let q : Position = positionGiven (a .next) (a .in-check) (a .list .now) in
-    let f = move-found (a .acts .now) (a .ps .now) (a .n) (a .m) (a .x) q (sym (c .before .before .before .before .before .before .before .before .before .before .move-answer .ensures) ∙ c .before .before .before .before .before .before .before .before .before .if1 .left) in
+    let f = move-found (a .acts .now) (a .ps .now) (a .n) (a .m) (a .x) q (sym (at-move-answer .ensures) ∙ at-if1 .left) in
     omega (arith, f .some)
 
 counts-requires-2 : tie.Need-counts-requires-2
@@ -93,9 +107,18 @@ same-length-4 c = search needs
 
 returns-2 : tie.Need-returns-2
 returns-2 c =
-    let a = c .before .before .before .before .before .before .before .before .before .before .before .before .before .before .before .before .before .args in
+    let early = c .before .before .before .before .before .before .before .before .before .before .before .before in
+    let a = early .before .before .before .before .before .args in
+    let at-move-answer = c .before .before .before .before .before .before .before .before .before .before .before .move-answer in
+    let at-if1 = c .before .before .before .before .before .before .before .before .before .before .if1 in
+    let at-from-number = c .before .before .before .before .before .before .before .before .from-number in
+    let at-put-action = c .before .before .before .before .before .before .before .put-action in
+    let at-put-position = c .before .before .before .put-position in
     let q : Position = positionGiven (a .next) (a .in-check) (a .list .now) in
-    ways.move-accepted (callAnswer limits (a .acts .now) (a .ps .now) (a .n) (a .m) (makeMove (a .x) q)) (c .before .before .before .before .before .before .before .before .before .before .before .move-answer .result) (a .n) (a .m) (a .x) (a .acts .now) (a .ps .now) q (c .counts2 .result) (c .before .before .before .before .before .before .before .before .before .before .before .move-answer .ensures) _ _ (c .before .before .before .before .before .before .before .before .before .before .if1 .left) (c .counts2 .ensures) (c .before .before .before .before .before .before .before .put-action .ensures ∙ ap (λ (x : ChessMove). written (a .acts .now) (actionSize * a .n) (actionBytes (MakeMove x))) (c .before .before .before .before .before .before .before .before .from-number .ensures)) (c .before .before .before .put-position .ensures)
+    ways.move-accepted (callAnswer limits (a .acts .now) (a .ps .now) (a .n) (a .m) (makeMove (a .x) q)) (at-move-answer .result) (a .n) (a .m) (a .x)
+    (a .acts .now) (a .ps .now) q (c .counts2 .result) (at-move-answer .ensures) _ _ (at-if1 .left) (c .counts2 .ensures)
+    (at-put-action .ensures ∙ ap (λ (x : ChessMove). written (a .acts .now) (actionSize * a .n) (actionBytes (MakeMove x))) (at-from-number .ensures))
+    (at-put-position .ensures)
 
 pub make-move-spec : {M : Type 1} → statement M
 make-move-spec =

@@ -22,65 +22,201 @@ use Rattle.square.proofs.byte_at.Reads as byte-at-reads
 use Rattle.stored_position.proofs.check.Reads as check-reads
 use Rattle.stored_position.proofs.lists.Reads as lists-reads
 
--- src/lib.rt:148:9
 open-check-requires : tie.Need-open-check-requires
 open-check-requires c κs = search needs
 
--- src/lib.rt:150:9
 returns : tie.Need-returns
-returns c = let a = c .before .before .before .before .before .args in let q : Position = positionGiven (a .next) (a .in-check) (a .list .now) in ways.move-closed (a .acts .now) (a .ps .now) (a .n) (a .m) (a .x) (c .before .open-check .result) q (c .before .open-check .ensures) (c .if1 .taken)
+returns c =
+    let a = c .before .before .before .before .before .args in
+    let at-open-check = c .before .open-check in
+    let q : Position = positionGiven (a .next) (a .in-check) (a .list .now) in
+    ways.move-closed (a .acts .now) (a .ps .now) (a .n) (a .m) (a .x) (at-open-check .result) q (at-open-check .ensures) (c .if1 .taken)
 
--- src/lib.rt:152:9
 at-requires : tie.Need-at-requires
 at-requires c κs = search needs
 
--- src/lib.rt:153:9
 lists-requires : tie.Need-lists-requires
 lists-requires c κs = search needs
 
--- src/lib.rt:154:9
 returns-2 : tie.Need-returns-2
-returns-2 c = let a = c .before .before .before .before .before .before .before .before .args in let q : Position = positionGiven (a .next) (a .in-check) (a .list .now) in ways.move-unlisted (a .acts .now) (a .ps .now) (a .n) (a .m) (a .x) (c .before .before .before .before .open-check .result) q (c .before .before .before .before .open-check .ensures) (c .before .before .before .if1 .left) (ap (λ (s : List ℕ). listsMove s (a .x)) (sym (c .before .before .at .ensures)) ∙ sym (c .before .lists .ensures) ∙ not-true (c .before .lists .result) (c .if2 .taken))
+returns-2 c =
+    let a = c .before .before .before .before .before .before .before .before .args in
+    let at-open-check = c .before .before .before .before .open-check in
+    let at-if1 = c .before .before .before .if1 in
+    let at-at = c .before .before .at in
+    let at-lists = c .before .lists in
+    let q : Position = positionGiven (a .next) (a .in-check) (a .list .now) in
+    let unlisted = ap (λ (s : List ℕ). listsMove s (a .x)) (sym (at-at .ensures)) ∙ sym (at-lists .ensures) ∙ not-true (at-lists .result) (c .if2 .taken) in
+    ways.move-unlisted (a .acts .now) (a .ps .now) (a .n) (a .m) (a .x)
+    (at-open-check .result) q (at-open-check .ensures) (at-if1 .left) unlisted
 
--- src/lib.rt:156:9
 check-requires : tie.Need-check-requires
 check-requires c κs = search needs
 
--- src/lib.rt:158:9
 returns-3 : tie.Need-returns-3
-returns-3 c = let a = c .before .before .before .before .before .before .before .before .before .before .args in let q : Position = positionGiven (a .next) (a .in-check) (a .list .now) in ways.move-unfit (a .acts .now) (a .ps .now) (a .n) (a .m) (a .x) (c .before .before .before .before .before .before .open-check .result) q (c .before .before .before .before .before .before .open-check .ensures) (c .before .before .before .before .before .if1 .left) (ap (λ (s : List ℕ). listsMove s (a .x)) (sym (c .before .before .before .before .at .ensures)) ∙ sym (c .before .before .before .lists .ensures) ∙ not-false (c .before .before .before .lists .result) (c .before .before .if2 .left)) (c .before .check .result) (c .before .check .ensures) (c .if3 .taken)
+returns-3 c =
+    let a = c .before .before .before .before .before .before .before .before .before .before .args in
+    let at-open-check = c .before .before .before .before .before .before .open-check in
+    let at-if1 = c .before .before .before .before .before .if1 in
+    let at-at = c .before .before .before .before .at in
+    let at-lists = c .before .before .before .lists in
+    let at-if2 = c .before .before .if2 in
+    let at-check = c .before .check in
+    let q : Position = positionGiven (a .next) (a .in-check) (a .list .now) in
+    let listed = ap (λ (s : List ℕ). listsMove s (a .x)) (sym (at-at .ensures)) ∙ sym (at-lists .ensures) ∙ not-false (at-lists .result) (at-if2 .left) in
+    ways.move-unfit (a .acts .now) (a .ps .now) (a .n) (a .m) (a .x)
+    (at-open-check .result) q (at-open-check .ensures) (at-if1 .left) listed (at-check .result) (at-check .ensures) (c .if3 .taken)
 
--- src/lib.rt:160:29
 byte-at-requires : tie.Need-byte-at-requires
 byte-at-requires c κs = search needs
 
--- src/lib.rt:161:9
 returns-4 : tie.Need-returns-4
-returns-4 c = let long : length (c .before .before .before .before .before .before .before .before .before .before .before .before .before .args .next .pieces) ≡ 64 = search (length-unmapped, c .before .before .before .before .before .before .before .before .before .before .before .before .before .good) in let a = c .before .before .before .before .before .before .before .before .before .before .before .before .before .args in let q : Position = positionGiven (a .next) (a .in-check) (a .list .now) in ways.move-wrong-side (a .acts .now) (a .ps .now) (a .n) (a .m) (a .x) (c .before .before .before .before .before .before .before .before .before .open-check .result) q (c .before .before .before .before .before .before .before .before .before .open-check .ensures) (c .before .before .before .before .before .before .before .before .if1 .left) (ap (λ (s : List ℕ). listsMove s (a .x)) (sym (c .before .before .before .before .before .before .before .at .ensures)) ∙ sym (c .before .before .before .before .before .before .lists .ensures) ∙ not-false (c .before .before .before .before .before .before .lists .result) (c .before .before .before .before .before .if2 .left)) (c .before .before .before .before .check .result) (c .before .before .before .before .check .ensures) (c .before .before .before .if3 .left) (ways.same-side (a .next) (a .in-check) (a .list .now) (a .ps .now) (c .before .before .before .before .before .before .before .at .result .now) (a .m) (c .before .before .byte-at .result) long (c .before .before .before .before .before .before .before .at .ensures) (c .before .before .byte-at .ensures) (c .if4 .taken))
+returns-4 c =
+    let a = c .before .before .before .before .before .before .before .before .before .before .before .before .before .args in
+    let at-good = c .before .before .before .before .before .before .before .before .before .before .before .before .before .good in
+    let long : length (a .next .pieces) ≡ 64 = search (length-unmapped, at-good) in
+    let at-open-check = c .before .before .before .before .before .before .before .before .before .open-check in
+    let at-if1 = c .before .before .before .before .before .before .before .before .if1 in
+    let at-at = c .before .before .before .before .before .before .before .at in
+    let at-lists = c .before .before .before .before .before .before .lists in
+    let at-if2 = c .before .before .before .before .before .if2 in
+    let at-check = c .before .before .before .before .check in
+    let at-if3 = c .before .before .before .if3 in
+    let at-byte-at = c .before .before .byte-at in
+    let q : Position = positionGiven (a .next) (a .in-check) (a .list .now) in
+    let listed = ap (λ (s : List ℕ). listsMove s (a .x)) (sym (at-at .ensures)) ∙ sym (at-lists .ensures) ∙ not-false (at-lists .result) (at-if2 .left) in
+    let same-side = ways.same-side (a .next) (a .in-check) (a .list .now) (a .ps .now) (at-at .result .now) (a .m) (at-byte-at .result) long
+    (at-at .ensures) (at-byte-at .ensures) (c .if4 .taken) in
+    ways.move-wrong-side (a .acts .now) (a .ps .now) (a .n) (a .m) (a .x)
+    (at-open-check .result) q (at-open-check .ensures) (at-if1 .left) listed (at-check .result) (at-check .ensures) (at-if3 .left) same-side
 
--- src/lib.rt:163:40
 cast-leads-to-board : tie.Need-cast-leads-to-board
-cast-leads-to-board c = let a = c .before .before .before .before .before .before .before .before .before .before .before .before .before .args in let n : a .x ≤ lastMove = listed-number (a .acts .now) (a .ps .now) (a .n) (a .m) (a .x) (sym (c .before .before .before .before .before .before .before .before .before .open-check .ensures) ∙ c .before .before .before .before .before .before .before .before .if1 .left) (ap (λ (s : List ℕ). listsMove s (a .x)) (sym (c .before .before .before .before .before .before .before .at .ensures)) ∙ sym (c .before .before .before .before .before .before .lists .ensures) ∙ not-false (c .before .before .before .before .before .before .lists .result) (c .before .before .before .before .before .if2 .left)) in omega arith
+cast-leads-to-board c =
+    let a = c .before .before .before .before .before .before .before .before .before .before .before .before .before .args in
+    let at-open-check = c .before .before .before .before .before .before .before .before .before .open-check in
+    let at-if1 = c .before .before .before .before .before .before .before .before .if1 in
+    let at-at = c .before .before .before .before .before .before .before .at in
+    let at-lists = c .before .before .before .before .before .before .lists in
+    let at-if2 = c .before .before .before .before .before .if2 in
+    let listed = ap (λ (s : List ℕ). listsMove s (a .x)) (sym (at-at .ensures)) ∙ sym (at-lists .ensures) ∙ not-false (at-lists .result) (at-if2 .left) in
+    let n = listed-number (a .acts .now) (a .ps .now) (a .n) (a .m) (a .x) (sym (at-open-check .ensures) ∙ at-if1 .left) listed in
+    omega arith
 
--- src/lib.rt:163:9
 leads-to-board-requires : tie.Need-leads-to-board-requires
 leads-to-board-requires c κs = search needs
 
--- src/lib.rt:164:9
 returns-5 : tie.Need-returns-5
-returns-5 c = let long : length (c .before .before .before .before .before .before .before .before .before .before .before .before .before .before .before .args .next .pieces) ≡ 64 = search (length-unmapped, c .before .before .before .before .before .before .before .before .before .before .before .before .before .before .before .good) in let a = c .before .before .before .before .before .before .before .before .before .before .before .before .before .before .before .args in let q : Position = positionGiven (a .next) (a .in-check) (a .list .now) in ways.move-wrong-record (a .acts .now) (a .ps .now) (a .n) (a .m) (a .x) (c .before .before .before .before .before .before .before .before .before .before .before .open-check .result) q (c .before .before .before .before .before .before .before .before .before .before .before .open-check .ensures) (c .before .before .before .before .before .before .before .before .before .before .if1 .left) (ap (λ (s : List ℕ). listsMove s (a .x)) (sym (c .before .before .before .before .before .before .before .before .before .at .ensures)) ∙ sym (c .before .before .before .before .before .before .before .before .lists .ensures) ∙ not-false (c .before .before .before .before .before .before .before .before .lists .result) (c .before .before .before .before .before .before .before .if2 .left)) (c .before .before .before .before .before .before .check .result) (c .before .before .before .before .before .before .check .ensures) (c .before .before .before .before .before .if3 .left) (ways.other-side (a .next) (a .in-check) (a .list .now) (a .ps .now) (c .before .before .before .before .before .before .before .before .before .at .result .now) (a .m) (c .before .before .before .before .byte-at .result) long (c .before .before .before .before .before .before .before .before .before .at .ensures) (c .before .before .before .before .byte-at .ensures) (c .before .before .if4 .left)) (sym (ways.record-tells (a .next) (a .in-check) (a .list .now) (a .ps .now) (c .before .before .before .before .before .before .before .before .before .at .result .now) (a .m) (a .x) (c .before .leads-to-board .result) (c .before .before .before .before .before .before .before .before .before .at .ensures) (record-there (a .acts .now) (a .ps .now) (a .n) (a .m) (sym (c .before .before .before .before .before .before .before .before .before .before .before .open-check .ensures) ∙ c .before .before .before .before .before .before .before .before .before .before .if1 .left)) (c .before .leads-to-board .ensures)) ∙ not-true (c .before .leads-to-board .result) (c .if5 .taken))
+returns-5 c =
+    let early = c .before .before .before .before .before .before .before .before .before .before .before .before in
+    let a = early .before .before .before .args in
+    let at-good = early .before .before .before .good in
+    let long : length (a .next .pieces) ≡ 64 = search (length-unmapped, at-good) in
+    let at-open-check = c .before .before .before .before .before .before .before .before .before .before .before .open-check in
+    let at-if1 = c .before .before .before .before .before .before .before .before .before .before .if1 in
+    let at-at = c .before .before .before .before .before .before .before .before .before .at in
+    let at-lists = c .before .before .before .before .before .before .before .before .lists in
+    let at-if2 = c .before .before .before .before .before .before .before .if2 in
+    let at-check = c .before .before .before .before .before .before .check in
+    let at-if3 = c .before .before .before .before .before .if3 in
+    let at-byte-at = c .before .before .before .before .byte-at in
+    let at-if4 = c .before .before .if4 in
+    let at-leads-to-board = c .before .leads-to-board in
+    let q : Position = positionGiven (a .next) (a .in-check) (a .list .now) in
+    let listed = ap (λ (s : List ℕ). listsMove s (a .x)) (sym (at-at .ensures)) ∙ sym (at-lists .ensures) ∙ not-false (at-lists .result) (at-if2 .left) in
+    let other-side = ways.other-side (a .next) (a .in-check) (a .list .now) (a .ps .now) (at-at .result .now) (a .m) (at-byte-at .result) long
+    (at-at .ensures) (at-byte-at .ensures) (at-if4 .left) in
+    let there = record-there (a .acts .now) (a .ps .now) (a .n) (a .m) (sym (at-open-check .ensures) ∙ at-if1 .left) in
+    let tells = ways.record-tells (a .next) (a .in-check) (a .list .now) (a .ps .now) (at-at .result .now) (a .m) (a .x) (at-leads-to-board .result)
+    (at-at .ensures) there (at-leads-to-board .ensures) in
+    let not-after = sym tells ∙ not-true (at-leads-to-board .result) (c .if5 .taken) in
+    ways.move-wrong-record (a .acts .now) (a .ps .now) (a .n) (a .m) (a .x)
+    (at-open-check .result) q (at-open-check .ensures) (at-if1 .left) listed (at-check .result) (at-check .ensures) (at-if3 .left) other-side not-after
 
--- src/lib.rt:167:9
 returns-6 : tie.Need-returns-6
-returns-6 c = let long : length (c .before .before .before .before .before .before .before .before .before .before .before .before .before .before .before .before .args .next .pieces) ≡ 64 = search (length-unmapped, c .before .before .before .before .before .before .before .before .before .before .before .before .before .before .before .before .good) in let a = c .before .before .before .before .before .before .before .before .before .before .before .before .before .before .before .before .args in let q : Position = positionGiven (a .next) (a .in-check) (a .list .now) in ways.move-full (a .acts .now) (a .ps .now) (a .n) (a .m) (a .x) (c .before .before .before .before .before .before .before .before .before .before .before .before .open-check .result) q (c .before .before .before .before .before .before .before .before .before .before .before .before .open-check .ensures) (c .before .before .before .before .before .before .before .before .before .before .before .if1 .left) (ap (λ (s : List ℕ). listsMove s (a .x)) (sym (c .before .before .before .before .before .before .before .before .before .before .at .ensures)) ∙ sym (c .before .before .before .before .before .before .before .before .before .lists .ensures) ∙ not-false (c .before .before .before .before .before .before .before .before .before .lists .result) (c .before .before .before .before .before .before .before .before .if2 .left)) (c .before .before .before .before .before .before .before .check .result) (c .before .before .before .before .before .before .before .check .ensures) (c .before .before .before .before .before .before .if3 .left) (ways.other-side (a .next) (a .in-check) (a .list .now) (a .ps .now) (c .before .before .before .before .before .before .before .before .before .before .at .result .now) (a .m) (c .before .before .before .before .before .byte-at .result) long (c .before .before .before .before .before .before .before .before .before .before .at .ensures) (c .before .before .before .before .before .byte-at .ensures) (c .before .before .before .if4 .left)) (sym (ways.record-tells (a .next) (a .in-check) (a .list .now) (a .ps .now) (c .before .before .before .before .before .before .before .before .before .before .at .result .now) (a .m) (a .x) (c .before .before .leads-to-board .result) (c .before .before .before .before .before .before .before .before .before .before .at .ensures) (record-there (a .acts .now) (a .ps .now) (a .n) (a .m) (sym (c .before .before .before .before .before .before .before .before .before .before .before .before .open-check .ensures) ∙ c .before .before .before .before .before .before .before .before .before .before .before .if1 .left)) (c .before .before .leads-to-board .ensures)) ∙ not-false (c .before .before .leads-to-board .result) (c .before .if5 .left)) (c .if6 .taken)
+returns-6 c =
+    let a = c .before .before .before .before .before .before .before .before .before .before .before .before .before .before .before .before .args in
+    let at-good = c .before .before .before .before .before .before .before .before .before .before .before .before .before .before .before .before .good in
+    let long : length (a .next .pieces) ≡ 64 = search (length-unmapped, at-good) in
+    let early = c .before .before .before .before .before .before .before .before .before .before .before .before in
+    let at-open-check = early .open-check in
+    let at-if1 = c .before .before .before .before .before .before .before .before .before .before .before .if1 in
+    let at-at = c .before .before .before .before .before .before .before .before .before .before .at in
+    let at-lists = c .before .before .before .before .before .before .before .before .before .lists in
+    let at-if2 = c .before .before .before .before .before .before .before .before .if2 in
+    let at-check = c .before .before .before .before .before .before .before .check in
+    let at-if3 = c .before .before .before .before .before .before .if3 in
+    let at-byte-at = c .before .before .before .before .before .byte-at in
+    let at-if4 = c .before .before .before .if4 in
+    let at-leads-to-board = c .before .before .leads-to-board in
+    let q : Position = positionGiven (a .next) (a .in-check) (a .list .now) in
+    let listed = ap (λ (s : List ℕ). listsMove s (a .x)) (sym (at-at .ensures)) ∙ sym (at-lists .ensures) ∙ not-false (at-lists .result) (at-if2 .left) in
+    let other-side = ways.other-side (a .next) (a .in-check) (a .list .now) (a .ps .now) (at-at .result .now) (a .m) (at-byte-at .result) long
+    (at-at .ensures) (at-byte-at .ensures) (at-if4 .left) in
+    let there = record-there (a .acts .now) (a .ps .now) (a .n) (a .m) (sym (at-open-check .ensures) ∙ at-if1 .left) in
+    let tells = ways.record-tells (a .next) (a .in-check) (a .list .now) (a .ps .now) (at-at .result .now) (a .m) (a .x) (at-leads-to-board .result)
+    (at-at .ensures) there (at-leads-to-board .ensures) in
+    let follows = sym tells ∙ not-false (at-leads-to-board .result) (c .before .if5 .left) in
+    ways.move-full (a .acts .now) (a .ps .now) (a .n) (a .m) (a .x)
+    (at-open-check .result) q (at-open-check .ensures) (at-if1 .left) listed
+    (at-check .result) (at-check .ensures) (at-if3 .left) other-side follows (c .if6 .taken)
 
--- src/lib.rt:170:9
 returns-7 : tie.Need-returns-7
-returns-7 c = let long : length (c .before .before .before .before .before .before .before .before .before .before .before .before .before .before .before .before .before .args .next .pieces) ≡ 64 = search (length-unmapped, c .before .before .before .before .before .before .before .before .before .before .before .before .before .before .before .before .before .good) in let a = c .before .before .before .before .before .before .before .before .before .before .before .before .before .before .before .before .before .args in let q : Position = positionGiven (a .next) (a .in-check) (a .list .now) in ways.move-no-place (a .acts .now) (a .ps .now) (a .n) (a .m) (a .x) (c .before .before .before .before .before .before .before .before .before .before .before .before .before .open-check .result) q (c .before .before .before .before .before .before .before .before .before .before .before .before .before .open-check .ensures) (c .before .before .before .before .before .before .before .before .before .before .before .before .if1 .left) (ap (λ (s : List ℕ). listsMove s (a .x)) (sym (c .before .before .before .before .before .before .before .before .before .before .before .at .ensures)) ∙ sym (c .before .before .before .before .before .before .before .before .before .before .lists .ensures) ∙ not-false (c .before .before .before .before .before .before .before .before .before .before .lists .result) (c .before .before .before .before .before .before .before .before .before .if2 .left)) (c .before .before .before .before .before .before .before .before .check .result) (c .before .before .before .before .before .before .before .before .check .ensures) (c .before .before .before .before .before .before .before .if3 .left) (ways.other-side (a .next) (a .in-check) (a .list .now) (a .ps .now) (c .before .before .before .before .before .before .before .before .before .before .before .at .result .now) (a .m) (c .before .before .before .before .before .before .byte-at .result) long (c .before .before .before .before .before .before .before .before .before .before .before .at .ensures) (c .before .before .before .before .before .before .byte-at .ensures) (c .before .before .before .before .if4 .left)) (sym (ways.record-tells (a .next) (a .in-check) (a .list .now) (a .ps .now) (c .before .before .before .before .before .before .before .before .before .before .before .at .result .now) (a .m) (a .x) (c .before .before .before .leads-to-board .result) (c .before .before .before .before .before .before .before .before .before .before .before .at .ensures) (record-there (a .acts .now) (a .ps .now) (a .n) (a .m) (sym (c .before .before .before .before .before .before .before .before .before .before .before .before .before .open-check .ensures) ∙ c .before .before .before .before .before .before .before .before .before .before .before .before .if1 .left)) (c .before .before .before .leads-to-board .ensures)) ∙ not-false (c .before .before .before .leads-to-board .result) (c .before .before .if5 .left)) (c .before .if6 .left) (c .if7 .taken)
+returns-7 c =
+    let early = c .before .before .before .before .before .before .before .before .before .before .before .before in
+    let a = early .before .before .before .before .before .args in
+    let at-good = early .before .before .before .before .before .good in
+    let long : length (a .next .pieces) ≡ 64 = search (length-unmapped, at-good) in
+    let at-open-check = early .before .open-check in
+    let at-if1 = early .if1 in
+    let at-at = c .before .before .before .before .before .before .before .before .before .before .before .at in
+    let at-lists = c .before .before .before .before .before .before .before .before .before .before .lists in
+    let at-if2 = c .before .before .before .before .before .before .before .before .before .if2 in
+    let at-check = c .before .before .before .before .before .before .before .before .check in
+    let at-if3 = c .before .before .before .before .before .before .before .if3 in
+    let at-byte-at = c .before .before .before .before .before .before .byte-at in
+    let at-if4 = c .before .before .before .before .if4 in
+    let at-leads-to-board = c .before .before .before .leads-to-board in
+    let at-if5 = c .before .before .if5 in
+    let q : Position = positionGiven (a .next) (a .in-check) (a .list .now) in
+    let listed = ap (λ (s : List ℕ). listsMove s (a .x)) (sym (at-at .ensures)) ∙ sym (at-lists .ensures) ∙ not-false (at-lists .result) (at-if2 .left) in
+    let other-side = ways.other-side (a .next) (a .in-check) (a .list .now) (a .ps .now) (at-at .result .now) (a .m) (at-byte-at .result) long
+    (at-at .ensures) (at-byte-at .ensures) (at-if4 .left) in
+    let there = record-there (a .acts .now) (a .ps .now) (a .n) (a .m) (sym (at-open-check .ensures) ∙ at-if1 .left) in
+    let tells = ways.record-tells (a .next) (a .in-check) (a .list .now) (a .ps .now) (at-at .result .now) (a .m) (a .x) (at-leads-to-board .result)
+    (at-at .ensures) there (at-leads-to-board .ensures) in
+    let follows = sym tells ∙ not-false (at-leads-to-board .result) (at-if5 .left) in
+    ways.move-no-place (a .acts .now) (a .ps .now) (a .n) (a .m) (a .x)
+    (at-open-check .result) q (at-open-check .ensures) (at-if1 .left) listed
+    (at-check .result) (at-check .ensures) (at-if3 .left) other-side follows (c .before .if6 .left) (c .if7 .taken)
 
--- src/lib.rt:136:1
 returns-8 : tie.Need-returns-8
-returns-8 c = let long : length (c .before .before .before .before .before .before .before .before .before .before .before .before .before .before .before .before .before .args .next .pieces) ≡ 64 = search (length-unmapped, c .before .before .before .before .before .before .before .before .before .before .before .before .before .before .before .before .before .good) in let a = c .before .before .before .before .before .before .before .before .before .before .before .before .before .before .before .before .before .args in let q : Position = positionGiven (a .next) (a .in-check) (a .list .now) in ways.move-passed (a .acts .now) (a .ps .now) (a .n) (a .m) (a .x) (c .before .before .before .before .before .before .before .before .before .before .before .before .before .open-check .result) q (c .before .before .before .before .before .before .before .before .before .before .before .before .before .open-check .ensures) (c .before .before .before .before .before .before .before .before .before .before .before .before .if1 .left) (ap (λ (s : List ℕ). listsMove s (a .x)) (sym (c .before .before .before .before .before .before .before .before .before .before .before .at .ensures)) ∙ sym (c .before .before .before .before .before .before .before .before .before .before .lists .ensures) ∙ not-false (c .before .before .before .before .before .before .before .before .before .before .lists .result) (c .before .before .before .before .before .before .before .before .before .if2 .left)) (c .before .before .before .before .before .before .before .before .check .result) (c .before .before .before .before .before .before .before .before .check .ensures) (c .before .before .before .before .before .before .before .if3 .left) (ways.other-side (a .next) (a .in-check) (a .list .now) (a .ps .now) (c .before .before .before .before .before .before .before .before .before .before .before .at .result .now) (a .m) (c .before .before .before .before .before .before .byte-at .result) long (c .before .before .before .before .before .before .before .before .before .before .before .at .ensures) (c .before .before .before .before .before .before .byte-at .ensures) (c .before .before .before .before .if4 .left)) (sym (ways.record-tells (a .next) (a .in-check) (a .list .now) (a .ps .now) (c .before .before .before .before .before .before .before .before .before .before .before .at .result .now) (a .m) (a .x) (c .before .before .before .leads-to-board .result) (c .before .before .before .before .before .before .before .before .before .before .before .at .ensures) (record-there (a .acts .now) (a .ps .now) (a .n) (a .m) (sym (c .before .before .before .before .before .before .before .before .before .before .before .before .before .open-check .ensures) ∙ c .before .before .before .before .before .before .before .before .before .before .before .before .if1 .left)) (c .before .before .before .leads-to-board .ensures)) ∙ not-false (c .before .before .before .leads-to-board .result) (c .before .before .if5 .left)) (c .before .if6 .left) (c .if7 .left)
+returns-8 c =
+    let early = c .before .before .before .before .before .before .before .before .before .before .before .before in
+    let a = early .before .before .before .before .before .args in
+    let at-good = early .before .before .before .before .before .good in
+    let long : length (a .next .pieces) ≡ 64 = search (length-unmapped, at-good) in
+    let at-open-check = early .before .open-check in
+    let at-if1 = early .if1 in
+    let at-at = c .before .before .before .before .before .before .before .before .before .before .before .at in
+    let at-lists = c .before .before .before .before .before .before .before .before .before .before .lists in
+    let at-if2 = c .before .before .before .before .before .before .before .before .before .if2 in
+    let at-check = c .before .before .before .before .before .before .before .before .check in
+    let at-if3 = c .before .before .before .before .before .before .before .if3 in
+    let at-byte-at = c .before .before .before .before .before .before .byte-at in
+    let at-if4 = c .before .before .before .before .if4 in
+    let at-leads-to-board = c .before .before .before .leads-to-board in
+    let at-if5 = c .before .before .if5 in
+    let q : Position = positionGiven (a .next) (a .in-check) (a .list .now) in
+    let listed = ap (λ (s : List ℕ). listsMove s (a .x)) (sym (at-at .ensures)) ∙ sym (at-lists .ensures) ∙ not-false (at-lists .result) (at-if2 .left) in
+    let other-side = ways.other-side (a .next) (a .in-check) (a .list .now) (a .ps .now) (at-at .result .now) (a .m) (at-byte-at .result) long
+    (at-at .ensures) (at-byte-at .ensures) (at-if4 .left) in
+    let there = record-there (a .acts .now) (a .ps .now) (a .n) (a .m) (sym (at-open-check .ensures) ∙ at-if1 .left) in
+    let tells = ways.record-tells (a .next) (a .in-check) (a .list .now) (a .ps .now) (at-at .result .now) (a .m) (a .x) (at-leads-to-board .result)
+    (at-at .ensures) there (at-leads-to-board .ensures) in
+    let follows = sym tells ∙ not-false (at-leads-to-board .result) (at-if5 .left) in
+    ways.move-passed (a .acts .now) (a .ps .now) (a .n) (a .m) (a .x)
+    (at-open-check .result) q (at-open-check .ensures) (at-if1 .left) listed
+    (at-check .result) (at-check .ensures) (at-if3 .left) other-side follows (c .before .if6 .left) (c .if7 .left)
 
 pub move-answer-spec : {M : Type 1} → statement M
 move-answer-spec =

@@ -20,12 +20,20 @@ result-requires c κs = search needs
 returns-2 : tie.Need-returns-2
 returns-2 c =
     let a = c .before .before .before .before .before .before .args in
-    ways.open-ended (a .acts .now) (a .ps .now) (a .n) (a .m) (c .before .before .before .check .result) (c .before .before .before .check .ensures) (c .before .result .result) (omega (arith, c .before .before .if1 .left)) (c .before .result .ensures) (c .if2 .taken)
+    let at-check = c .before .before .before .check in
+    let at-if1 = c .before .before .if1 in
+    let at-result = c .before .result in
+    ways.open-ended (a .acts .now) (a .ps .now) (a .n) (a .m) (at-check .result) (at-check .ensures) (at-result .result) (omega (arith, at-if1 .left))
+    (at-result .ensures) (c .if2 .taken)
 
 returns-3 : tie.Need-returns-3
 returns-3 c =
     let a = c .before .before .before .before .before .before .args in
-    ways.open-passed (a .acts .now) (a .ps .now) (a .n) (a .m) (c .before .before .before .check .result) (c .before .before .before .check .ensures) (c .before .result .result) (omega (arith, c .before .before .if1 .left)) (c .before .result .ensures) (c .if2 .left)
+    let at-check = c .before .before .before .check in
+    let at-if1 = c .before .before .if1 in
+    let at-result = c .before .result in
+    ways.open-passed (a .acts .now) (a .ps .now) (a .n) (a .m) (at-check .result) (at-check .ensures) (at-result .result) (omega (arith, at-if1 .left))
+    (at-result .ensures) (c .if2 .left)
 
 pub open-check-spec : {M : Type 1} → statement M
 open-check-spec = tie.close (tie.spec check-requires returns result-requires returns-2 returns-3)

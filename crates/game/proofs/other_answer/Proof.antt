@@ -23,19 +23,31 @@ returns-2 : tie.Need-returns-2
 unfolding otherAnswer firstRefusal
 returns-2 c =
     let a = c .before .before .before .before .before .before .args in
-    ways.other-own (a .acts .now) (a .ps .now) (a .n) (a .m) (c .before .before .before .open-check .result) (a .action) (c .before .before .before .open-check .ensures) (c .before .other-check .result) (c .before .before .if1 .left) (c .before .other-check .ensures) (c .if2 .taken)
+    let at-open-check = c .before .before .before .open-check in
+    let at-if1 = c .before .before .if1 in
+    let at-other-check = c .before .other-check in
+    ways.other-own (a .acts .now) (a .ps .now) (a .n) (a .m) (at-open-check .result) (a .action) (at-open-check .ensures) (at-other-check .result)
+    (at-if1 .left) (at-other-check .ensures) (c .if2 .taken)
 
 returns-3 : tie.Need-returns-3
 unfolding otherAnswer firstRefusal
 returns-3 c =
     let a = c .before .before .before .before .before .before .before .args in
-    ways.other-full (a .acts .now) (a .ps .now) (a .n) (a .m) (c .before .before .before .before .open-check .result) (a .action) (c .before .before .before .before .open-check .ensures) (c .before .before .other-check .result) (c .before .before .before .if1 .left) (c .before .before .other-check .ensures) (c .before .if2 .left) (c .if3 .taken)
+    let at-open-check = c .before .before .before .before .open-check in
+    let at-if1 = c .before .before .before .if1 in
+    let at-other-check = c .before .before .other-check in
+    ways.other-full (a .acts .now) (a .ps .now) (a .n) (a .m) (at-open-check .result) (a .action) (at-open-check .ensures) (at-other-check .result)
+    (at-if1 .left) (at-other-check .ensures) (c .before .if2 .left) (c .if3 .taken)
 
 returns-4 : tie.Need-returns-4
 unfolding otherAnswer firstRefusal
 returns-4 c =
     let a = c .before .before .before .before .before .before .before .args in
-    ways.other-passed (a .acts .now) (a .ps .now) (a .n) (a .m) (c .before .before .before .before .open-check .result) (a .action) (c .before .before .before .before .open-check .ensures) (c .before .before .other-check .result) (c .before .before .before .if1 .left) (c .before .before .other-check .ensures) (c .before .if2 .left) (c .if3 .left)
+    let at-open-check = c .before .before .before .before .open-check in
+    let at-if1 = c .before .before .before .if1 in
+    let at-other-check = c .before .before .other-check in
+    ways.other-passed (a .acts .now) (a .ps .now) (a .n) (a .m) (at-open-check .result) (a .action) (at-open-check .ensures) (at-other-check .result)
+    (at-if1 .left) (at-other-check .ensures) (c .before .if2 .left) (c .if3 .left)
 
 pub other-answer-spec : {M : Type 1} → statement M
 other-answer-spec =

@@ -30,7 +30,9 @@ returns : tie.Need-returns
 returns c =
     let a = c .before .before .before .before .before .args in
     let given = c .before .before .before .before .before .pre in
-    put-written (actionSize * a .n) (actionCheck (a .action)) (a .acts .now) (actionBytes (a .action)) _ (given .1) (omega (arith, given .0, length-bytes (a .action))) (c .before .before .to-bytes .ensures .1)
+    let at-to-bytes = c .before .before .to-bytes in
+    put-written (actionSize * a .n) (actionCheck (a .action)) (a .acts .now) (actionBytes (a .action)) _ (given .1)
+    (omega (arith, given .0, length-bytes (a .action))) (at-to-bytes .ensures .1)
 
 pub put-action-spec : {M : Type 1} → statement M
 put-action-spec =

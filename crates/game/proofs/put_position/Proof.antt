@@ -31,8 +31,10 @@ returns : tie.Need-returns
 returns c =
     let a = c .before .before .before .before .before .before .args in
     let given = c .before .before .before .before .before .before .pre in
+    let at-to-bytes = c .before .before .to-bytes in
     let p : Position = positionGiven (a .b) (a .in-check) (a .list .now) in
-    put-written (positionSize * a .k) (positionCheck p) (a .ps .now) (positionBytes p) _ (given .1) (omega (arith, given .0, one-size p (given .1))) (c .before .before .to-bytes .ensures .1)
+    put-written (positionSize * a .k) (positionCheck p) (a .ps .now) (positionBytes p) _ (given .1) (omega (arith, given .0, one-size p (given .1)))
+    (at-to-bytes .ensures .1)
 
 pub put-position-spec : {M : Type 1} → statement M
 put-position-spec =

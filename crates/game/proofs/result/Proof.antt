@@ -18,7 +18,9 @@ returns : tie.Need-returns
 unfolding resultAnswer
 returns c =
     let a = c .before .before .before .before .before .args in
-    ways.told-refused (logCheck limits (a .acts .now) (a .ps .now) (a .n) (a .m)) (c .before .before .check .result) (result (historyOf (a .acts .now) (a .ps .now) (a .n))) (c .refused .result) (c .before .before .check .ensures) (c .before .if1 .taken) (c .refused .ensures)
+    let at-check = c .before .before .check in
+    ways.told-refused (logCheck limits (a .acts .now) (a .ps .now) (a .n) (a .m)) (at-check .result) (result (historyOf (a .acts .now) (a .ps .now) (a .n)))
+    (c .refused .result) (at-check .ensures) (c .before .if1 .taken) (c .refused .ensures)
 
 result-requires : tie.Need-result-requires
 result-requires c κs = search needs
@@ -29,7 +31,11 @@ accepted-requires c κs = search needs
 returns-2 : tie.Need-returns-2
 returns-2 c =
     let a = c .before .before .before .before .before .before .args in
-    ways.result-told (a .acts .now) (a .ps .now) (a .n) (a .m) (c .before .before .before .check .result) (c .before .result .result) (c .accepted .result) (c .before .before .before .check .ensures) (c .before .result .ensures) (c .before .before .if1 .left) (c .accepted .ensures)
+    let at-check = c .before .before .before .check in
+    let at-if1 = c .before .before .if1 in
+    let at-result = c .before .result in
+    ways.result-told (a .acts .now) (a .ps .now) (a .n) (a .m) (at-check .result) (at-result .result) (c .accepted .result) (at-check .ensures)
+    (at-result .ensures) (at-if1 .left) (c .accepted .ensures)
 
 pub result-spec : {M : Type 1} → statement M
 result-spec =

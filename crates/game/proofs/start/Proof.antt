@@ -21,8 +21,10 @@ same-length c = search needs
 returns : tie.Need-returns
 returns c =
     let a = c .before .before .before .before .before .before .before .args in
+    let at-start-answer = c .before .before .start-answer in
     let q : Position = positionGiven (a .b) (a .in-check) (a .list .now) in
-    ways.start-refused (startAnswer limits (a .acts .now) (a .ps .now) q) (c .before .before .start-answer .result) (a .ps .now) q (c .counts .result) (c .before .before .start-answer .ensures) (c .before .if1 .taken) (c .counts .ensures)
+    ways.start-refused (startAnswer limits (a .acts .now) (a .ps .now) q) (at-start-answer .result) (a .ps .now) q (c .counts .result)
+    (at-start-answer .ensures) (c .before .if1 .taken) (c .counts .ensures)
 
 put-position-requires : tie.Need-put-position-requires
 put-position-requires c κs =
@@ -39,8 +41,12 @@ same-length-2 c = search needs
 returns-2 : tie.Need-returns-2
 returns-2 c =
     let a = c .before .before .before .before .before .before .before .before .before .before .before .args in
+    let at-start-answer = c .before .before .before .before .before .before .start-answer in
+    let at-if1 = c .before .before .before .before .before .if1 in
+    let at-put-position = c .before .before .before .put-position in
     let q : Position = positionGiven (a .b) (a .in-check) (a .list .now) in
-    ways.start-accepted (startAnswer limits (a .acts .now) (a .ps .now) q) (c .before .before .before .before .before .before .start-answer .result) (a .ps .now) q (c .counts2 .result) (c .before .before .before .before .before .before .start-answer .ensures) _ (c .before .before .before .before .before .if1 .left) (c .counts2 .ensures) (c .before .before .before .put-position .ensures)
+    ways.start-accepted (startAnswer limits (a .acts .now) (a .ps .now) q) (at-start-answer .result) (a .ps .now) q (c .counts2 .result)
+    (at-start-answer .ensures) _ (at-if1 .left) (c .counts2 .ensures) (at-put-position .ensures)
 
 pub start-spec : {M : Type 1} → statement M
 start-spec =

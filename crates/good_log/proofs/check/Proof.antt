@@ -19,18 +19,33 @@ returns-3 c = rw (le-leb _ _ (c .before .before .if1 .left), le-leb _ _ (c .befo
 
 returns-4 : tie.Need-returns-4
 unfolding logCheck firstRefusal
-returns-4 c = rw (le-leb _ _ (c .before .before .before .if1 .left), le-leb _ _ (c .before .before .if2 .left), le-leb _ _ (c .before .if3 .left), lt-leb _ _ (c .if4 .taken))
+returns-4 c =
+    let at-if1 = c .before .before .before .if1 in
+    let at-if2 = c .before .before .if2 in
+    rw (le-leb _ _ (at-if1 .left), le-leb _ _ (at-if2 .left), le-leb _ _ (c .before .if3 .left), lt-leb _ _ (c .if4 .taken))
 
 is-good-requires : tie.Need-is-good-requires
 is-good-requires c κs = (c .before .if3 .left, c .if4 .left, c .before .before .before .if1 .left, c .before .before .if2 .left)
 
 returns-5 : tie.Need-returns-5
 unfolding logCheck firstRefusal
-returns-5 c = rw (le-leb _ _ (c .before .before .before .before .before .if1 .left), le-leb _ _ (c .before .before .before .before .if2 .left), le-leb _ _ (c .before .before .before .if3 .left), le-leb _ _ (c .before .before .if4 .left), sym (c .before .is-good .ensures) ∙ c .if5 .taken)
+returns-5 c =
+    let at-if1 = c .before .before .before .before .before .if1 in
+    let at-if2 = c .before .before .before .before .if2 in
+    let at-if3 = c .before .before .before .if3 in
+    let at-if4 = c .before .before .if4 in
+    rw (le-leb _ _ (at-if1 .left), le-leb _ _ (at-if2 .left), le-leb _ _ (at-if3 .left), le-leb _ _ (at-if4 .left),
+    sym (c .before .is-good .ensures) ∙ c .if5 .taken)
 
 returns-6 : tie.Need-returns-6
 unfolding logCheck firstRefusal
-returns-6 c = rw (le-leb _ _ (c .before .before .before .before .before .if1 .left), le-leb _ _ (c .before .before .before .before .if2 .left), le-leb _ _ (c .before .before .before .if3 .left), le-leb _ _ (c .before .before .if4 .left), sym (c .before .is-good .ensures) ∙ c .if5 .left)
+returns-6 c =
+    let at-if1 = c .before .before .before .before .before .if1 in
+    let at-if2 = c .before .before .before .before .if2 in
+    let at-if3 = c .before .before .before .if3 in
+    let at-if4 = c .before .before .if4 in
+    rw (le-leb _ _ (at-if1 .left), le-leb _ _ (at-if2 .left), le-leb _ _ (at-if3 .left), le-leb _ _ (at-if4 .left),
+    sym (c .before .is-good .ensures) ∙ c .if5 .left)
 
 pub check-spec : {M : Type 1} → statement M
 check-spec =

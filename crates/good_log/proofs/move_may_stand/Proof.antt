@@ -13,29 +13,28 @@ use Rattle.good_log.proofs.move_may_stand.Lts as lts
 use Rattle.good_log.proofs.move_leads.Reads as move-leads-reads
 use Rattle.position.proofs.at.Reads as at-reads
 
--- src/lib.rt:86:9
 returns : tie.Need-returns
 returns c = rw (le-ltb (c .before .before .args .k) (c .before .before .args .m) (c .if1 .taken))
 
--- src/lib.rt:88:16
 at-requires : tie.Need-at-requires
 at-requires c κs = search needs
 
--- src/lib.rt:88:57
 add-at : tie.Need-add-at
 add-at c = search needs
 
--- src/lib.rt:88:40
 at-requires-2 : tie.Need-at-requires-2
 at-requires-2 c κs = search needs
 
--- src/lib.rt:88:5
 move-leads-requires : tie.Need-move-leads-requires
 move-leads-requires c κs = (c .before .before .before .before .pre .1, ap recordFits (c .before .at .ensures) ∙ c .before .before .before .before .pre .2)
 
--- src/lib.rt:81:1
 returns-2 : tie.Need-returns-2
-returns-2 c = let a = c .before .before .before .before .before .args in rw (lt-ltb (a .k) (a .m) (c .before .before .before .if1 .left)) (c .move-leads .ensures ∙ ap₂ (λ (p q : List ℕ). moveLeads p (a .x) q) (c .before .before .at .ensures) (rw (add-one (a .k)) at (c .before .at2 .ensures)))
+returns-2 c =
+    let a = c .before .before .before .before .before .args in
+    let at-if1 = c .before .before .before .if1 in
+    let at-at = c .before .before .at in
+    rw (lt-ltb (a .k) (a .m) (at-if1 .left))
+    (c .move-leads .ensures ∙ ap₂ (λ (p q : List ℕ). moveLeads p (a .x) q) (at-at .ensures) (rw (add-one (a .k)) at (c .before .at2 .ensures)))
 
 pub move-may-stand-spec : {M : Type 1} → statement M
 move-may-stand-spec =

@@ -39,10 +39,15 @@ loop-less c = search needs
 loop-again : tie.Need-loop-again Inv-loop μ-loop
 loop-again c =
     let a = c .before .before .before .before .before .args in
+    let at-loop = c .before .before .before .loop in
+    let at-loop-test = c .before .before .loop-test in
     let s = a .moves .now in
-    let i = c .before .before .before .loop .i in
+    let i = at-loop .i in
     let left = allAtMost (a .most) (drop (i + 1) s) in
-    (omega arith, ap (λ (x : ℕ). eqb (bitOr (c .before .before .before .loop .above) x) 0 && left) (c .over .ensures) ∙ gather-turn (a .most) s (c .before .before .before .loop .above) i (c .before .before .loop-test .taken) ∙ c .before .before .before .loop .inv .1)
+    (omega arith,
+    ap (λ (x : ℕ). eqb (bitOr (at-loop .above) x) 0 && left) (c .over .ensures)
+    ∙ gather-turn (a .most) s (at-loop .above) i (at-loop-test .taken)
+    ∙ at-loop .inv .1)
 
 returns : tie.Need-returns Inv-loop μ-loop
 returns c =

@@ -19,7 +19,9 @@ all-at-most-requires c κs = search needs
 
 returns-2 : tie.Need-returns-2
 unfolding listInRange
-returns-2 c = c .all-at-most .ensures ∙ sym (simp (le-leb (length (c .before .before .before .args .moves .now)) longestList (omega (arith, c .before .if1 .left))))
+returns-2 c =
+    let a = c .before .before .before .args in
+    c .all-at-most .ensures ∙ sym (simp (le-leb (length (a .moves .now)) longestList (omega (arith, c .before .if1 .left))))
 
 pub in-range-spec : {M : Type 1} → statement M
 in-range-spec = tie.close (tie.spec returns cast-all-at-most all-at-most-requires returns-2)

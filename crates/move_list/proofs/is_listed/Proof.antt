@@ -27,7 +27,11 @@ wide-requires : tie.Need-wide-requires Inv-loop μ-loop
 wide-requires c κs = search needs
 
 returns : tie.Need-returns Inv-loop μ-loop
-returns c = sym (c .before .before .before .before .loop .inv .1 ∙ listed-stop (c .before .before .before .before .before .before .args .m) (c .before .before .before .before .before .before .args .moves .now) (c .before .before .before .before .loop .i) (c .before .before .before .loop-test .taken) (sym (c .before .wide .ensures) ∙ c .if1 .taken))
+returns c =
+    let a = c .before .before .before .before .before .before .args in
+    let at-loop = c .before .before .before .before .loop in
+    let at-loop-test = c .before .before .before .loop-test in
+    sym (at-loop .inv .1 ∙ listed-stop (a .m) (a .moves .now) (at-loop .i) (at-loop-test .taken) (sym (c .before .wide .ensures) ∙ c .if1 .taken))
 
 add-i : tie.Need-add-i Inv-loop μ-loop
 add-i c = search needs
@@ -36,10 +40,17 @@ loop-less : tie.Need-loop-less Inv-loop μ-loop
 loop-less c = search needs
 
 loop-again : tie.Need-loop-again Inv-loop μ-loop
-loop-again c = (omega arith, c .before .before .before .before .loop .inv .1 ∙ listed-turn (c .before .before .before .before .before .before .args .m) (c .before .before .before .before .before .before .args .moves .now) (c .before .before .before .before .loop .i) (c .before .before .before .loop-test .taken) (λ e. c .if1 .left (c .before .wide .ensures ∙ e)))
+loop-again c =
+    let a = c .before .before .before .before .before .before .args in
+    let at-loop = c .before .before .before .before .loop in
+    let at-loop-test = c .before .before .before .loop-test in
+    (omega arith, at-loop .inv .1 ∙ listed-turn (a .m) (a .moves .now) (at-loop .i) (at-loop-test .taken) (λ e. c .if1 .left (c .before .wide .ensures ∙ e)))
 
 returns-2 : tie.Need-returns-2 Inv-loop μ-loop
-returns-2 c = sym (c .before .loop .inv .1 ∙ listed-end (c .before .before .before .args .m) (c .before .before .before .args .moves .now) (c .before .loop .i) (c .loop-test .left))
+returns-2 c =
+    let a = c .before .before .before .args in
+    let at-loop = c .before .loop in
+    sym (at-loop .inv .1 ∙ listed-end (a .m) (a .moves .now) (at-loop .i) (c .loop-test .left))
 
 pub is-listed-spec : {M : Type 1} → statement M
 is-listed-spec =

@@ -22,27 +22,39 @@ returns c =
 
 returns-2 : tie.Need-returns-2
 returns-2 c =
-    let b = c .before .before .before .before .args .b in
+    let a = c .before .before .before .before .args in
+    let at-in-range = c .before .before .in-range in
+    let b = a .b in
     let long : length (b .pieces) ≡ squares = search length-unmapped in
-    let e : numbersInRange (numbers b) ≡ true = numbers-range b long ∙ sym (c .before .before .in-range .ensures) ∙ not-false _ (c .before .if1 .left) in
-    sym (bad-check (positionGiven b (c .before .before .before .before .args .in-check) (c .before .before .before .before .args .list .now)) e (omega (arith, c .if2 .taken)))
+    let e : numbersInRange (numbers b) ≡ true = numbers-range b long ∙ sym (at-in-range .ensures) ∙ not-false _ (c .before .if1 .left) in
+    sym (bad-check (positionGiven b (a .in-check) (a .list .now)) e (omega (arith, c .if2 .taken)))
 
 in-range-requires-2 : tie.Need-in-range-requires-2
 in-range-requires-2 c κs = search needs
 
 returns-3 : tie.Need-returns-3
 returns-3 c =
-    let b = c .before .before .before .before .before .before .args .b in
+    let a = c .before .before .before .before .before .before .args in
+    let at-in-range = c .before .before .before .before .in-range in
+    let at-if1 = c .before .before .before .if1 in
+    let at-if2 = c .before .before .if2 in
+    let b = a .b in
     let long : length (b .pieces) ≡ squares = search length-unmapped in
-    let e : numbersInRange (numbers b) ≡ true = numbers-range b long ∙ sym (c .before .before .before .before .in-range .ensures) ∙ not-false _ (c .before .before .before .if1 .left) in
-    sym (bad-list (positionGiven b (c .before .before .before .before .before .before .args .in-check) (c .before .before .before .before .before .before .args .list .now)) e (omega (arith, c .before .before .if2 .left)) (sym (c .before .in-range2 .ensures) ∙ not-true _ (c .if3 .taken)))
+    let e : numbersInRange (numbers b) ≡ true = numbers-range b long ∙ sym (at-in-range .ensures) ∙ not-false _ (at-if1 .left) in
+    sym (bad-list (positionGiven b (a .in-check) (a .list .now)) e (omega (arith, at-if2 .left))
+    (sym (c .before .in-range2 .ensures) ∙ not-true _ (c .if3 .taken)))
 
 returns-4 : tie.Need-returns-4
 returns-4 c =
-    let b = c .before .before .before .before .before .before .args .b in
+    let a = c .before .before .before .before .before .before .args in
+    let at-in-range = c .before .before .before .before .in-range in
+    let at-if1 = c .before .before .before .if1 in
+    let at-if2 = c .before .before .if2 in
+    let b = a .b in
     let long : length (b .pieces) ≡ squares = search length-unmapped in
-    let e : numbersInRange (numbers b) ≡ true = numbers-range b long ∙ sym (c .before .before .before .before .in-range .ensures) ∙ not-false _ (c .before .before .before .if1 .left) in
-    sym (no-fault (positionGiven b (c .before .before .before .before .before .before .args .in-check) (c .before .before .before .before .before .before .args .list .now)) e (omega (arith, c .before .before .if2 .left)) (sym (c .before .in-range2 .ensures) ∙ not-false _ (c .if3 .left)))
+    let e : numbersInRange (numbers b) ≡ true = numbers-range b long ∙ sym (at-in-range .ensures) ∙ not-false _ (at-if1 .left) in
+    sym (no-fault (positionGiven b (a .in-check) (a .list .now)) e (omega (arith, at-if2 .left))
+    (sym (c .before .in-range2 .ensures) ∙ not-false _ (c .if3 .left)))
 
 pub check-spec : {M : Type 1} → statement M
 check-spec =

@@ -44,7 +44,9 @@ mul-either : tie.Need-mul-either Inv-loop μ-loop
 mul-either c = omega (arith, c .shared-slice-known3 .given (movesAt + 2 * c .before .before .before .loop .i + 1))
 
 add-either-2 : tie.Need-add-either-2 Inv-loop μ-loop
-add-either-2 c = omega (arith, c .before .shared-slice-known2 .given (movesAt + 2 * c .before .before .before .loop .i), c .shared-slice-known3 .given (movesAt + 2 * c .before .before .before .loop .i + 1))
+add-either-2 c =
+    let at-loop = c .before .before .before .loop in
+    omega (arith, c .before .shared-slice-known2 .given (movesAt + 2 * at-loop .i), c .shared-slice-known3 .given (movesAt + 2 * at-loop .i + 1))
 
 either-requires : tie.Need-either-requires Inv-loop μ-loop
 either-requires c κs = search needs
@@ -58,13 +60,19 @@ loop-less c = search needs
 loop-again : tie.Need-loop-again Inv-loop μ-loop
 loop-again c =
     let a = c .before .before .before .before .before .before .args in
+    let at-loop = c .before .before .before .before .loop in
+    let at-loop-test = c .before .before .before .loop-test in
     let s = a .s .now in
-    let i = c .before .before .before .before .loop .i in
+    let i = at-loop .i in
     let left = among (a .m) (movesLeft s (a .entries) (i + 1)) in
-    (omega (arith, c .before .before .before .loop-test .taken), ap (λ (t : Bool). t || left) (c .either .ensures) ∙ look-turn s (a .m) (a .entries) i (c .before .before .before .before .loop .found) (c .before .before .before .loop-test .taken) ∙ c .before .before .before .before .loop .inv .1)
+    (omega (arith, at-loop-test .taken),
+    ap (λ (t : Bool). t || left) (c .either .ensures) ∙ look-turn s (a .m) (a .entries) i (at-loop .found) (at-loop-test .taken) ∙ at-loop .inv .1)
 
 returns : tie.Need-returns Inv-loop μ-loop
-returns c = sym (look-end (c .before .before .before .args .s .now) (c .before .before .before .args .m) (c .before .before .before .args .entries) (c .before .loop .i) (c .before .loop .found) (c .loop-test .left)) ∙ c .before .loop .inv .1
+returns c =
+    let a = c .before .before .before .args in
+    let at-loop = c .before .loop in
+    sym (look-end (a .s .now) (a .m) (a .entries) (at-loop .i) (at-loop .found) (c .loop-test .left)) ∙ at-loop .inv .1
 
 pub has-move-spec : {M : Type 1} → statement M
 has-move-spec =

@@ -12,7 +12,10 @@ moves-in-range-requires : tie.Need-moves-in-range-requires
 moves-in-range-requires c κs = search needs
 
 returns : tie.Need-returns
-returns c = sym (not-moves (c .before .before .before .args .s .now) (c .before .before .before .args .entries) (sym (c .before .moves-in-range .ensures) ∙ not-true (c .before .moves-in-range .result) (c .if1 .taken)))
+returns c =
+    let a = c .before .before .before .args in
+    let at-moves-in-range = c .before .moves-in-range in
+    sym (not-moves (a .s .now) (a .entries) (sym (at-moves-in-range .ensures) ∙ not-true (at-moves-in-range .result) (c .if1 .taken)))
 
 mul-end : tie.Need-mul-end
 mul-end c = search needs
@@ -35,9 +38,11 @@ all-at-most-requires c κs = search needs
 returns-2 : tie.Need-returns-2
 returns-2 c =
     let a = c .before .before .before .before .before .args in
+    let at-moves-in-range = c .before .before .before .moves-in-range in
+    let at-if1 = c .before .before .if1 in
     c .all-at-most .ensures
     ∙ ap (allAtMost 0) (part-to-end (a .s .now) (movesAt + 2 * a .entries))
-    ∙ sym (by-past (a .s .now) (a .entries) (sym (c .before .before .before .moves-in-range .ensures) ∙ not-false (c .before .before .before .moves-in-range .result) (c .before .before .if1 .left)))
+    ∙ sym (by-past (a .s .now) (a .entries) (sym (at-moves-in-range .ensures) ∙ not-false (at-moves-in-range .result) (at-if1 .left)))
 
 pub is-list-spec : {M : Type 1} → statement M
 is-list-spec =

@@ -9,13 +9,19 @@ is-list-requires : tie.Need-is-list-requires
 is-list-requires c κs = search needs
 
 returns : tie.Need-returns
-returns c = sym (not-list (c .before .before .before .args .s .now) (c .before .before .before .args .entries) (c .before .before .before .args .m) (sym (c .before .is-list .ensures) ∙ not-true (c .before .is-list .result) (c .if1 .taken)))
+returns c =
+    let a = c .before .before .before .args in
+    let at-is-list = c .before .is-list in
+    sym (not-list (a .s .now) (a .entries) (a .m) (sym (at-is-list .ensures) ∙ not-true (at-is-list .result) (c .if1 .taken)))
 
 has-move-requires : tie.Need-has-move-requires
 has-move-requires c κs = search needs
 
 returns-2 : tie.Need-returns-2
-returns-2 c = c .has-move .ensures ∙ by-among (c .before .before .before .before .args .s .now) (c .before .before .before .before .args .entries) (c .before .before .before .before .args .m) (sym (c .before .before .is-list .ensures) ∙ not-false (c .before .before .is-list .result) (c .before .if1 .left))
+returns-2 c =
+    let a = c .before .before .before .before .args in
+    let at-is-list = c .before .before .is-list in
+    c .has-move .ensures ∙ by-among (a .s .now) (a .entries) (a .m) (sym (at-is-list .ensures) ∙ not-false (at-is-list .result) (c .before .if1 .left))
 
 pub is-list-with-spec : {M : Type 1} → statement M
 is-list-with-spec = tie.close (tie.spec is-list-requires returns has-move-requires returns-2)

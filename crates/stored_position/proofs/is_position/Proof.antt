@@ -13,25 +13,35 @@ is-front-requires : tie.Need-is-front-requires
 is-front-requires c κs = search needs
 
 returns : tie.Need-returns
-returns c = sym (not-front (c .before .before .before .args .s .now) (sym (c .before .is-front .ensures) ∙ not-true (c .before .is-front .result) (c .if1 .taken)))
+returns c =
+    let a = c .before .before .before .args in
+    let at-is-front = c .before .is-front in
+    sym (not-front (a .s .now) (sym (at-is-front .ensures) ∙ not-true (at-is-front .result) (c .if1 .taken)))
 
 shared-slice-read-is-list : tie.Need-shared-slice-read-is-list
 shared-slice-read-is-list c =
-    let front : frontFits (c .before .before .before .before .args .s .now) ≡ true = sym (c .before .before .is-front .ensures) ∙ not-false (c .before .before .is-front .result) (c .before .if1 .left) in
-    omega (arith, front-whole (c .before .before .before .before .args .s .now) front)
+    let a = c .before .before .before .before .args in
+    let at-is-front = c .before .before .is-front in
+    let front : frontFits (a .s .now) ≡ true = sym (at-is-front .ensures) ∙ not-false (at-is-front .result) (c .before .if1 .left) in
+    omega (arith, front-whole (a .s .now) front)
 
 cast-is-list : tie.Need-cast-is-list
 cast-is-list c = omega (arith, c .shared-slice-known2 .given lengthAt)
 
 is-list-requires : tie.Need-is-list-requires
 is-list-requires c κs =
-    let front : frontFits (c .before .before .before .before .args .s .now) ≡ true = sym (c .before .before .is-front .ensures) ∙ not-false (c .before .before .is-front .result) (c .before .if1 .left) in
-    (front-whole (c .before .before .before .before .args .s .now) front, omega (arith, c .shared-slice-known2 .given lengthAt))
+    let a = c .before .before .before .before .args in
+    let at-is-front = c .before .before .is-front in
+    let front : frontFits (a .s .now) ≡ true = sym (at-is-front .ensures) ∙ not-false (at-is-front .result) (c .before .if1 .left) in
+    (front-whole (a .s .now) front, omega (arith, c .shared-slice-known2 .given lengthAt))
 
 returns-2 : tie.Need-returns-2
 returns-2 c =
-    let front : frontFits (c .before .before .before .before .before .args .s .now) ≡ true = sym (c .before .before .before .is-front .ensures) ∙ not-false (c .before .before .before .is-front .result) (c .before .before .if1 .left) in
-    c .is-list .ensures ∙ sym (by-front (c .before .before .before .before .before .args .s .now) (λ i. c .before .shared-slice-known2 .given i .fits) front)
+    let a = c .before .before .before .before .before .args in
+    let at-is-front = c .before .before .before .is-front in
+    let at-if1 = c .before .before .if1 in
+    let front : frontFits (a .s .now) ≡ true = sym (at-is-front .ensures) ∙ not-false (at-is-front .result) (at-if1 .left) in
+    c .is-list .ensures ∙ sym (by-front (a .s .now) (λ i. c .before .shared-slice-known2 .given i .fits) front)
 
 pub is-position-spec : {M : Type 1} → statement M
 is-position-spec =

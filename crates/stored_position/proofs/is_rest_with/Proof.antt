@@ -25,7 +25,12 @@ returns c = rw (sym (c .before .is-rest .ensures) ∙ not-true (c .before .is-re
 
 -- src/lib.rt:262:19
 shared-slice-read-entries : tie.Need-shared-slice-read-entries
-shared-slice-read-entries c = let s = c .before .before .before .before .args .s .now in let rest : restFits s ≡ true = sym (c .before .before .is-rest .ensures) ∙ not-false (c .before .before .is-rest .result) (c .before .if1 .left) in omega (arith, rest-whole s rest)
+shared-slice-read-entries c =
+    let a = c .before .before .before .before .args in
+    let at-is-rest = c .before .before .is-rest in
+    let s = a .s .now in
+    let rest : restFits s ≡ true = sym (at-is-rest .ensures) ∙ not-false (at-is-rest .result) (c .before .if1 .left) in
+    omega (arith, rest-whole s rest)
 
 -- src/lib.rt:262:19
 cast-entries : tie.Need-cast-entries
@@ -33,35 +38,85 @@ cast-entries c = omega (arith, c .shared-slice-known2 .given lengthAt)
 
 -- src/lib.rt:264:9
 is-list-with-requires : tie.Need-is-list-with-requires
-is-list-with-requires c κs = let s = c .before .before .before .before .before .args .s .now in let rest : restFits s ≡ true = sym (c .before .before .before .is-rest .ensures) ∙ not-false (c .before .before .before .is-rest .result) (c .before .before .if1 .left) in (rest-whole s rest, omega (arith, c .before .shared-slice-known2 .given lengthAt))
+is-list-with-requires c κs =
+    let a = c .before .before .before .before .before .args in
+    let at-is-rest = c .before .before .before .is-rest in
+    let at-if1 = c .before .before .if1 in
+    let s = a .s .now in
+    let rest : restFits s ≡ true = sym (at-is-rest .ensures) ∙ not-false (at-is-rest .result) (at-if1 .left) in
+    (rest-whole s rest, omega (arith, c .before .shared-slice-known2 .given lengthAt))
 
 -- src/lib.rt:264:9
 returns-2 : tie.Need-returns-2
-returns-2 c = let s = c .before .before .before .before .before .before .args .s .now in let rest : restFits s ≡ true = sym (c .before .before .before .before .is-rest .ensures) ∙ not-false (c .before .before .before .before .is-rest .result) (c .before .before .before .if1 .left) in c .is-list-with .ensures ∙ rest-so s (c .before .before .before .before .before .before .args .m) rest
+returns-2 c =
+    let a = c .before .before .before .before .before .before .args in
+    let at-is-rest = c .before .before .before .before .is-rest in
+    let at-if1 = c .before .before .before .if1 in
+    let s = a .s .now in
+    let rest : restFits s ≡ true = sym (at-is-rest .ensures) ∙ not-false (at-is-rest .result) (at-if1 .left) in
+    c .is-list-with .ensures ∙ rest-so s (a .m) rest
 
 -- src/lib.rt:267:9
 is-short-list-with-requires : tie.Need-is-short-list-with-requires
-is-short-list-with-requires c κs = let s = c .before .before .before .before .before .before .args .s .now in let rest : restFits s ≡ true = sym (c .before .before .before .before .is-rest .ensures) ∙ not-false (c .before .before .before .before .is-rest .result) (c .before .before .before .if1 .left) in (rest-whole s rest, omega (arith, c .if3 .taken), omega arith, c .before .if2 .left)
+is-short-list-with-requires c κs =
+    let a = c .before .before .before .before .before .before .args in
+    let at-is-rest = c .before .before .before .before .is-rest in
+    let at-if1 = c .before .before .before .if1 in
+    let s = a .s .now in
+    let rest : restFits s ≡ true = sym (at-is-rest .ensures) ∙ not-false (at-is-rest .result) (at-if1 .left) in
+    (rest-whole s rest, omega (arith, c .if3 .taken), omega arith, c .before .if2 .left)
 
 -- src/lib.rt:267:9
 returns-3 : tie.Need-returns-3
-returns-3 c = let s = c .before .before .before .before .before .before .before .args .s .now in let rest : restFits s ≡ true = sym (c .before .before .before .before .before .is-rest .ensures) ∙ not-false (c .before .before .before .before .before .is-rest .result) (c .before .before .before .before .if1 .left) in c .is-short-list-with .ensures ∙ rest-so s (c .before .before .before .before .before .before .before .args .m) rest
+returns-3 c =
+    let a = c .before .before .before .before .before .before .before .args in
+    let at-is-rest = c .before .before .before .before .before .is-rest in
+    let at-if1 = c .before .before .before .before .if1 in
+    let s = a .s .now in
+    let rest : restFits s ≡ true = sym (at-is-rest .ensures) ∙ not-false (at-is-rest .result) (at-if1 .left) in
+    c .is-short-list-with .ensures ∙ rest-so s (a .m) rest
 
 -- src/lib.rt:270:9
 is-short-list-with-requires-2 : tie.Need-is-short-list-with-requires-2
-is-short-list-with-requires-2 c κs = let s = c .before .before .before .before .before .before .before .args .s .now in let rest : restFits s ≡ true = sym (c .before .before .before .before .before .is-rest .ensures) ∙ not-false (c .before .before .before .before .before .is-rest .result) (c .before .before .before .before .if1 .left) in (rest-whole s rest, omega (arith, c .if4 .taken), omega arith, c .before .before .if2 .left)
+is-short-list-with-requires-2 c κs =
+    let a = c .before .before .before .before .before .before .before .args in
+    let at-is-rest = c .before .before .before .before .before .is-rest in
+    let at-if1 = c .before .before .before .before .if1 in
+    let at-if2 = c .before .before .if2 in
+    let s = a .s .now in
+    let rest : restFits s ≡ true = sym (at-is-rest .ensures) ∙ not-false (at-is-rest .result) (at-if1 .left) in
+    (rest-whole s rest, omega (arith, c .if4 .taken), omega arith, at-if2 .left)
 
 -- src/lib.rt:270:9
 returns-4 : tie.Need-returns-4
-returns-4 c = let s = c .before .before .before .before .before .before .before .before .args .s .now in let rest : restFits s ≡ true = sym (c .before .before .before .before .before .before .is-rest .ensures) ∙ not-false (c .before .before .before .before .before .before .is-rest .result) (c .before .before .before .before .before .if1 .left) in c .is-short-list-with2 .ensures ∙ rest-so s (c .before .before .before .before .before .before .before .before .args .m) rest
+returns-4 c =
+    let a = c .before .before .before .before .before .before .before .before .args in
+    let at-is-rest = c .before .before .before .before .before .before .is-rest in
+    let at-if1 = c .before .before .before .before .before .if1 in
+    let s = a .s .now in
+    let rest : restFits s ≡ true = sym (at-is-rest .ensures) ∙ not-false (at-is-rest .result) (at-if1 .left) in
+    c .is-short-list-with2 .ensures ∙ rest-so s (a .m) rest
 
 -- src/lib.rt:272:5
 is-list-with-requires-2 : tie.Need-is-list-with-requires-2
-is-list-with-requires-2 c κs = let s = c .before .before .before .before .before .before .before .args .s .now in let rest : restFits s ≡ true = sym (c .before .before .before .before .before .is-rest .ensures) ∙ not-false (c .before .before .before .before .before .is-rest .result) (c .before .before .before .before .if1 .left) in (rest-whole s rest, omega (arith, c .before .before .before .shared-slice-known2 .given lengthAt))
+is-list-with-requires-2 c κs =
+    let a = c .before .before .before .before .before .before .before .args in
+    let at-is-rest = c .before .before .before .before .before .is-rest in
+    let at-if1 = c .before .before .before .before .if1 in
+    let at-shared-slice-known2 = c .before .before .before .shared-slice-known2 in
+    let s = a .s .now in
+    let rest : restFits s ≡ true = sym (at-is-rest .ensures) ∙ not-false (at-is-rest .result) (at-if1 .left) in
+    (rest-whole s rest, omega (arith, at-shared-slice-known2 .given lengthAt))
 
 -- src/lib.rt:256:1
 returns-5 : tie.Need-returns-5
-returns-5 c = let s = c .before .before .before .before .before .before .before .before .args .s .now in let rest : restFits s ≡ true = sym (c .before .before .before .before .before .before .is-rest .ensures) ∙ not-false (c .before .before .before .before .before .before .is-rest .result) (c .before .before .before .before .before .if1 .left) in c .is-list-with2 .ensures ∙ rest-so s (c .before .before .before .before .before .before .before .before .args .m) rest
+returns-5 c =
+    let a = c .before .before .before .before .before .before .before .before .args in
+    let at-is-rest = c .before .before .before .before .before .before .is-rest in
+    let at-if1 = c .before .before .before .before .before .if1 in
+    let s = a .s .now in
+    let rest : restFits s ≡ true = sym (at-is-rest .ensures) ∙ not-false (at-is-rest .result) (at-if1 .left) in
+    c .is-list-with2 .ensures ∙ rest-so s (a .m) rest
 
 pub is-rest-with-spec : {M : Type 1} → statement M
 is-rest-with-spec =

@@ -39,11 +39,13 @@ all-at-most-requires c κs = search needs
 returns : tie.Need-returns
 returns c =
     let a = c .before .before .before .before .args in
+    let at-all-at-most = c .before .all-at-most in
     let s = a .s .now in
     let block = a .block in
     let end = movesAt + 2 * a .entries in
     let e : end + 2 * block - end ≡ 2 * block = omega arith in
-    sym (not-near s (a .entries) block (ap (λ (n : ℕ). allAtMost 0 (take n (drop end s))) (sym e) ∙ sym (c .before .all-at-most .ensures) ∙ not-true (c .before .all-at-most .result) (c .if1 .taken)))
+    sym (not-near s (a .entries) block
+    (ap (λ (n : ℕ). allAtMost 0 (take n (drop end s))) (sym e) ∙ sym (at-all-at-most .ensures) ∙ not-true (at-all-at-most .result) (c .if1 .taken)))
 
 sub-behind : tie.Need-sub-behind
 sub-behind c = search needs
@@ -69,13 +71,19 @@ all-at-most-requires-2 c κs = search needs
 returns-2 : tie.Need-returns-2
 returns-2 c =
     let a = c .before .before .before .before .before .before .before .args in
+    let at-pre = c .before .before .before .before .before .before .before .pre in
+    let at-all-at-most = c .before .before .before .before .all-at-most in
+    let at-if1 = c .before .before .before .if1 in
+    let at-all-at-most2 = c .before .all-at-most2 in
     let s = a .s .now in
     let block = a .block in
     let end = movesAt + 2 * a .entries in
     let e : end + 2 * block - end ≡ 2 * block = omega arith in
-    let near : allAtMost 0 (take (2 * block) (drop end s)) ≡ true = ap (λ (n : ℕ). allAtMost 0 (take n (drop end s))) (sym e) ∙ sym (c .before .before .before .before .all-at-most .ensures) ∙ not-false (c .before .before .before .before .all-at-most .result) (c .before .before .before .if1 .left) in
-    let whole : c .before .all-at-most2 .result ≡ allAtMost 0 (drop end s) = c .before .all-at-most2 .ensures ∙ ap (allAtMost 0) (part-to-end s (behind block)) ∙ far s (a .entries) block (c .before .before .before .before .before .before .before .pre .1) near in
-    sym (not-past s (a .entries) (sym whole ∙ not-true (c .before .all-at-most2 .result) (c .if2 .taken)))
+    let near : allAtMost 0 (take (2 * block) (drop end s)) ≡ true =
+    ap (λ (n : ℕ). allAtMost 0 (take n (drop end s))) (sym e) ∙ sym (at-all-at-most .ensures) ∙ not-false (at-all-at-most .result) (at-if1 .left) in
+    let whole : at-all-at-most2 .result ≡ allAtMost 0 (drop end s) =
+    at-all-at-most2 .ensures ∙ ap (allAtMost 0) (part-to-end s (behind block)) ∙ far s (a .entries) block (at-pre .1) near in
+    sym (not-past s (a .entries) (sym whole ∙ not-true (at-all-at-most2 .result) (c .if2 .taken)))
 
 moves-in-range-requires : tie.Need-moves-in-range-requires
 moves-in-range-requires c κs = search needs
@@ -83,14 +91,20 @@ moves-in-range-requires c κs = search needs
 returns-3 : tie.Need-returns-3
 returns-3 c =
     let a = c .before .before .before .before .before .before .before .before .args in
+    let at-pre = c .before .before .before .before .before .before .before .before .pre in
+    let at-all-at-most = c .before .before .before .before .before .all-at-most in
+    let at-if1 = c .before .before .before .before .if1 in
+    let at-all-at-most2 = c .before .before .all-at-most2 in
     let s = a .s .now in
     let block = a .block in
     let end = movesAt + 2 * a .entries in
     let e : end + 2 * block - end ≡ 2 * block = omega arith in
-    let near : allAtMost 0 (take (2 * block) (drop end s)) ≡ true = ap (λ (n : ℕ). allAtMost 0 (take n (drop end s))) (sym e) ∙ sym (c .before .before .before .before .before .all-at-most .ensures) ∙ not-false (c .before .before .before .before .before .all-at-most .result) (c .before .before .before .before .if1 .left) in
-    let whole : c .before .before .all-at-most2 .result ≡ allAtMost 0 (drop end s) = c .before .before .all-at-most2 .ensures ∙ ap (allAtMost 0) (part-to-end s (behind block)) ∙ far s (a .entries) block (c .before .before .before .before .before .before .before .before .pre .1) near in
-    let z : allAtMost 0 (drop end s) ≡ true = sym whole ∙ not-false (c .before .before .all-at-most2 .result) (c .before .if2 .left) in
-    c .moves-in-range .ensures ∙ block-range lastMove s (a .entries) block (omega (arith, c .before .before .before .before .before .before .before .before .pre .1)) z ∙ sym (by-moves s (a .entries) z)
+    let near : allAtMost 0 (take (2 * block) (drop end s)) ≡ true =
+    ap (λ (n : ℕ). allAtMost 0 (take n (drop end s))) (sym e) ∙ sym (at-all-at-most .ensures) ∙ not-false (at-all-at-most .result) (at-if1 .left) in
+    let whole : at-all-at-most2 .result ≡ allAtMost 0 (drop end s) =
+    at-all-at-most2 .ensures ∙ ap (allAtMost 0) (part-to-end s (behind block)) ∙ far s (a .entries) block (at-pre .1) near in
+    let z : allAtMost 0 (drop end s) ≡ true = sym whole ∙ not-false (at-all-at-most2 .result) (c .before .if2 .left) in
+    c .moves-in-range .ensures ∙ block-range lastMove s (a .entries) block (omega (arith, at-pre .1)) z ∙ sym (by-moves s (a .entries) z)
 
 pub is-short-list-spec : {M : Type 1} → statement M
 is-short-list-spec =

@@ -10,13 +10,22 @@ is-short-list-requires : tie.Need-is-short-list-requires
 is-short-list-requires c κs = search needs
 
 returns : tie.Need-returns
-returns c = sym (not-list (c .before .before .before .args .s .now) (c .before .before .before .args .entries) (c .before .before .before .args .m) (sym (c .before .is-short-list .ensures) ∙ not-true (c .before .is-short-list .result) (c .if1 .taken)))
+returns c =
+    let a = c .before .before .before .args in
+    let at-is-short-list = c .before .is-short-list in
+    sym (not-list (a .s .now) (a .entries) (a .m) (sym (at-is-short-list .ensures) ∙ not-true (at-is-short-list .result) (c .if1 .taken)))
 
 has-move-requires : tie.Need-has-move-requires
 has-move-requires c κs = search needs
 
 returns-2 : tie.Need-returns-2
-returns-2 c = c .has-move .ensures ∙ block-lists (c .before .before .before .before .args .m) (c .before .before .before .before .args .s .now) (c .before .before .before .before .args .entries) (c .before .before .before .before .args .block) (omega (arith, c .before .before .before .before .pre .1)) (c .before .before .before .before .pre .3) (sym (c .before .before .is-short-list .ensures) ∙ not-false (c .before .before .is-short-list .result) (c .before .if1 .left))
+returns-2 c =
+    let a = c .before .before .before .before .args in
+    let at-pre = c .before .before .before .before .pre in
+    let at-is-short-list = c .before .before .is-short-list in
+    c .has-move .ensures
+    ∙ block-lists (a .m) (a .s .now) (a .entries) (a .block) (omega (arith, at-pre .1)) (at-pre .3)
+    (sym (at-is-short-list .ensures) ∙ not-false (at-is-short-list .result) (c .before .if1 .left))
 
 pub is-short-list-with-spec : {M : Type 1} → statement M
 is-short-list-with-spec =

@@ -52,7 +52,11 @@ number-of-requires c κs = search needs
 returns-2 : tie.Need-returns-2 Inv-loop μ-loop
 returns-2 c =
     let a = c .before .before .before .before .before .before .before .before .before .args in
-    (sym (lists-stop (a .s .now) (a .m) (getD (a .s .now) lengthAt 0) (c .before .before .before .before .before .loop .i) (c .before .before .before .before .loop-test .taken) (sym (c .before .number-of .ensures) ∙ c .if2 .taken)) ∙ c .before .before .before .before .before .loop .inv .2)
+    let at-loop = c .before .before .before .before .before .loop in
+    let at-loop-test = c .before .before .before .before .loop-test in
+    (sym (lists-stop (a .s .now) (a .m) (getD (a .s .now) lengthAt 0) (at-loop .i) (at-loop-test .taken)
+    (sym (c .before .number-of .ensures) ∙ c .if2 .taken))
+    ∙ at-loop .inv .2)
 
 add-i : tie.Need-add-i Inv-loop μ-loop
 add-i c = omega (arith, c .before .before .before .before .before .before .shared-slice-known2 .given lengthAt)
@@ -63,7 +67,13 @@ loop-less c = omega (arith, c .before .before .before .before .loop-test .taken)
 loop-again : tie.Need-loop-again Inv-loop μ-loop
 loop-again c =
     let a = c .before .before .before .before .before .before .before .before .before .args in
-    (omega (arith, c .before .before .before .before .loop-test .taken), c .before .before .before .before .before .loop .inv .1, sym (lists-turn (a .s .now) (a .m) (getD (a .s .now) lengthAt 0) (c .before .before .before .before .before .loop .i) (c .before .before .before .before .loop-test .taken) (λ e. c .if2 .left (c .before .number-of .ensures ∙ e))) ∙ c .before .before .before .before .before .loop .inv .2)
+    let at-loop = c .before .before .before .before .before .loop in
+    let at-loop-test = c .before .before .before .before .loop-test in
+    (omega (arith, at-loop-test .taken),
+    at-loop .inv .1,
+    sym (lists-turn (a .s .now) (a .m) (getD (a .s .now) lengthAt 0) (at-loop .i) (at-loop-test .taken)
+    (λ e. c .if2 .left (c .before .number-of .ensures ∙ e)))
+    ∙ at-loop .inv .2)
 
 returns-3 : tie.Need-returns-3 Inv-loop μ-loop
 returns-3 c =

@@ -15,7 +15,8 @@ use Rattle.stored_position.proofs.moves_in_range.Statement.{statement}
 use Rattle.stored_position.proofs.moves_in_range.Tie as tie
 
 abbrev Inv-loop : tie.InvT-loop
-Inv-loop s entries above₀ i₀ above i = (i ≤ entries) × (eqb above 0 && allAtMost lastMove (movesLeft s entries i) ≡ allAtMost lastMove (movesFrom s movesAt entries))
+Inv-loop s entries above₀ i₀ above i =
+    (i ≤ entries) × (eqb above 0 && allAtMost lastMove (movesLeft s entries i) ≡ allAtMost lastMove (movesFrom s movesAt entries))
 
 abbrev μ-loop : tie.MeasureT-loop
 μ-loop s entries above₀ i₀ above i = entries - i
@@ -48,7 +49,9 @@ mul-over : tie.Need-mul-over Inv-loop μ-loop
 mul-over c = omega (arith, c .shared-slice-known3 .given (movesAt + 2 * c .before .before .before .loop .i + 1))
 
 add-over-2 : tie.Need-add-over-2 Inv-loop μ-loop
-add-over-2 c = omega (arith, c .before .shared-slice-known2 .given (movesAt + 2 * c .before .before .before .loop .i), c .shared-slice-known3 .given (movesAt + 2 * c .before .before .before .loop .i + 1))
+add-over-2 c =
+    let at-loop = c .before .before .before .loop in
+    omega (arith, c .before .shared-slice-known2 .given (movesAt + 2 * at-loop .i), c .shared-slice-known3 .given (movesAt + 2 * at-loop .i + 1))
 
 cast-over-3 : tie.Need-cast-over-3 Inv-loop μ-loop
 cast-over-3 c = search needs
@@ -65,17 +68,24 @@ loop-less c = search needs
 loop-again : tie.Need-loop-again Inv-loop μ-loop
 loop-again c =
     let a = c .before .before .before .before .before .before .args in
+    let at-loop = c .before .before .before .before .loop in
+    let at-loop-test = c .before .before .before .loop-test in
     let s = a .s .now in
-    let i = c .before .before .before .before .loop .i in
+    let i = at-loop .i in
     let left = allAtMost lastMove (movesLeft s (a .entries) (i + 1)) in
-    (omega (arith, c .before .before .before .loop-test .taken), ap (λ (x : ℕ). eqb (bitOr (c .before .before .before .before .loop .above) x) 0 && left) (c .over .ensures) ∙ range-turn lastMove s (a .entries) (c .before .before .before .before .loop .above) i (c .before .before .before .loop-test .taken) ∙ c .before .before .before .before .loop .inv .1)
+    (omega (arith, at-loop-test .taken),
+    ap (λ (x : ℕ). eqb (bitOr (at-loop .above) x) 0 && left) (c .over .ensures)
+    ∙ range-turn lastMove s (a .entries) (at-loop .above) i (at-loop-test .taken)
+    ∙ at-loop .inv .1)
 
 returns : tie.Need-returns Inv-loop μ-loop
 returns c =
     let a = c .before .before .before .args in
+    let at-loop = c .before .loop in
     let s = a .s .now in
-    let i = c .before .loop .i in
-    sym (gather-end (c .before .loop .above) (allAtMost lastMove (movesLeft s (a .entries) i)) (range-end lastMove s (a .entries) i (c .loop-test .left))) ∙ c .before .loop .inv .1
+    let i = at-loop .i in
+    sym (gather-end (at-loop .above) (allAtMost lastMove (movesLeft s (a .entries) i)) (range-end lastMove s (a .entries) i (c .loop-test .left)))
+    ∙ at-loop .inv .1
 
 pub moves-in-range-spec : {M : Type 1} → statement M
 moves-in-range-spec =

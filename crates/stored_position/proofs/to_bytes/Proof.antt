@@ -15,19 +15,24 @@ refused-requires c κs = search needs
 returns : tie.Need-returns
 returns c =
     let a = c .before .before .before .before .before .args in
-    let w = way-refused (positionGiven (a .b) (a .in-check) (a .list .now)) (a .out .now) (c .before .before .check .result) (c .before .before .check .ensures) (c .before .if1 .taken) in
+    let at-check = c .before .before .check in
+    let w = way-refused (positionGiven (a .b) (a .in-check) (a .list .now)) (a .out .now) (at-check .result) (at-check .ensures) (c .before .if1 .taken) in
     (c .refused .ensures ∙ w .answer, w .bytes)
 
 returns-2 : tie.Need-returns-2
 returns-2 c =
     let a = c .before .before .before .before .before .args in
-    let w = way-short (positionGiven (a .b) (a .in-check) (a .list .now)) (a .out .now) (c .before .before .check .result) (c .before .before .check .ensures) (c .before .if1 .left) (c .if2 .taken) in
+    let at-check = c .before .before .check in
+    let w = way-short (positionGiven (a .b) (a .in-check) (a .list .now)) (a .out .now) (at-check .result) (at-check .ensures)
+    (c .before .if1 .left) (c .if2 .taken) in
     (w .answer, w .bytes)
 
 write-position-requires : tie.Need-write-position-requires
 write-position-requires c κs =
     let a = c .before .before .before .before .before .before .args in
-    (c .before .if2 .left, position-fits (positionGiven (a .b) (a .in-check) (a .list .now)) (sym (c .before .before .before .check .ensures) ∙ c .before .before .if1 .left) .short)
+    let at-check = c .before .before .before .check in
+    let at-if1 = c .before .before .if1 in
+    (c .before .if2 .left, position-fits (positionGiven (a .b) (a .in-check) (a .list .now)) (sym (at-check .ensures) ∙ at-if1 .left) .short)
 
 accepted-requires : tie.Need-accepted-requires
 accepted-requires c κs = search needs
@@ -38,8 +43,13 @@ same-length c = search needs
 returns-3 : tie.Need-returns-3
 returns-3 c =
     let a = c .before .before .before .before .before .before .before .before .before .before .args in
-    let w = way-written (positionGiven (a .b) (a .in-check) (a .list .now)) (a .out .now) (c .before .before .before .before .before .before .before .check .result) (c .before .before .before .before .before .before .before .check .ensures) (c .before .before .before .before .before .before .if1 .left) (c .before .before .before .before .before .if2 .left) in
-    (c .accepted .ensures ∙ w .answer, c .before .before .before .write-position .ensures ∙ w .bytes)
+    let at-check = c .before .before .before .before .before .before .before .check in
+    let at-if1 = c .before .before .before .before .before .before .if1 in
+    let at-if2 = c .before .before .before .before .before .if2 in
+    let at-write-position = c .before .before .before .write-position in
+    let w = way-written (positionGiven (a .b) (a .in-check) (a .list .now)) (a .out .now) (at-check .result) (at-check .ensures)
+    (at-if1 .left) (at-if2 .left) in
+    (c .accepted .ensures ∙ w .answer, at-write-position .ensures ∙ w .bytes)
 
 pub to-bytes-spec : {M : Type 1} → statement M
 to-bytes-spec =

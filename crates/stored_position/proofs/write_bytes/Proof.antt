@@ -35,19 +35,26 @@ loop-less c = omega arith
 
 loop-again : tie.Need-loop-again Inv-loop μ-loop
 loop-again c =
-    let bytes = c .before .before .before .args .bytes .now in
-    let at = c .before .before .before .args .at in
-    let i = c .before .before .loop .i in (
+    let a = c .before .before .before .args in
+    let at-pre = c .before .before .before .pre in
+    let at-loop = c .before .before .loop in
+    let bytes = a .bytes .now in
+    let at = a .at in
+    let i = at-loop .i in
+    (
       omega arith,
-      simp length-set (c .before .before .loop .inv .1),
-      ap (λ (w : List ℕ). set w (at + i) (getD bytes i 0)) (c .before .before .loop .inv .2) ∙ bytes-turn (c .before .before .before .args .out .now) bytes at i (c .before .before .before .pre) (c .before .loop-test .taken),
+      simp length-set (at-loop .inv .1),
+      ap (λ (w : List ℕ). set w (at + i) (getD bytes i 0)) (at-loop .inv .2) ∙ bytes-turn (a .out .now) bytes at i at-pre (c .before .loop-test .taken),
     )
 
 same-length : tie.Need-same-length Inv-loop μ-loop
 same-length c = c .before .loop .inv .1
 
 returns : tie.Need-returns Inv-loop μ-loop
-returns c = c .before .loop .inv .2 ∙ ap (written (c .before .before .args .out .now) (c .before .before .args .at)) (take-all (c .before .loop .i) (c .before .before .args .bytes .now) (c .loop-test .left))
+returns c =
+    let a = c .before .before .args in
+    let at-loop = c .before .loop in
+    at-loop .inv .2 ∙ ap (written (a .out .now) (a .at)) (take-all (at-loop .i) (a .bytes .now) (c .loop-test .left))
 
 pub write-bytes-spec : {M : Type 1} → statement M
 write-bytes-spec =

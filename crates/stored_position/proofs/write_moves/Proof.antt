@@ -70,7 +70,10 @@ same-length : tie.Need-same-length Inv-loop μ-loop
 same-length c = c .before .loop .inv .1
 
 returns : tie.Need-returns Inv-loop μ-loop
-returns c = c .before .loop .inv .2 ∙ ap (λ (x : List ℕ). written (c .before .before .args .out .now) (c .before .before .args .at) (moveBytes x)) (take-all (c .before .loop .i) (c .before .before .args .list .now) (c .loop-test .left))
+returns c =
+    let a = c .before .before .args in
+    let at-loop = c .before .loop in
+    at-loop .inv .2 ∙ ap (λ (x : List ℕ). written (a .out .now) (a .at) (moveBytes x)) (take-all (at-loop .i) (a .list .now) (c .loop-test .left))
 
 pub write-moves-spec : {M : Type 1} → statement M
 write-moves-spec =

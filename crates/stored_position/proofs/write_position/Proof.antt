@@ -36,7 +36,18 @@ same-length : tie.Need-same-length
 same-length c = search needs
 
 returns : tie.Need-returns
-returns c = let a = c .before .before .before .before .before .before .before .before .before .before .before .before .before .before .before .before .before .before .before .args in let long : length (a .b .pieces) ≡ squares = search length-unmapped in position-written (a .out .now) (numbers (a .b)) (a .in-check) (a .list .now) (length-numbers (a .b) long) (c .before .before .before .before .before .before .before .before .before .before .before .before .before .before .before .before .before .before .before .pre .1) (c .before .before .before .before .before .before .before .before .before .before .before .before .before .before .before .before .before .before .before .pre .0) _ _ _ _ (c .before .before .before .before .before .before .before .before .before .before .before .before .before .before .before .write-record .ensures) (c .before .before .before .before .before .before .before .before .before .before .write-bytes .ensures) (c .before .before .before .before .before .before .write-moves .ensures) (c .before .before .write-zeros .ensures)
+returns c =
+    let a = c .before .before .before .before .before .before .before .before .before .before .before .before .before .before .before .before .before
+    .before .before .args in
+    let long : length (a .b .pieces) ≡ squares = search length-unmapped in
+    let early = c .before .before .before .before .before .before .before .before .before .before .before .before in
+    let at-pre = early .before .before .before .before .before .before .before .pre in
+    let at-write-record = early .before .before .before .write-record in
+    let at-write-bytes = c .before .before .before .before .before .before .before .before .before .before .write-bytes in
+    let at-write-moves = c .before .before .before .before .before .before .write-moves in
+    let at-write-zeros = c .before .before .write-zeros in
+    position-written (a .out .now) (numbers (a .b)) (a .in-check) (a .list .now) (length-numbers (a .b) long) (at-pre .1) (at-pre .0) _ _ _ _
+    (at-write-record .ensures) (at-write-bytes .ensures) (at-write-moves .ensures) (at-write-zeros .ensures)
 
 pub write-position-spec : {M : Type 1} → statement M
 write-position-spec =

@@ -26,10 +26,12 @@ same-length c = search needs
 
 returns : tie.Need-returns
 returns c =
+    let at-write-bytes = c .before .before .before .before .before .before .before .write-bytes in
+    let at-write-bytes2 = c .before .before .write-bytes2 in
     let start = c .before .before .before .before .before .before .before .before .before .before .before .before in
     let a = start .args in
     let long : length (a .b .pieces) ≡ squares = search length-unmapped in
-    record-written (a .b) (a .out .now) _ _ long (start .pre) (c .before .before .before .before .before .before .before .write-bytes .ensures) (c .before .before .write-bytes2 .ensures)
+    record-written (a .b) (a .out .now) _ _ long (start .pre) (at-write-bytes .ensures) (at-write-bytes2 .ensures)
 
 pub write-record-spec : {M : Type 1} → statement M
 write-record-spec =
