@@ -23,8 +23,9 @@ pub numbers-are-the-record : NumbersAreTheRecord
 unfolding numbers
 numbers-are-the-record a b r s e =
     let long : length (a .pieces) ≡ length (b .pieces) = in-range a r .long ∙ sym (in-range b s .long) in
-    let front : a .pieces ≡ b .pieces = sym (take-at (a .pieces) (rest a) (length (b .pieces)) long) ∙ ap (take (length (b .pieces))) e ∙ take-at (b .pieces) (rest b) (length (b .pieces)) refl in
-    let back : rest a ≡ rest b = sym (drop-at (a .pieces) (rest a) (length (b .pieces)) long) ∙ ap (drop (length (b .pieces))) e ∙ drop-at (b .pieces) (rest b) (length (b .pieces)) refl in
+    let n = length (b .pieces) in
+    let front : a .pieces ≡ b .pieces = sym (take-at (a .pieces) (rest a) n long) ∙ ap (take n) e ∙ take-at (b .pieces) (rest b) n refl in
+    let back : rest a ≡ rest b = sym (drop-at (a .pieces) (rest a) n long) ∙ ap (drop n) e ∙ drop-at (b .pieces) (rest b) n refl in
     let side : a .«side_to_move» ≡ b .«side_to_move» = cc in
     let white : a .«white_castle_rights» ≡ b .«white_castle_rights» = cc in
     let black : a .«black_castle_rights» ≡ b .«black_castle_rights» = cc in

@@ -64,9 +64,18 @@ rights-keep b colour rights r h = go (eqb colour 0) refl
 
 pub every-step-keeps-range : EveryStepKeepsRange
 every-step-keeps-range b = record {
-  piece = λ square code. keeps (leb square 63 && (not (eqb code 0) && leb code 12)) (withPiece b square code) b (λ r t. set-keeps b square code r (leb-true _ _ (both-right (not (eqb code 0)) (leb code 12) (both-right (leb square 63) (not (eqb code 0) && leb code 12) t))));
+  piece = λ square code.
+      keeps (leb square 63 && (not (eqb code 0) && leb code 12)) (withPiece b square code) b
+      (λ r t. set-keeps b square code r
+      (leb-true _ _ (both-right (not (eqb code 0)) (leb code 12) (both-right (leb square 63) (not (eqb code 0) && leb code 12) t))));
   clear-square = λ square. keeps (leb square 63) (withPiece b square 0) b (λ r t. set-keeps b square 0 r zero-le);
-  side-to-move = λ colour. keeps (leb colour 1) _ b (λ r t. record { long = r .long; side = leb-true _ _ t; white = r .white; black = r .black; file = r .file; codes = r .codes });
-  castle-rights = λ colour rights. keeps (leb rights 3 && leb colour 1) (withRights b colour rights) b (λ r t. rights-keep b colour rights r (leb-true _ _ (both-left (leb rights 3) (leb colour 1) t)));
-  en-passant = λ file. keeps (leb file 8) _ b (λ r t. record { long = r .long; side = r .side; white = r .white; black = r .black; file = leb-true _ _ t; codes = r .codes });
+  side-to-move = λ colour.
+      keeps (leb colour 1) _ b
+      (λ r t. record { long = r .long; side = leb-true _ _ t; white = r .white; black = r .black; file = r .file; codes = r .codes });
+  castle-rights = λ colour rights.
+      keeps (leb rights 3 && leb colour 1) (withRights b colour rights) b
+      (λ r t. rights-keep b colour rights r (leb-true _ _ (both-left (leb rights 3) (leb colour 1) t)));
+  en-passant = λ file.
+      keeps (leb file 8) _ b
+      (λ r t. record { long = r .long; side = r .side; white = r .white; black = r .black; file = leb-true _ _ t; codes = r .codes });
 }

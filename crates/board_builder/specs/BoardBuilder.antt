@@ -28,7 +28,11 @@ recordSize = 68
 unfoldable pub inRange : BoardBuilder → Bool
 inRange b =
     eqb (length (b .pieces)) squares
-    && (leb (b .«side_to_move») 1 && (leb (b .«white_castle_rights») 3 && (leb (b .«black_castle_rights») 3 && (leb (b .«en_passant») 8 && allAtMost 12 (b .pieces)))))
+    && (leb (b .«side_to_move») 1
+    && (leb (b .«white_castle_rights») 3
+    && (leb (b .«black_castle_rights») 3
+    && (leb (b .«en_passant») 8
+    && allAtMost 12 (b .pieces)))))
 
 -- where the numbers behind the squares stand in that list
 abbrev pub sideAt : ℕ

@@ -1,5 +1,5 @@
--- A text that is put together, and its two parts: the lines of two starts, which rolls have in front, a byte for each number; and the line of the first action that differs
--- between two texts of actions.
+-- A text that is put together, and its two parts: the lines of two starts, which rolls have in front, a byte for each number; and the
+-- line of the first action that differs between two texts of actions.
 -- Assumes nothing.
 use Prim.Native.Nat.{ℕ}
 use mathlib.Core.List.{List}

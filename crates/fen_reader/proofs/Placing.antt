@@ -37,13 +37,15 @@ rank-small rank c h = cond-both (λ (x : ℕ). x < 8) (eqb c 32) {x = (rank + 7)
 -- the placement after a byte of this class
 abbrev pub after : List ℕ → ℕ → ℕ → Bool → ℕ → Placement
 after pieces rank file good c =
-    placement (set pieces (squareOf rank file) (pieceAfter c (getD pieces (squareOf rank file) 0))) (rankAfter rank c) (fileAfter file c) (good && ltb c refused)
+    placement (set pieces (squareOf rank file) (pieceAfter c (getD pieces (squareOf rank file) 0)))
+    (rankAfter rank c) (fileAfter file c) (good && ltb c refused)
 
 is-same : (l k : List ℕ) (r f g : ℕ) (t u : Bool) → l ≡ k → f ≡ g → t ≡ u → placement l r f t ≡ placement k r g u
 is-same l k r f g t u e p q = rw (e, p, q)
 
 -- one byte
-pub next : (pieces : List ℕ) (rank file : ℕ) (good : Bool) (b : ℕ) → file < 8 → placeByte (placement pieces rank file good) b ≡ after pieces rank file good (classOf b)
+pub next : (pieces : List ℕ) (rank file : ℕ) (good : Bool) (b : ℕ) → file < 8
+    → placeByte (placement pieces rank file good) b ≡ after pieces rank file good (classOf b)
 unfolding placeByte
 next pieces rank file good b small = by (kind b)
   where
@@ -79,12 +81,14 @@ low-both a c = go (ltb a refused) refl (ltb c refused) refl
     go false e u f = sym (le-ltb (bitOr a c) refused (omega (arith, ltb-false a refused e, or-add-and a c, and-le-r a c)))
 
 -- the same, as the code has it: the class as it was looked up, what the three functions gave, and the classes so far
-pub stored : (pieces : List ℕ) (rank file a c d x r f : ℕ) → c ≡ d → x ≡ pieceAfter c (getD pieces (squareOf rank file) 0) → r ≡ rankAfter rank c → f ≡ fileAfter file c
+pub stored : (pieces : List ℕ) (rank file a c d x r f : ℕ)
+    → c ≡ d → x ≡ pieceAfter c (getD pieces (squareOf rank file) 0) → r ≡ rankAfter rank c → f ≡ fileAfter file c
     → after pieces rank file (ltb a refused) d ≡ placement (set pieces (squareOf rank file) x) r f (ltb (bitOr a c) refused)
 stored pieces rank file a c d x r f e g h k = rw (g, h, k, ← low-both a c, e)
 
 -- one byte more
-pub turn : (s : List ℕ) (i : ℕ) {p q : Placement} → i < length s → placeAll start (take i s) ≡ p → placeByte p (getD s i 0) ≡ q → placeAll start (take (i + 1) s) ≡ q
+pub turn : (s : List ℕ) (i : ℕ) {p q : Placement} → i < length s → placeAll start (take i s) ≡ p → placeByte p (getD s i 0) ≡ q
+    → placeAll start (take (i + 1) s) ≡ q
 unfolding placeAll
 turn s i {p} {q} h e f =
     rw (add-one i, take-suc s i 0 h) (place-append start (take i s) (getD s i 0 ∷ []) ∙ rw e f)

@@ -48,7 +48,8 @@ pub two-tokens : {s : List ℕ} {a : ℕ} {t : List ℕ} {b : ℕ} → Cut s a t
 unfolding readFen ofTokens
 two-tokens h k = rw (cut h, last k)
 
-pub three-tokens : {s : List ℕ} {a : ℕ} {t : List ℕ} {b : ℕ} {u : List ℕ} {c : ℕ} → Cut s a t → Cut t b u → Last u c → readFen s ≡ refusedAt tooFewTokens (length s)
+pub three-tokens : {s : List ℕ} {a : ℕ} {t : List ℕ} {b : ℕ} {u : List ℕ} {c : ℕ} → Cut s a t → Cut t b u → Last u c
+    → readFen s ≡ refusedAt tooFewTokens (length s)
 unfolding readFen ofTokens
 three-tokens h k l = rw (cut h, cut k, last l)
 

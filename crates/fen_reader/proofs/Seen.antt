@@ -15,7 +15,8 @@ use Rattle.fen_reader.specs.declared.token.Sides.{Sides}
 use Rattle.fen_reader.specs.Class.{sidesOf}
 
 -- a letter seen so far or further on
-pub seen-step : (l k : ℕ) (s : List ℕ) (i x : ℕ) → i < length s → x ≡ cond (eqb (getD s i 0) l) 1 k → cond (among l (drop i s)) 1 k ≡ cond (among l (drop (i + 1) s)) 1 x
+pub seen-step : (l k : ℕ) (s : List ℕ) (i x : ℕ) → i < length s → x ≡ cond (eqb (getD s i 0) l) 1 k
+    → cond (among l (drop i s)) 1 k ≡ cond (among l (drop (i + 1) s)) 1 x
 unfolding among
 seen-step l k s i x h e = rw (add-one i, drop-cons s i 0 h, e) (by (eqb (getD s i 0) l) (among l (drop (suc i) s)))
   where
@@ -33,7 +34,8 @@ pub one-at-most : (a : Bool) (k x : ℕ) → k ≤ 1 → x ≡ cond a 1 k → x 
 one-at-most true k x h e = omega arith
 one-at-most false k x h e = omega arith
 
-pub rights-of : (l m : ℕ) (s : List ℕ) (i k q : ℕ) → length s ≤ i → cond (among l s) 1 0 ≡ cond (among l (drop i s)) 1 k → cond (among m s) 1 0 ≡ cond (among m (drop i s)) 1 q
+pub rights-of : (l m : ℕ) (s : List ℕ) (i k q : ℕ) → length s ≤ i
+    → cond (among l s) 1 0 ≡ cond (among l (drop i s)) 1 k → cond (among m s) 1 0 ≡ cond (among m (drop i s)) 1 q
     → k + 2 * q ≡ rightsOf l m s
 unfolding rightsOf
 rights-of l m s i k q h e f = rw (e ∙ seen-end l k s i h, f ∙ seen-end m q s i h)

@@ -22,7 +22,8 @@ use Rattle.fen_text.specs.Token.{tokens, placeAfter, placeWhere, placeOf
 use Rattle.fen_text.specs.Placement.{Placement, start, down, skip, fill, spoil, placeByte, placeAll, signs, firstBad}
 use Rattle.fen_text.specs.Read.{sideOf, refusedAt, fenOf, sided, assembled, ofTokens, readFen}
 use Rattle.fen_text.specs.Base.{noFen, baseAssembled, baseTokens, baseFen}
-use Rattle.fen_text.specs.Faults.{tokenAt, GoodUpTo, TooFew, BadPlacement, NoSide, BadSide, EveryTextIsToldWhere, Numbers, accepted, few, placement, side, OneIsNotGiven}
+use Rattle.fen_text.specs.Faults.{tokenAt, GoodUpTo, TooFew, BadPlacement, NoSide, BadSide}
+use Rattle.fen_text.specs.Faults.{EveryTextIsToldWhere, Numbers, accepted, few, placement, side, OneIsNotGiven}
 use Rattle.fen_text.proofs.Tokens.{tokens-last, tokens-next}
 
 -- ---- the bytes of a placement are those that do not spoil it

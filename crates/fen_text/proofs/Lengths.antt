@@ -60,7 +60,8 @@ one-rank : (pieces : List ℕ) → length (ranksText 1 pieces) ≡ length (runTe
 unfolding ranksText slashText
 one-rank pieces = length-append (runText 0 (rowOf 0 pieces)) [] ∙ add-zero _
 
-more-ranks : (k : ℕ) (pieces : List ℕ) → length (ranksText (suc (suc k)) pieces) ≡ length (runText 0 (rowOf (suc k) pieces)) + suc (length (ranksText (suc k) pieces))
+more-ranks : (k : ℕ) (pieces : List ℕ)
+    → length (ranksText (suc (suc k)) pieces) ≡ length (runText 0 (rowOf (suc k) pieces)) + suc (length (ranksText (suc k) pieces))
 unfolding ranksText slashText
 more-ranks k pieces = length-append (runText 0 (rowOf (suc k) pieces)) (47 ∷ ranksText (suc k) pieces)
 

@@ -8,7 +8,8 @@ use native.Mathlib.Nat.{le-of-eq, le-of-suc-le-suc, add-sub-cancel-left}
 use native.Mathlib.Omega.{arith}
 use lib.Dec.{eqb, leb, eqb·suc-zero, eqb→eq, leb→le, lit<}
 use borrow.Author.Tests.{le-leb, lt-leb, ne-eqb}
-use lib.ListN.{length, drop, replicate, length-append, length-take, length-drop, length-replicate, replicate-append-replicate, take-append-drop, drop-of-length-le}
+use lib.ListN.{length, drop, replicate}
+use lib.ListN.{length-append, length-take, length-drop, length-replicate, replicate-append-replicate, take-append-drop, drop-of-length-le}
 use lib.Seq.{append-snoc, set-at, drop-drop}
 use Rattle.square.specs.Piece.{pieceOf, letterOf}
 use Rattle.square.proofs.Below.{below}
@@ -132,7 +133,9 @@ row-back k pieces long ok h =
     let eight : length row ≡ 8 = row-length k pieces long h in
     let zeros : List ℕ = replicate (k * 8) 0 in
     let before : length zeros ≡ k * 8 + (0 + 0) = length-replicate {A = ℕ} (k * 8) 0 ∙ omega arith in
-    ap (λ (l : List ℕ). placeAll (at k 0 l) (runText 0 row)) (row-zeros k pieces ∙ ap (λ (n : ℕ). zeros ++ (replicate n 0 ++ drop (k * 8 + 8) pieces)) (sym eight))
+    let empty : above (suc k) pieces ≡ zeros ++ (replicate (length row) 0 ++ drop (k * 8 + 8) pieces) =
+        row-zeros k pieces ∙ ap (λ (n : ℕ). zeros ++ (replicate n 0 ++ drop (k * 8 + 8) pieces)) (sym eight) in
+    ap (λ (l : List ℕ). placeAll (at k 0 l) (runText 0 row)) empty
     ∙ rank-back row k 0 0 zeros (drop (k * 8 + 8) pieces) (row-codes k pieces ok) (omega arith) before
     ∙ ap (λ (l : List ℕ). at k 0 (zeros ++ l)) (row-rest k pieces)
 

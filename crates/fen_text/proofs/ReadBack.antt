@@ -94,7 +94,8 @@ unfolding among enPassantText
 free-en-passant = free-part enPassantText 2 9 tt
 
 -- ---- the tokens
-token-step : (x : ℕ) (xs ys : List ℕ) (t : Bool) → t ≡ false → tokens (xs ++ (32 ∷ ys)) ≡ xs ∷ tokens ys → joined t x (tokens (xs ++ (32 ∷ ys))) ≡ (x ∷ xs) ∷ tokens ys
+token-step : (x : ℕ) (xs ys : List ℕ) (t : Bool) → t ≡ false → tokens (xs ++ (32 ∷ ys)) ≡ xs ∷ tokens ys
+    → joined t x (tokens (xs ++ (32 ∷ ys))) ≡ (x ∷ xs) ∷ tokens ys
 unfolding joined onto
 token-step x xs ys t e f = rw (e, f)
 
@@ -148,7 +149,8 @@ module _ (b : BoardBuilder) (r : InRange b) where
       ∙ ap (λ (ts : List (List ℕ)). side ∷ ts)
       (token rights (ep ++ (32 ∷ end)) (free-rights (b .«white_castle_rights») (b .«black_castle_rights») (lt-suc (r .white)) (lt-suc (r .black)))
       ∙ ap (λ (ts : List (List ℕ)). rights ∷ ts)
-      (token ep end (free-en-passant (b .«side_to_move») (b .«en_passant») (lt-suc (r .side)) (lt-suc (r .file))) ∙ ap (λ (ts : List (List ℕ)). ep ∷ ts) counts)))
+      (token ep end (free-en-passant (b .«side_to_move») (b .«en_passant») (lt-suc (r .side)) (lt-suc (r .file)))
+      ∙ ap (λ (ts : List (List ℕ)). ep ∷ ts) counts)))
 
   back : readFen (fenText b) ≡ fenOf b
   unfolding readFen ofTokens assembled sided

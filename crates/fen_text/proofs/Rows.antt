@@ -13,7 +13,8 @@ use Rattle.fen_text.specs.Write.{digitText, runText, slashText, ranksTex
 use Rattle.fen_text.specs.Rows.{FenRows}
 
 pub fen-rows : FenRows
-unfolding ascii readSquare pieceOf letterOf lettersOf lettersText among onto joined tokens placeAfter placeWhere placeByte placeAll sideOf rightsOf sided assembled ofTokens readFen digitText runText slashText ranksText rightsText enPassantText tailText fenText
+unfolding ascii readSquare pieceOf letterOf lettersOf lettersText among onto joined tokens placeAfter placeWhere placeByte placeAll
+    sideOf rightsOf sided assembled ofTokens readFen digitText runText slashText ranksText rightsText enPassantText tailText fenText
 fen-rows = record {
   empty-placement = (refl, refl);
   three-tokens = refl;

@@ -21,7 +21,10 @@ pub record Writer : Type 0 where
 
 -- the writer of crate fen_writer
 abbrev pub fenWriter : Writer
-fenWriter = record { answer = λ (b : BoardBuilder) (room : ℕ). writeAnswer (fenCheck b) (fenText b) room; room = λ (b : BoardBuilder) (out : List ℕ). writeBytes (fenCheck b) (fenText b) out }
+fenWriter = record {
+  answer = λ (b : BoardBuilder) (room : ℕ). writeAnswer (fenCheck b) (fenText b) room;
+  room = λ (b : BoardBuilder) (out : List ℕ). writeBytes (fenCheck b) (fenText b) out;
+}
 
 -- a record written and read back: accepted, 25 to 85 bytes, and these bytes are read as the record
 pub record BackAgain (w : Writer) (read : List ℕ → Fen) (b : BoardBuilder) (out : List ℕ) : Type 0 where

@@ -49,7 +49,8 @@ letters-turn pieces old new i b h k e f =
     let long : i < length (lettersOf pieces) = omega (arith, letters-long pieces) in
     rw (f, e, ← letters-at pieces i, add-one i) (store (lettersOf pieces) old i long k)
 
-pub letters-end : (pieces old new : List ℕ) (i : ℕ) → length pieces ≤ i → length old ≤ i → new ≡ take i (lettersOf pieces) ++ drop i old → new ≡ lettersOf pieces
+pub letters-end : (pieces old new : List ℕ) (i : ℕ) → length pieces ≤ i → length old ≤ i → new ≡ take i (lettersOf pieces) ++ drop i old
+    → new ≡ lettersOf pieces
 letters-end pieces old new i h k f =
     let long : length (lettersOf pieces) ≤ i = omega (arith, letters-long pieces) in
     f ∙ rw (drop-of-length-le old k, take-all i (lettersOf pieces) long) (append-nil (lettersOf pieces))
@@ -82,7 +83,8 @@ row-run n (suc x ∷ xs) ok =
     ∙ ap (λ (l : List ℕ). digitText n ++ (letterOf (suc x) ∷ l)) (row-run 0 xs (most-tail 12 (suc x) xs ok))
 
 -- a rank of the letters is the rank's letters
-pub rank-run : (from : ℕ) (pieces : List ℕ) → allAtMost 12 pieces ≡ true → rowText 0 (take 8 (drop from (lettersOf pieces))) ≡ runText 0 (take 8 (drop from pieces))
+pub rank-run : (from : ℕ) (pieces : List ℕ) → allAtMost 12 pieces ≡ true
+    → rowText 0 (take 8 (drop from (lettersOf pieces))) ≡ runText 0 (take 8 (drop from pieces))
 rank-run from pieces ok =
     ap (rowText 0) (ap (take 8) (letters-drop from pieces) ∙ letters-take 8 (drop from pieces))
     ∙ row-run 0 (take 8 (drop from pieces)) (most-take 8 12 (drop from pieces) (most-drop from 12 pieces ok))

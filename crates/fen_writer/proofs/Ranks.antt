@@ -46,14 +46,16 @@ rank-as : (pieces letters : List ℕ) (from : ℕ) {old mid : List ℕ} {n m : �
 rank-as pieces letters from e ok p = put-as (ap (λ (l : List ℕ). rowText 0 (take 8 (drop from l))) e ∙ rank-run from pieces ok) p
 
 -- behind a rank there is room for what is left
-pub ranks-room : {pieces old mid : List ℕ} {n m left : ℕ} (letters : List ℕ) → Ranks pieces old n left → 0 < left → letters ≡ lettersOf pieces → allAtMost 12 pieces ≡ true
+pub ranks-room : {pieces old mid : List ℕ} {n m left : ℕ} (letters : List ℕ)
+    → Ranks pieces old n left → 0 < left → letters ≡ lettersOf pieces → allAtMost 12 pieces ≡ true
     → Put 85 old n (rowText 0 (take 8 (drop ((left - 1) * 8) letters))) mid m → m ≤ length (ranksText 8 pieces)
 ranks-room {pieces} {left = left} letters r h e ok p =
     let q = rank-as pieces letters ((left - 1) * 8) e ok p in
     omega (arith, r .count, q .pushed .count, simp length-append at (ap length (next left pieces h)))
 
 -- one rank, and a slash where there are ranks below it
-pub ranks-turn : {pieces old mid new : List ℕ} {n m r left : ℕ} (letters : List ℕ) → Ranks pieces old n left → 0 < left → letters ≡ lettersOf pieces → allAtMost 12 pieces ≡ true
+pub ranks-turn : {pieces old mid new : List ℕ} {n m r left : ℕ} (letters : List ℕ)
+    → Ranks pieces old n left → 0 < left → letters ≡ lettersOf pieces → allAtMost 12 pieces ≡ true
     → Put 85 old n (rowText 0 (take 8 (drop ((left - 1) * 8) letters))) mid m → Put 85 mid m (cond (ltb 0 (left - 1)) (47 ∷ []) []) new r
     → Ranks pieces new r (left - 1)
 ranks-turn {pieces} {old} {new = new} {n} {r = r} {left} letters a h e ok p q =
@@ -62,7 +64,9 @@ ranks-turn {pieces} {old} {new = new} {n} {r = r} {left} letters a h e ok p q =
     let below = ranksText (left - 1) pieces in
     let both : Put 85 old n (row ++ part) new r = put-both (rank-as pieces letters ((left - 1) * 8) e ok p) q in
     record {
-      count = omega (arith, a .count, both .pushed .count, length-append row part, length-append row (part ++ below), length-append part below, ap length (next left pieces h));
+      count =
+          omega (arith, a .count, both .pushed .count, length-append row part, length-append row (part ++ below), length-append part below,
+          ap length (next left pieces h));
       bytes =
           ap (λ (l : List ℕ). l ++ below) (both .pushed .bytes)
           ∙ append-assoc (take n old) (row ++ part) below

@@ -46,7 +46,8 @@ row-over : (n i : ℕ) (row : List ℕ) → length row ≤ i → rowText n (drop
 unfolding rowText
 row-over n i row h = rw (drop-of-length-le row h)
 
-pub row-end : {old row new : List ℕ} {at n run i : ℕ} → Row old at row new n run i → length old ≡ 85 → at ≤ 85 → length row ≤ i → Put 85 old at (rowText 0 row) new n
+pub row-end : {old row new : List ℕ} {at n run i : ℕ} → Row old at row new n run i → length old ≡ 85 → at ≤ 85 → length row ≤ i
+    → Put 85 old at (rowText 0 row) new n
 row-end {old} {row} {new} {at} {n} {run} {i} r e h k =
     let whole : take n new ≡ take at old ++ rowText 0 row = r .bytes ∙ ap (λ (l : List ℕ). r .done ++ l) (sym (row-over run i row k)) ∙ r .rest in
     let count : n ≡ at + length (rowText 0 row) = omega (arith, simp (length-append, length-take) at (ap length whole)) in
@@ -74,7 +75,8 @@ over new done n b v h e =
 row-next : (run i : ℕ) (row : List ℕ) → i < length row → getD row i 0 ≡ 0 → rowText (run + 1) (drop (i + 1) row) ≡ rowText run (drop i row)
 row-next run i row k e = rw (add-one i, drop-cons row i 0 k) (sym (row-empty run (getD row i 0) (drop (suc i) row) e))
 
-row-piece : (run i : ℕ) (row : List ℕ) → i < length row → (getD row i 0 ≡ 0 → ⊥) → digitText run ++ (getD row i 0 ∷ rowText 0 (drop (i + 1) row)) ≡ rowText run (drop i row)
+row-piece : (run i : ℕ) (row : List ℕ) → i < length row → (getD row i 0 ≡ 0 → ⊥)
+    → digitText run ++ (getD row i 0 ∷ rowText 0 (drop (i + 1) row)) ≡ rowText run (drop i row)
 row-piece run i row k e = rw (add-one i, drop-cons row i 0 k) (sym (row-letter run (getD row i 0) (drop (suc i) row) e))
 
 -- a turn at an empty square, with no run open and with one, and a turn at a letter

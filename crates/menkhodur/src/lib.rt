@@ -197,7 +197,9 @@ pub extern "C" fn menkhodur_game_start(
     list: &[u16],
 ) -> Counts
     ensures counts { λ r. ⌜ r ≡ counts (startAnswer limits (now (acts .entry)) (now (ps .entry)) (positionGiven b in_check (now (list .entry)))) 0 0 ⌝ }
-    ensures positions { λ r. ⌜ now (ps .exit) ≡ positionsBegun (startAnswer limits (now (acts .entry)) (now (ps .entry)) (positionGiven b in_check (now (list .entry)))) (now (ps .entry)) (positionGiven b in_check (now (list .entry))) ⌝ }
+    ensures positions { λ r. ⌜ now (ps .exit) ≡ positionsBegun
+        (startAnswer limits (now (acts .entry)) (now (ps .entry)) (positionGiven b in_check (now (list .entry))))
+        (now (ps .entry)) (positionGiven b in_check (now (list .entry))) ⌝ }
 {
     game::start(acts, ps, b, in_check, list)
 }
@@ -213,9 +215,15 @@ pub extern "C" fn menkhodur_game_make_move(
     in_check: u8,
     list: &[u16],
 ) -> Counts
-    ensures counts { λ r. ⌜ r ≡ countsAfter (callAnswer limits (now (acts .entry)) (now (ps .entry)) n m (makeMove x (positionGiven next in_check (now (list .entry))))) n m (makeMove x (positionGiven next in_check (now (list .entry)))) ⌝ }
-    ensures actions { λ r. ⌜ now (acts .exit) ≡ actionsAfter (callAnswer limits (now (acts .entry)) (now (ps .entry)) n m (makeMove x (positionGiven next in_check (now (list .entry))))) (now (acts .entry)) n (makeMove x (positionGiven next in_check (now (list .entry)))) ⌝ }
-    ensures positions { λ r. ⌜ now (ps .exit) ≡ positionsAfter (callAnswer limits (now (acts .entry)) (now (ps .entry)) n m (makeMove x (positionGiven next in_check (now (list .entry))))) (now (ps .entry)) m (makeMove x (positionGiven next in_check (now (list .entry)))) ⌝ }
+    ensures counts { λ r. ⌜ r ≡ countsAfter
+        (callAnswer limits (now (acts .entry)) (now (ps .entry)) n m (makeMove x (positionGiven next in_check (now (list .entry)))))
+        n m (makeMove x (positionGiven next in_check (now (list .entry)))) ⌝ }
+    ensures actions { λ r. ⌜ now (acts .exit) ≡ actionsAfter
+        (callAnswer limits (now (acts .entry)) (now (ps .entry)) n m (makeMove x (positionGiven next in_check (now (list .entry)))))
+        (now (acts .entry)) n (makeMove x (positionGiven next in_check (now (list .entry)))) ⌝ }
+    ensures positions { λ r. ⌜ now (ps .exit) ≡ positionsAfter
+        (callAnswer limits (now (acts .entry)) (now (ps .entry)) n m (makeMove x (positionGiven next in_check (now (list .entry)))))
+        (now (ps .entry)) m (makeMove x (positionGiven next in_check (now (list .entry)))) ⌝ }
 {
     game::make_move(acts, ps, n, m, x, next, in_check, list)
 }
@@ -229,7 +237,9 @@ pub extern "C" fn menkhodur_game_offer_draw(
     colour: u8,
 ) -> Counts
     ensures counts { λ r. ⌜ r ≡ countsAfter (callAnswer limits (now (acts .entry)) (now (ps .entry)) n m (offerDraw colour)) n m (offerDraw colour) ⌝ }
-    ensures actions { λ r. ⌜ now (acts .exit) ≡ actionsAfter (callAnswer limits (now (acts .entry)) (now (ps .entry)) n m (offerDraw colour)) (now (acts .entry)) n (offerDraw colour) ⌝ }
+    ensures actions { λ r. ⌜ now (acts .exit) ≡ actionsAfter
+        (callAnswer limits (now (acts .entry)) (now (ps .entry)) n m (offerDraw colour))
+        (now (acts .entry)) n (offerDraw colour) ⌝ }
 {
     game::offer_draw(acts, ps, n, m, colour)
 }
@@ -243,7 +253,9 @@ pub extern "C" fn menkhodur_game_resign(
     colour: u8,
 ) -> Counts
     ensures counts { λ r. ⌜ r ≡ countsAfter (callAnswer limits (now (acts .entry)) (now (ps .entry)) n m (resign colour)) n m (resign colour) ⌝ }
-    ensures actions { λ r. ⌜ now (acts .exit) ≡ actionsAfter (callAnswer limits (now (acts .entry)) (now (ps .entry)) n m (resign colour)) (now (acts .entry)) n (resign colour) ⌝ }
+    ensures actions { λ r. ⌜ now (acts .exit) ≡ actionsAfter
+        (callAnswer limits (now (acts .entry)) (now (ps .entry)) n m (resign colour))
+        (now (acts .entry)) n (resign colour) ⌝ }
 {
     game::resign(acts, ps, n, m, colour)
 }
@@ -251,7 +263,9 @@ pub extern "C" fn menkhodur_game_resign(
 #[no_mangle]
 pub extern "C" fn menkhodur_game_accept_draw(acts: &mut [u8], ps: &[u8], n: u64, m: u64) -> Counts
     ensures counts { λ r. ⌜ r ≡ countsAfter (callAnswer limits (now (acts .entry)) (now (ps .entry)) n m acceptDraw) n m acceptDraw ⌝ }
-    ensures actions { λ r. ⌜ now (acts .exit) ≡ actionsAfter (callAnswer limits (now (acts .entry)) (now (ps .entry)) n m acceptDraw) (now (acts .entry)) n acceptDraw ⌝ }
+    ensures actions { λ r. ⌜ now (acts .exit) ≡ actionsAfter
+        (callAnswer limits (now (acts .entry)) (now (ps .entry)) n m acceptDraw)
+        (now (acts .entry)) n acceptDraw ⌝ }
 {
     game::accept_draw(acts, ps, n, m)
 }
@@ -259,7 +273,9 @@ pub extern "C" fn menkhodur_game_accept_draw(acts: &mut [u8], ps: &[u8], n: u64,
 #[no_mangle]
 pub extern "C" fn menkhodur_game_declare_draw(acts: &mut [u8], ps: &[u8], n: u64, m: u64) -> Counts
     ensures counts { λ r. ⌜ r ≡ countsAfter (callAnswer limits (now (acts .entry)) (now (ps .entry)) n m declareDraw) n m declareDraw ⌝ }
-    ensures actions { λ r. ⌜ now (acts .exit) ≡ actionsAfter (callAnswer limits (now (acts .entry)) (now (ps .entry)) n m declareDraw) (now (acts .entry)) n declareDraw ⌝ }
+    ensures actions { λ r. ⌜ now (acts .exit) ≡ actionsAfter
+        (callAnswer limits (now (acts .entry)) (now (ps .entry)) n m declareDraw)
+        (now (acts .entry)) n declareDraw ⌝ }
 {
     game::declare_draw(acts, ps, n, m)
 }

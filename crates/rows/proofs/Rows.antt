@@ -8,10 +8,12 @@ use Rattle.square.specs.Piece.{kindOf, pieceOf, letterOf}
 use Rattle.board_builder.specs.BoardBuilder.{inRange}
 use Rattle.move_list.specs.MoveList.{listInRange, count, firstOf}
 use Rattle.san_text.specs.Place.{placeFrom, squareAt}
-use Rattle.san_text.specs.Text.{promotionKind, pieceKind, isCheck, after, pieceOr, readTakes, readRank, readFile, readPiece, readEnd, readPromotion, readDest, readText}
+use Rattle.san_text.specs.Text.{promotionKind, pieceKind, isCheck, after, pieceOr, readTakes, readRank, readFile}
+use Rattle.san_text.specs.Text.{readPiece, readEnd, readPromotion, readDest, readText}
 use Rattle.san_text.specs.Resolve.{agrees, fits, captureTest, soleThat, castlingMove, castle}
 use Rattle.san_text.specs.Form.{castled, resolved, readAnswer}
-use Rattle.san_text.specs.Name.{optional, promotionLetter, pieceLetter, changesFiles, takesOf, headOf, candidates, names, castlingName, firstName, kingFirst, nameOf, nameText, nameCheck}
+use Rattle.san_text.specs.Name.{optional, promotionLetter, pieceLetter, changesFiles, takesOf, headOf, candidates, names}
+use Rattle.san_text.specs.Name.{castlingName, firstName, kingFirst, nameOf, nameText, nameCheck}
 use Rattle.san_text.specs.Paper.{markOf, endOf, sanText}
 use Rattle.square.specs.Square.{readSquare, told}
 use Rattle.castle_rights.specs.CastleRights.{lettersOf, lettersText}
@@ -23,7 +25,14 @@ use Rattle.fen_text.specs.Write.{digitText, runText, slashText, ranksText, righ
 use Rattle.rows.specs.Rows.{SixteenRows}
 
 pub sixteen-rows : SixteenRows
-unfolding writeAnswer writeBytes ascii allAtMost kindOf inRange listInRange among count firstOf placeFrom squareAt same promotionKind pieceKind isCheck after pieceOr readTakes readRank readFile readPiece readEnd readPromotion readDest readText agrees fits captureTest soleThat castlingMove castle castled resolved readAnswer optional promotionLetter pieceLetter changesFiles takesOf headOf candidates names castlingName firstName kingFirst nameOf nameText nameCheck markOf endOf sanText readSquare pieceOf letterOf lettersOf lettersText onto joined tokens placeAfter placeWhere placeByte placeAll sideOf rightsOf sided assembled ofTokens readFen digitText runText slashText ranksText rightsText enPassantText tailText fenText told promotionNamed withDest withSource readMove
+unfolding writeAnswer writeBytes ascii allAtMost kindOf inRange listInRange among count firstOf placeFrom squareAt same
+    promotionKind pieceKind isCheck after pieceOr readTakes readRank readFile readPiece readEnd readPromotion readDest readText
+    agrees fits captureTest soleThat castlingMove castle castled resolved readAnswer
+    optional promotionLetter pieceLetter changesFiles takesOf headOf candidates names castlingName firstName kingFirst nameOf nameText nameCheck
+    markOf endOf sanText readSquare pieceOf letterOf lettersOf lettersText
+    onto joined tokens placeAfter placeWhere placeByte placeAll sideOf rightsOf sided assembled ofTokens readFen
+    digitText runText slashText ranksText rightsText enPassantText tailText fenText
+    told promotionNamed withDest withSource readMove
 sixteen-rows = record {
   row1 = (refl, refl);
   row2 = refl;

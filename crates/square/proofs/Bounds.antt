@@ -86,4 +86,8 @@ bound-overlap n s i j m h k e = go (allAtMost n (drop j s)) refl
         sym (whole ∙ ap (allAtMost n) (sym g) ∙ most-drop (i + m - j) n (drop j s) f)
     go false f =
         let g : i + (j - i) ≡ j = omega arith in
-        sym (bound-parts n s i (j - i) ∙ ap (λ (x : ℕ). allAtMost n (take (j - i) (drop i s)) && allAtMost n (drop x s)) g ∙ ap (λ (t : Bool). allAtMost n (take (j - i) (drop i s)) && t) f ∙ and-false (allAtMost n (take (j - i) (drop i s))))
+        let front = allAtMost n (take (j - i) (drop i s)) in
+        sym (bound-parts n s i (j - i)
+        ∙ ap (λ (x : ℕ). front && allAtMost n (drop x s)) g
+        ∙ ap (λ (t : Bool). front && t) f
+        ∙ and-false front)

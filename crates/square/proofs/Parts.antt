@@ -5,7 +5,8 @@ use mathlib.Core.List.{List, [], _∷_, _++_, append-nil, append-assoc}
 use Prim.Native.Nat.{ℕ, suc, _+_, _*_, _-_, _≤_, _<_}
 use native.Mathlib.Numerals.{add-one}
 use native.Mathlib.Omega.{arith}
-use lib.ListN.{length, set, take, drop, getD, replicate, length-append, length-take, length-drop, length-replicate, take-append-drop, replicate-append-replicate, drop-of-length-le}
+use lib.ListN.{length, set, take, drop, getD, replicate}
+use lib.ListN.{length-append, length-take, length-drop, length-replicate, take-append-drop, replicate-append-replicate, drop-of-length-le}
 use lib.Seq.{take-all, set-split, append-snoc, take-at, drop-at, drop-drop, take-suc, length-take-le}
 use Rattle.square.specs.Parts.{item, written}
 

@@ -38,7 +38,8 @@ put-none e = record { pushed = push-none; long = e }
 pub put-one : {size : ℕ} (old : List ℕ) (n b : ℕ) → length old ≡ size → n < size → Put size old n (b ∷ []) (set old n b) (n + 1)
 put-one {size} old n b e h = record { pushed = push-one old n b (omega arith); long = length-set old n b ∙ e }
 
-pub put-both : {size : ℕ} {old new newer : List ℕ} {n r s : ℕ} {p q : List ℕ} → Put size old n p new r → Put size new r q newer s → Put size old n (p ++ q) newer s
+pub put-both : {size : ℕ} {old new newer : List ℕ} {n r s : ℕ} {p q : List ℕ}
+    → Put size old n p new r → Put size new r q newer s → Put size old n (p ++ q) newer s
 put-both a b = record { pushed = push-both (a .pushed) (b .pushed); long = b .long }
 
 -- the same text in other words

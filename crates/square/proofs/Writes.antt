@@ -32,7 +32,8 @@ unfolding writeAnswer writeBytes
 write-fits text out h = record { answer = simp (le-leb _ _ h); bytes = simp (le-leb _ _ h) }
 
 -- a turn's store takes the copy of i bytes to the copy of one more
-pub store : (src dst : List ℕ) (i : ℕ) → i < length src → i < length dst → set (take i src ++ drop i dst) i (getD src i 0) ≡ take (suc i) src ++ drop (suc i) dst
+pub store : (src dst : List ℕ) (i : ℕ) → i < length src → i < length dst
+    → set (take i src ++ drop i dst) i (getD src i 0) ≡ take (suc i) src ++ drop (suc i) dst
 store [] dst i h k = absurd (not-suc-le-zero h)
 store (x ∷ xs) [] i h k = absurd (not-suc-le-zero k)
 store (x ∷ xs) (y ∷ ys) zero h k = refl

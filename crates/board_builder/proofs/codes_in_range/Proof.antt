@@ -33,16 +33,23 @@ loop-less c = search needs
 loop-again : tie.Need-loop-again Inv-loop μ-loop
 loop-again c =
     let pieces = c .before .before .before .before .before .args .t1 in
-    let r = c .before .before .before .before .loop .rank in
+    let at = c .before .before .before .before .loop in
+    let r = at .rank in
+    let most = at .most in
     let next : r * 8 + 8 ≡ (r + 1) * 8 = omega arith in
-    (omega arith, ap (λ (m : ℕ). max m (largest (drop ((r + 1) * 8) pieces))) (c .larger .ensures ∙ ap (max (c .before .before .before .before .loop .most)) (c .before .largest-of-rank .ensures)) ∙ ap (λ (k : ℕ). max (max (c .before .before .before .before .loop .most) (largest (take 8 (drop (r * 8) pieces)))) (largest (drop k pieces))) (sym next) ∙ sym (largest-part pieces (c .before .before .before .before .loop .most) (r * 8) 8) ∙ c .before .before .before .before .loop .inv .1)
+    (omega arith,
+    ap (λ (m : ℕ). max m (largest (drop ((r + 1) * 8) pieces))) (c .larger .ensures ∙ ap (max most) (c .before .largest-of-rank .ensures))
+    ∙ ap (λ (k : ℕ). max (max most (largest (take 8 (drop (r * 8) pieces)))) (largest (drop k pieces))) (sym next)
+    ∙ sym (largest-part pieces most (r * 8) 8)
+    ∙ at .inv .1)
 
 returns : tie.Need-returns Inv-loop μ-loop
 returns c =
     let pieces = c .before .before .args .t1 in
     let long : length pieces ≡ 64 = search needs in
     let h : length pieces ≤ c .before .loop .rank * 8 = omega arith in
-    ap (λ (m : ℕ). leb m 12) (sym (largest-end pieces (c .before .loop .most) (c .before .loop .rank * 8) h) ∙ c .before .loop .inv .1) ∙ largest-at-most 12 pieces
+    ap (λ (m : ℕ). leb m 12) (sym (largest-end pieces (c .before .loop .most) (c .before .loop .rank * 8) h) ∙ c .before .loop .inv .1)
+    ∙ largest-at-most 12 pieces
 
 pub codes-in-range-spec : {M : Type 1} → statement M
 codes-in-range-spec =

@@ -42,12 +42,17 @@ loop-again c =
     let pieces = c .before .before .before .before .args .pieces .now in
     let from = c .before .before .before .before .args .rank * 8 in
     let row : List ℕ = take 8 (drop from pieces) in
-    let long : length row ≡ 8 = simp (length-take, length-drop) (omega (arith, c .before .before .before .before .pre .0, c .before .before .before .before .pre .1)) in
-    let i = c .before .before .before .loop .i in
+    let pre = c .before .before .before .before .pre in
+    let long : length row ≡ 8 = simp (length-take, length-drop) (omega (arith, pre .0, pre .1)) in
+    let at = c .before .before .before .loop in
+    let i = at .i in
     let h : i < length row = omega arith in
     let small : i < 8 = omega arith in
     let here : getD row i 0 ≡ getD pieces (from + i) 0 = rw (getD-take, getD-drop) in
-    (omega arith, ap (λ (m : ℕ). max m (largest (drop (i + 1) row))) (c .larger .ensures ∙ ap (max (c .before .before .before .loop .most)) (sym here)) ∙ sym (largest-turn row (c .before .before .before .loop .most) i h) ∙ c .before .before .before .loop .inv .1)
+    (omega arith,
+    ap (λ (m : ℕ). max m (largest (drop (i + 1) row))) (c .larger .ensures ∙ ap (max (at .most)) (sym here))
+    ∙ sym (largest-turn row (at .most) i h)
+    ∙ at .inv .1)
 
 returns : tie.Need-returns Inv-loop μ-loop
 returns c =

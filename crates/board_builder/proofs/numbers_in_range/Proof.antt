@@ -45,7 +45,9 @@ returns-4 c =
     let n = a .numbers .now in
     let w : length n ≡ 68 = c .before .before .before .before .before .before .if1 .left in
     let ws : length (take 64 n) ≡ 64 = simp length-take (omega arith) in
-    simp (eq-eqb _ _ w, eq-eqb _ _ ws, le-leb _ _ (c .before .before .before .before .if2 .left), le-leb _ _ (c .before .before .if3 .left), lt-leb _ _ (c .if4 .taken))
+    let side = c .before .before .before .before .if2 .left in
+    let white = c .before .before .if3 .left in
+    simp (eq-eqb _ _ w, eq-eqb _ _ ws, le-leb _ _ side, le-leb _ _ white, lt-leb _ _ (c .if4 .taken))
 
 shared-slice-read-if5 : tie.Need-shared-slice-read-if5
 shared-slice-read-if5 c = search needs
@@ -57,7 +59,10 @@ returns-5 c =
     let n = a .numbers .now in
     let w : length n ≡ 68 = c .before .before .before .before .before .before .before .before .if1 .left in
     let ws : length (take 64 n) ≡ 64 = simp length-take (omega arith) in
-    simp (eq-eqb _ _ w, eq-eqb _ _ ws, le-leb _ _ (c .before .before .before .before .before .before .if2 .left), le-leb _ _ (c .before .before .before .before .if3 .left), le-leb _ _ (c .before .before .if4 .left), lt-leb _ _ (c .if5 .taken))
+    let side = c .before .before .before .before .before .before .if2 .left in
+    let white = c .before .before .before .before .if3 .left in
+    let black = c .before .before .if4 .left in
+    simp (eq-eqb _ _ w, eq-eqb _ _ ws, le-leb _ _ side, le-leb _ _ white, le-leb _ _ black, lt-leb _ _ (c .if5 .taken))
 
 slice-aggregate-all-at-most : tie.Need-slice-aggregate-all-at-most
 slice-aggregate-all-at-most c = simp length-take (omega arith)
@@ -72,7 +77,12 @@ returns-6 c =
     let n = a .numbers .now in
     let w : length n ≡ 68 = c .before .before .before .before .before .before .before .before .before .before .if1 .left in
     let ws : length (take 64 n) ≡ 64 = simp length-take (omega arith) in
-    c .all-at-most .ensures ∙ sym (simp (eq-eqb _ _ w, eq-eqb _ _ ws, le-leb _ _ (c .before .before .before .before .before .before .before .before .if2 .left), le-leb _ _ (c .before .before .before .before .before .before .if3 .left), le-leb _ _ (c .before .before .before .before .if4 .left), le-leb _ _ (c .before .before .if5 .left)))
+    let side = c .before .before .before .before .before .before .before .before .if2 .left in
+    let white = c .before .before .before .before .before .before .if3 .left in
+    let black = c .before .before .before .before .if4 .left in
+    let file = c .before .before .if5 .left in
+    c .all-at-most .ensures
+    ∙ sym (simp (eq-eqb _ _ w, eq-eqb _ _ ws, le-leb _ _ side, le-leb _ _ white, le-leb _ _ black, le-leb _ _ file))
 
 pub numbers-in-range-spec : {M : Type 1} → statement M
 numbers-in-range-spec =

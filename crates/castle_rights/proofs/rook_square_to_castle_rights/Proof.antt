@@ -26,7 +26,9 @@ returns-3 : tie.Need-returns-3
 returns-3 c = c .accepted2 .ensures ∙ simp (lt-ltb _ _ (c .before .before .if1 .left), c .before .match .keys2)
 
 returns-4 : tie.Need-returns-4
-returns-4 c = c .refused2 .ensures ∙ simp (lt-ltb _ _ (c .before .before .if1 .left), ne-eqb _ _ (c .before .match .rest .0 .1), ne-eqb _ _ (c .before .match .rest .1))
+returns-4 c =
+    let rest = c .before .match .rest in
+    c .refused2 .ensures ∙ simp (lt-ltb _ _ (c .before .before .if1 .left), ne-eqb _ _ (rest .0 .1), ne-eqb _ _ (rest .1))
 
 pub rook-square-to-castle-rights-spec : {M : Type 1} → statement M
 rook-square-to-castle-rights-spec =

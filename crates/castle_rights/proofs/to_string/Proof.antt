@@ -33,9 +33,12 @@ same-length c = search needs
 
 returns-3 : tie.Need-returns-3
 unfolding lettersText
-returns-3 c = let a = c .before .before .before .before .before .before .before .before .args in
+returns-3 c =
+    let a = c .before .before .before .before .before .before .before .before .args in
+    let rights = c .before .before .before .before .before .before .if1 .left in
+    let color = c .before .before .before .before .before .if2 .left in
     let h : lettersText (a .rights) (a .color) ≡ lettersOf 75 81 (a .rights) = simp (eq-eqb _ _ (c .before .before .before .before .if3 .taken)) in
-    let k : lettersCheck (a .rights) (a .color) ≡ 0 = simp (lt-ltb _ _ (c .before .before .before .before .before .before .if1 .left), lt-ltb _ _ (c .before .before .before .before .before .if2 .left)) in
+    let k : lettersCheck (a .rights) (a .color) ≡ 0 = simp (lt-ltb _ _ rights, lt-ltb _ _ color) in
     rw (h, k) (c .before .before .write-letters .ensures .0, c .before .before .write-letters .ensures .1)
 
 write-letters-requires-2 : tie.Need-write-letters-requires-2
@@ -46,9 +49,12 @@ same-length-2 c = search needs
 
 returns-4 : tie.Need-returns-4
 unfolding lettersText
-returns-4 c = let a = c .before .before .before .before .before .before .before .before .args in
+returns-4 c =
+    let a = c .before .before .before .before .before .before .before .before .args in
+    let rights = c .before .before .before .before .before .before .if1 .left in
+    let color = c .before .before .before .before .before .if2 .left in
     let h : lettersText (a .rights) (a .color) ≡ lettersOf 107 113 (a .rights) = simp (ne-eqb _ _ (c .before .before .before .before .if3 .left)) in
-    let k : lettersCheck (a .rights) (a .color) ≡ 0 = simp (lt-ltb _ _ (c .before .before .before .before .before .before .if1 .left), lt-ltb _ _ (c .before .before .before .before .before .if2 .left)) in
+    let k : lettersCheck (a .rights) (a .color) ≡ 0 = simp (lt-ltb _ _ rights, lt-ltb _ _ color) in
     rw (h, k) (c .before .before .write-letters2 .ensures .0, c .before .before .write-letters2 .ensures .1)
 
 pub to-string-spec : {M : Type 1} → statement M

@@ -47,8 +47,10 @@ same-length c = search needs
 
 returns : tie.Need-returns
 unfolding lettersOf
-returns c = let a = c .before .before .before .before .before .before .before .args in
-    let h : lettersOf (a .king) (a .queen) (a .rights) ≡ (a .king ∷ []) = ap (lettersOf (a .king) (a .queen)) (c .before .before .before .before .before .match .keys1) in
+returns c =
+    let a = c .before .before .before .before .before .before .before .args in
+    let rights = c .before .before .before .before .before .match .keys1 in
+    let h : lettersOf (a .king) (a .queen) (a .rights) ≡ (a .king ∷ []) = ap (lettersOf (a .king) (a .queen)) rights in
     rw h (c .before .before .write-text .ensures .0, c .before .before .write-text .ensures .1)
 
 same-length-2 : tie.Need-same-length-2
@@ -56,8 +58,10 @@ same-length-2 c = search needs
 
 returns-2 : tie.Need-returns-2
 unfolding lettersOf
-returns-2 c = let a = c .before .before .before .before .before .before .before .before .args in
-    let h : lettersOf (a .king) (a .queen) (a .rights) ≡ (a .queen ∷ []) = ap (lettersOf (a .king) (a .queen)) (c .before .before .before .before .before .before .match .keys2) in
+returns-2 c =
+    let a = c .before .before .before .before .before .before .before .before .args in
+    let rights = c .before .before .before .before .before .before .match .keys2 in
+    let h : lettersOf (a .king) (a .queen) (a .rights) ≡ (a .queen ∷ []) = ap (lettersOf (a .king) (a .queen)) rights in
     rw h (c .before .before .write-text2 .ensures .0, c .before .before .write-text2 .ensures .1)
 
 same-length-3 : tie.Need-same-length-3
@@ -65,8 +69,10 @@ same-length-3 c = search needs
 
 returns-3 : tie.Need-returns-3
 unfolding lettersOf
-returns-3 c = let a = c .before .before .before .before .before .before .before .args in
-    let h : lettersOf (a .king) (a .queen) (a .rights) ≡ (a .king ∷ a .queen ∷ []) = ap (lettersOf (a .king) (a .queen)) (c .before .before .before .before .before .match .keys3) in
+returns-3 c =
+    let a = c .before .before .before .before .before .before .before .args in
+    let rights = c .before .before .before .before .before .match .keys3 in
+    let h : lettersOf (a .king) (a .queen) (a .rights) ≡ (a .king ∷ a .queen ∷ []) = ap (lettersOf (a .king) (a .queen)) rights in
     rw h (c .before .before .write-text3 .ensures .0, c .before .before .write-text3 .ensures .1)
 
 same-length-4 : tie.Need-same-length-4
@@ -74,7 +80,8 @@ same-length-4 c = search needs
 
 returns-4 : tie.Need-returns-4
 unfolding lettersOf
-returns-4 c = let a = c .before .before .before .before .before .before .before .args in
+returns-4 c =
+    let a = c .before .before .before .before .before .before .before .args in
     let none : a .rights ≡ 0 = omega (arith, c .before .before .before .before .before .match .rest) in
     let h : lettersOf (a .king) (a .queen) (a .rights) ≡ [] = ap (lettersOf (a .king) (a .queen)) (none) in
     rw h (c .before .before .write-text4 .ensures .0, c .before .before .write-text4 .ensures .1)

@@ -20,7 +20,8 @@ refused-requires c κs = search needs
 returns : tie.Need-returns
 returns c =
     let a = c .before .before .before .before .args in
-    let bad : inRange (a .board) ≡ false = sym (c .before .before .in-range .ensures) ∙ not-true (c .before .before .in-range .result) (c .before .if1 .taken) in
+    let test = c .before .before .in-range in
+    let bad : inRange (a .board) ≡ false = sym (test .ensures) ∙ not-true (test .result) (c .before .if1 .taken) in
     let k : fenCheck (a .board) ≡ 5 = simp bad in
     let w = write-refused 5 (fenText (a .board)) (a .out .now) (λ e. omega arith) in
     rw k (c .refused .ensures ∙ w .answer, w .bytes)
@@ -43,7 +44,9 @@ same-length c = search needs
 returns-2 : tie.Need-returns-2
 returns-2 c =
     let a = c .before .before .before .before .before .before .before .before .before .before .args in
-    let good : inRange (a .board) ≡ true = sym (c .before .before .before .before .before .before .before .before .in-range .ensures) ∙ not-false (c .before .before .before .before .before .before .before .before .in-range .result) (c .before .before .before .before .before .before .before .if1 .left) in
+    let test = c .before .before .before .before .before .before .before .before .in-range in
+    let passed = c .before .before .before .before .before .before .before .if1 .left in
+    let good : inRange (a .board) ≡ true = sym (test .ensures) ∙ not-false (test .result) passed in
     let k : fenCheck (a .board) ≡ 0 = simp good in
     let text = push-whole (c .before .before .before .before .before .fen-text .ensures .pushed) .1 in
     rw (k, ← text) (c .before .before .write-text .ensures .0, c .before .before .write-text .ensures .1)

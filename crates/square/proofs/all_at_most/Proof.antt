@@ -37,9 +37,13 @@ loop-again : tie.Need-loop-again Inv-loop μ-loop
 loop-again c =
     let a = c .before .before .before .before .before .args in
     let s = a .s .now in
-    let i = c .before .before .before .loop .i in
+    let at = c .before .before .before .loop in
+    let i = at .i in
     let left = allAtMost (a .most) (drop (i + 1) s) in
-    (omega arith, ap (λ (x : ℕ). eqb (bitOr (c .before .before .before .loop .above) x) 0 && left) (c .over .ensures) ∙ gather-turn (a .most) s (c .before .before .before .loop .above) i (c .before .before .loop-test .taken) ∙ c .before .before .before .loop .inv .1)
+    (omega arith,
+    ap (λ (x : ℕ). eqb (bitOr (at .above) x) 0 && left) (c .over .ensures)
+    ∙ gather-turn (a .most) s (at .above) i (c .before .before .loop-test .taken)
+    ∙ at .inv .1)
 
 returns : tie.Need-returns Inv-loop μ-loop
 returns c =

@@ -11,13 +11,19 @@ add-t10 : tie.Need-add-t10
 add-t10 c = search needs
 
 returns : tie.Need-returns
-returns c = simp (le-leb _ _ (c .before .before .before .if1 .left), le-leb _ 104 (le-of-suc-le-suc (c .before .before .if2 .taken)), le-leb _ _ (c .before .if3 .left), le-leb _ 56 (le-of-suc-le-suc (c .if4 .taken)))
+returns c =
+    let from-a = c .before .before .before .if1 .left in
+    let to-h = le-of-suc-le-suc (c .before .before .if2 .taken) in
+    simp (le-leb _ _ from-a, le-leb _ 104 to-h, le-leb _ _ (c .before .if3 .left), le-leb _ 56 (le-of-suc-le-suc (c .if4 .taken)))
 
 returns-2 : tie.Need-returns-2
 returns-2 c = simp (le-leb _ _ (c .before .before .if1 .left), le-leb _ 104 (le-of-suc-le-suc (c .before .if2 .taken)), lt-leb 49 _ (c .if3 .taken))
 
 returns-3 : tie.Need-returns-3
-returns-3 c = simp (le-leb _ _ (c .before .before .before .if1 .left), le-leb _ 104 (le-of-suc-le-suc (c .before .before .if2 .taken)), le-leb _ _ (c .before .if3 .left), lt-leb _ 56 (c .if4 .left))
+returns-3 c =
+    let from-a = c .before .before .before .if1 .left in
+    let to-h = le-of-suc-le-suc (c .before .before .if2 .taken) in
+    simp (le-leb _ _ from-a, le-leb _ 104 to-h, le-leb _ _ (c .before .if3 .left), lt-leb _ 56 (c .if4 .left))
 
 returns-4 : tie.Need-returns-4
 returns-4 c = simp (lt-leb 97 _ (c .if1 .taken))

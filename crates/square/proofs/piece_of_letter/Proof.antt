@@ -56,7 +56,30 @@ returns-12 c = sym (ap pieceOf (c .match .keys12))
 
 returns-13 : tie.Need-returns-13
 unfolding pieceOf
-returns-13 c = simp (ne-eqb _ _ (c .match .rest .0 .0 .0 .0 .0 .0 .0 .0 .0 .0 .0 .1), ne-eqb _ _ (c .match .rest .0 .0 .0 .0 .0 .0 .0 .0 .0 .0 .1), ne-eqb _ _ (c .match .rest .0 .0 .0 .0 .0 .0 .0 .0 .0 .1), ne-eqb _ _ (c .match .rest .0 .0 .0 .0 .0 .0 .0 .0 .1), ne-eqb _ _ (c .match .rest .0 .0 .0 .0 .0 .0 .0 .1), ne-eqb _ _ (c .match .rest .0 .0 .0 .0 .0 .0 .1), ne-eqb _ _ (c .match .rest .0 .0 .0 .0 .0 .1), ne-eqb _ _ (c .match .rest .0 .0 .0 .0 .1), ne-eqb _ _ (c .match .rest .0 .0 .0 .1), ne-eqb _ _ (c .match .rest .0 .0 .1), ne-eqb _ _ (c .match .rest .0 .1), ne-eqb _ _ (c .match .rest .1))
+returns-13 c =
+    let last = c .match .rest in
+    let first = last .0 .0 .0 .0 .0 .0 in
+    simp (
+      ne-eqb _ _ (first .0 .0 .0 .0 .0 .1), ne-eqb _ _ (first .0 .0 .0 .0 .1), ne-eqb _ _ (first .0 .0 .0 .1),
+      ne-eqb _ _ (first .0 .0 .1), ne-eqb _ _ (first .0 .1), ne-eqb _ _ (first .1),
+      ne-eqb _ _ (last .0 .0 .0 .0 .0 .1), ne-eqb _ _ (last .0 .0 .0 .0 .1), ne-eqb _ _ (last .0 .0 .0 .1),
+      ne-eqb _ _ (last .0 .0 .1), ne-eqb _ _ (last .0 .1), ne-eqb _ _ (last .1),
+    )
 
 pub piece-of-letter-spec : {M : Type 1} → statement M
-piece-of-letter-spec = tie.close (tie.spec returns returns-2 returns-3 returns-4 returns-5 returns-6 returns-7 returns-8 returns-9 returns-10 returns-11 returns-12 returns-13)
+piece-of-letter-spec =
+    tie.close
+    (tie.spec
+    returns
+    returns-2
+    returns-3
+    returns-4
+    returns-5
+    returns-6
+    returns-7
+    returns-8
+    returns-9
+    returns-10
+    returns-11
+    returns-12
+    returns-13)

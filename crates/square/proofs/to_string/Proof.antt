@@ -32,7 +32,11 @@ same-length : tie.Need-same-length
 same-length c = search needs
 
 returns-2 : tie.Need-returns-2
-returns-2 c = let h : squareCheck (c .before .before .before .before .before .before .before .args .square) ≡ 0 = simp (lt-ltb _ _ (c .before .before .before .before .before .if1 .left)) in rw h (c .before .before .write-text .ensures .0, c .before .before .write-text .ensures .1)
+returns-2 c =
+    let a = c .before .before .before .before .before .before .before .args in
+    let written = c .before .before .write-text .ensures in
+    let h : squareCheck (a .square) ≡ 0 = simp (lt-ltb _ _ (c .before .before .before .before .before .if1 .left)) in
+    rw h (written .0, written .1)
 
 pub to-string-spec : {M : Type 1} → statement M
 to-string-spec =

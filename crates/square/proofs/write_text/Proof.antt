@@ -21,7 +21,10 @@ abbrev μ-loop : tie.MeasureT-loop
 μ-loop text out₀ needed i₀ out i = needed - i
 
 returns : tie.Need-returns Inv-loop μ-loop
-returns c = let w = write-short (c .before .before .before .args .text .now) (c .before .before .before .args .out .now) (c .if1 .taken) in (w .answer, w .bytes)
+returns c =
+    let a = c .before .before .before .args in
+    let w = write-short (a .text .now) (a .out .now) (c .if1 .taken) in
+    (w .answer, w .bytes)
 
 loop-holds : tie.Need-loop-holds Inv-loop μ-loop
 loop-holds c = (zero-le, refl, refl)

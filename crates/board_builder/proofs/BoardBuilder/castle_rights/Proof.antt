@@ -16,7 +16,9 @@ stepped-requires c κs = search needs
 
 returns : tie.Need-returns
 returns c =
-    let bad : inRange (c .before .before .before .args .self) ≡ false = sym (c .before .before .in-range .ensures) ∙ not-true (c .before .before .in-range .result) (c .before .if1 .taken) in
+    let a = c .before .before .before .args in
+    let test = c .before .before .in-range in
+    let bad : inRange (a .self) ≡ false = sym (test .ensures) ∙ not-true (test .result) (c .before .if1 .taken) in
     c .stepped .ensures ∙ step-record _ _ _ bad
 
 stepped-requires-2 : tie.Need-stepped-requires-2
@@ -24,7 +26,9 @@ stepped-requires-2 c κs = search needs
 
 returns-2 : tie.Need-returns-2
 returns-2 c =
-    let good : inRange (c .before .before .before .before .args .self) ≡ true = sym (c .before .before .before .in-range .ensures) ∙ not-false (c .before .before .before .in-range .result) (c .before .before .if1 .left) in
+    let a = c .before .before .before .before .args in
+    let test = c .before .before .before .in-range in
+    let good : inRange (a .self) ≡ true = sym (test .ensures) ∙ not-false (test .result) (c .before .before .if1 .left) in
     c .stepped2 .ensures ∙ step-refused _ _ _ good (simp (lt-leb _ _ (c .before .if2 .taken)))
 
 stepped-requires-3 : tie.Need-stepped-requires-3
@@ -32,7 +36,9 @@ stepped-requires-3 c κs = search needs
 
 returns-3 : tie.Need-returns-3
 returns-3 c =
-    let good : inRange (c .before .before .before .before .before .args .self) ≡ true = sym (c .before .before .before .before .in-range .ensures) ∙ not-false (c .before .before .before .before .in-range .result) (c .before .before .before .if1 .left) in
+    let a = c .before .before .before .before .before .args in
+    let test = c .before .before .before .before .in-range in
+    let good : inRange (a .self) ≡ true = sym (test .ensures) ∙ not-false (test .result) (c .before .before .before .if1 .left) in
     c .stepped3 .ensures ∙ step-refused _ _ _ good (simp (le-leb _ _ (c .before .before .if2 .left), lt-leb _ _ (c .before .if3 .taken)))
 
 stepped-requires-4 : tie.Need-stepped-requires-4
@@ -40,16 +46,24 @@ stepped-requires-4 c κs = search needs
 
 returns-4 : tie.Need-returns-4
 returns-4 c =
-    let good : inRange (c .before .before .before .before .before .before .args .self) ≡ true = sym (c .before .before .before .before .before .in-range .ensures) ∙ not-false (c .before .before .before .before .before .in-range .result) (c .before .before .before .before .if1 .left) in
-    c .stepped4 .ensures ∙ simp (eq-eqb _ _ (c .before .if4 .taken)) (step-made _ _ _ good (simp (le-leb _ _ (c .before .before .before .if2 .left), le-leb _ _ (c .before .before .if3 .left))))
+    let a = c .before .before .before .before .before .before .args in
+    let test = c .before .before .before .before .before .in-range in
+    let good : inRange (a .self) ≡ true = sym (test .ensures) ∙ not-false (test .result) (c .before .before .before .before .if1 .left) in
+    let rights = c .before .before .before .if2 .left in
+    let colour = c .before .before .if3 .left in
+    c .stepped4 .ensures ∙ simp (eq-eqb _ _ (c .before .if4 .taken)) (step-made _ _ _ good (simp (le-leb _ _ rights, le-leb _ _ colour)))
 
 stepped-requires-5 : tie.Need-stepped-requires-5
 stepped-requires-5 c κs = search needs
 
 returns-5 : tie.Need-returns-5
 returns-5 c =
-    let good : inRange (c .before .before .before .before .before .before .args .self) ≡ true = sym (c .before .before .before .before .before .in-range .ensures) ∙ not-false (c .before .before .before .before .before .in-range .result) (c .before .before .before .before .if1 .left) in
-    c .stepped5 .ensures ∙ simp (ne-eqb _ _ (c .before .if4 .left)) (step-made _ _ _ good (simp (le-leb _ _ (c .before .before .before .if2 .left), le-leb _ _ (c .before .before .if3 .left))))
+    let a = c .before .before .before .before .before .before .args in
+    let test = c .before .before .before .before .before .in-range in
+    let good : inRange (a .self) ≡ true = sym (test .ensures) ∙ not-false (test .result) (c .before .before .before .before .if1 .left) in
+    let rights = c .before .before .before .if2 .left in
+    let colour = c .before .before .if3 .left in
+    c .stepped5 .ensures ∙ simp (ne-eqb _ _ (c .before .if4 .left)) (step-made _ _ _ good (simp (le-leb _ _ rights, le-leb _ _ colour)))
 
 pub castle-rights-spec : {M : Type 1} → statement M
 castle-rights-spec =

@@ -16,7 +16,9 @@ refused-requires c κs = search needs
 
 returns : tie.Need-returns
 returns c =
-    let bad : inRange (c .before .before .before .args .self) ≡ false = sym (c .before .before .in-range .ensures) ∙ not-true (c .before .before .in-range .result) (c .before .if1 .taken) in
+    let a = c .before .before .before .args in
+    let test = c .before .before .in-range in
+    let bad : inRange (a .self) ≡ false = sym (test .ensures) ∙ not-true (test .result) (c .before .if1 .taken) in
     c .refused .ensures ∙ simp bad
 
 accepted-byte-requires : tie.Need-accepted-byte-requires
@@ -30,18 +32,24 @@ refused-requires-2 c κs = search needs
 
 returns-2 : tie.Need-returns-2
 returns-2 c =
-    let good : inRange (c .before .before .before .before .args .self) ≡ true = sym (c .before .before .before .in-range .ensures) ∙ not-false (c .before .before .before .in-range .result) (c .before .before .if1 .left) in
+    let a = c .before .before .before .before .args in
+    let test = c .before .before .before .in-range in
+    let good : inRange (a .self) ≡ true = sym (test .ensures) ∙ not-false (test .result) (c .before .before .if1 .left) in
     c .accepted-byte .ensures ∙ simp (good, c .before .match .keys1)
 
 returns-3 : tie.Need-returns-3
 returns-3 c =
-    let good : inRange (c .before .before .before .before .args .self) ≡ true = sym (c .before .before .before .in-range .ensures) ∙ not-false (c .before .before .before .in-range .result) (c .before .before .if1 .left) in
+    let a = c .before .before .before .before .args in
+    let test = c .before .before .before .in-range in
+    let good : inRange (a .self) ≡ true = sym (test .ensures) ∙ not-false (test .result) (c .before .before .if1 .left) in
     c .accepted-byte2 .ensures ∙ simp (good, c .before .match .keys2)
 
 returns-4 : tie.Need-returns-4
 returns-4 c =
-    let good : inRange (c .before .before .before .before .args .self) ≡ true = sym (c .before .before .before .in-range .ensures) ∙ not-false (c .before .before .before .in-range .result) (c .before .before .if1 .left) in
-    let two : 1 < c .before .before .before .before .args .color = omega (arith, c .before .match .rest .0 .1, c .before .match .rest .1) in
+    let a = c .before .before .before .before .args in
+    let test = c .before .before .before .in-range in
+    let good : inRange (a .self) ≡ true = sym (test .ensures) ∙ not-false (test .result) (c .before .before .if1 .left) in
+    let two : 1 < a .color = omega (arith, c .before .match .rest .0 .1, c .before .match .rest .1) in
     c .refused2 .ensures ∙ simp (good, lt-leb _ 1 two)
 
 pub get-castle-rights-spec : {M : Type 1} → statement M

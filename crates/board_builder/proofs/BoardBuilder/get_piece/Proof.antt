@@ -14,7 +14,9 @@ refused-requires c κs = search needs
 
 returns : tie.Need-returns
 returns c =
-    let bad : inRange (c .before .before .before .args .t1) ≡ false = sym (c .before .before .in-range .ensures) ∙ not-true (c .before .before .in-range .result) (c .before .if1 .taken) in
+    let a = c .before .before .before .args in
+    let test = c .before .before .in-range in
+    let bad : inRange (a .t1) ≡ false = sym (test .ensures) ∙ not-true (test .result) (c .before .if1 .taken) in
     c .refused .ensures ∙ simp bad
 
 refused-requires-2 : tie.Need-refused-requires-2
@@ -22,7 +24,9 @@ refused-requires-2 c κs = search needs
 
 returns-2 : tie.Need-returns-2
 returns-2 c =
-    let good : inRange (c .before .before .before .before .args .t1) ≡ true = sym (c .before .before .before .in-range .ensures) ∙ not-false (c .before .before .before .in-range .result) (c .before .before .if1 .left) in
+    let a = c .before .before .before .before .args in
+    let test = c .before .before .before .in-range in
+    let good : inRange (a .t1) ≡ true = sym (test .ensures) ∙ not-false (test .result) (c .before .before .if1 .left) in
     c .refused2 .ensures ∙ simp (good, lt-leb _ _ (c .before .if2 .taken))
 
 element-copy-out-accepted-byte : tie.Need-element-copy-out-accepted-byte
@@ -33,7 +37,9 @@ accepted-byte-requires c κs = search needs
 
 returns-3 : tie.Need-returns-3
 returns-3 c =
-    let good : inRange (c .before .before .before .before .before .args .t1) ≡ true = sym (c .before .before .before .before .in-range .ensures) ∙ not-false (c .before .before .before .before .in-range .result) (c .before .before .before .if1 .left) in
+    let a = c .before .before .before .before .before .args in
+    let test = c .before .before .before .before .in-range in
+    let good : inRange (a .t1) ≡ true = sym (test .ensures) ∙ not-false (test .result) (c .before .before .before .if1 .left) in
     c .accepted-byte .ensures ∙ simp (good, le-leb _ _ (c .before .before .if2 .left))
 
 pub get-piece-spec : {M : Type 1} → statement M

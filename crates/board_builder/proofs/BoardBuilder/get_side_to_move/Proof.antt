@@ -14,7 +14,9 @@ refused-requires c κs = search needs
 
 returns : tie.Need-returns
 returns c =
-    let bad : inRange (c .before .before .before .args .self) ≡ false = sym (c .before .before .in-range .ensures) ∙ not-true (c .before .before .in-range .result) (c .before .if1 .taken) in
+    let a = c .before .before .before .args in
+    let test = c .before .before .in-range in
+    let bad : inRange (a .self) ≡ false = sym (test .ensures) ∙ not-true (test .result) (c .before .if1 .taken) in
     c .refused .ensures ∙ simp bad
 
 accepted-byte-requires : tie.Need-accepted-byte-requires
@@ -22,7 +24,9 @@ accepted-byte-requires c κs = search needs
 
 returns-2 : tie.Need-returns-2
 returns-2 c =
-    let good : inRange (c .before .before .before .args .self) ≡ true = sym (c .before .before .in-range .ensures) ∙ not-false (c .before .before .in-range .result) (c .before .if1 .left) in
+    let a = c .before .before .before .args in
+    let test = c .before .before .in-range in
+    let good : inRange (a .self) ≡ true = sym (test .ensures) ∙ not-false (test .result) (c .before .if1 .left) in
     c .accepted-byte .ensures ∙ simp good
 
 pub get-side-to-move-spec : {M : Type 1} → statement M

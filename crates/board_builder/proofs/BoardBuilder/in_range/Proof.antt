@@ -28,7 +28,10 @@ returns-4 : tie.Need-returns-4
 unfolding inRange
 returns-4 c =
     let long : length (c .before .before .before .before .before .before .before .before .before .args .self .pieces) ≡ 64 = search needs in
-    simp (eq-eqb _ _ long, le-leb _ _ (c .before .before .before .before .before .before .if1 .left), le-leb _ _ (c .before .before .before .before .if2 .left), le-leb _ _ (c .before .before .if3 .left), lt-leb _ _ (c .if4 .taken))
+    let side = c .before .before .before .before .before .before .if1 .left in
+    let white = c .before .before .before .before .if2 .left in
+    let black = c .before .before .if3 .left in
+    simp (eq-eqb _ _ long, le-leb _ _ side, le-leb _ _ white, le-leb _ _ black, lt-leb _ _ (c .if4 .taken))
 
 codes-in-range-requires : tie.Need-codes-in-range-requires
 codes-in-range-requires c κs = search needs
@@ -37,7 +40,11 @@ returns-5 : tie.Need-returns-5
 unfolding inRange
 returns-5 c =
     let long : length (c .before .before .before .before .before .before .before .before .before .before .args .self .pieces) ≡ 64 = search needs in
-    c .codes-in-range .ensures ∙ sym (simp (eq-eqb _ _ long, le-leb _ _ (c .before .before .before .before .before .before .before .if1 .left), le-leb _ _ (c .before .before .before .before .before .if2 .left), le-leb _ _ (c .before .before .before .if3 .left), le-leb _ _ (c .before .if4 .left)))
+    let side = c .before .before .before .before .before .before .before .if1 .left in
+    let white = c .before .before .before .before .before .if2 .left in
+    let black = c .before .before .before .if3 .left in
+    let file = c .before .if4 .left in
+    c .codes-in-range .ensures ∙ sym (simp (eq-eqb _ _ long, le-leb _ _ side, le-leb _ _ white, le-leb _ _ black, le-leb _ _ file))
 
 pub in-range-spec : {M : Type 1} → statement M
 in-range-spec =

@@ -18,7 +18,10 @@ returns : tie.Need-returns
 returns c = simp (eq-eqb _ _ (c .if1 .taken))
 
 returns-2 : tie.Need-returns-2
-returns-2 c = ap (λ (m : ℕ). (c .before .before .before .args .file + m) % 8) (c .before .wide .ensures ∙ c .before .before .step-of .ensures) ∙ sym (simp (ne-eqb _ _ (c .if1 .left)))
+returns-2 c =
+    let file = c .before .before .before .args .file in
+    ap (λ (m : ℕ). (file + m) % 8) (c .before .wide .ensures ∙ c .before .before .step-of .ensures)
+    ∙ sym (simp (ne-eqb _ _ (c .if1 .left)))
 
 pub file-after-spec : {M : Type 1} → statement M
 file-after-spec = tie.close (tie.spec step-of-requires wide-requires add-next returns returns-2)

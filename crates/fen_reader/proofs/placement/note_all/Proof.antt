@@ -69,7 +69,33 @@ note-requires-21 c κs = search needs
 
 returns : tie.Need-returns
 unfolding noteAll ascii
-returns c = simp (c .note21 .ensures, c .before .before .note20 .ensures, c .before .before .before .before .note19 .ensures, c .before .before .before .before .before .before .note18 .ensures, c .before .before .before .before .before .before .before .before .note17 .ensures, c .before .before .before .before .before .before .before .before .before .before .note16 .ensures, c .before .before .before .before .before .before .before .before .before .before .before .before .note15 .ensures, c .before .before .before .before .before .before .before .before .before .before .before .before .before .before .note14 .ensures, c .before .before .before .before .before .before .before .before .before .before .before .before .before .before .before .before .note13 .ensures, c .before .before .before .before .before .before .before .before .before .before .before .before .before .before .before .before .before .before .note12 .ensures, c .before .before .before .before .before .before .before .before .before .before .before .before .before .before .before .before .before .before .before .before .note11 .ensures, c .before .before .before .before .before .before .before .before .before .before .before .before .before .before .before .before .before .before .before .before .before .before .note10 .ensures, c .before .before .before .before .before .before .before .before .before .before .before .before .before .before .before .before .before .before .before .before .before .before .before .before .note9 .ensures, c .before .before .before .before .before .before .before .before .before .before .before .before .before .before .before .before .before .before .before .before .before .before .before .before .before .before .note8 .ensures, c .before .before .before .before .before .before .before .before .before .before .before .before .before .before .before .before .before .before .before .before .before .before .before .before .before .before .before .before .note7 .ensures, c .before .before .before .before .before .before .before .before .before .before .before .before .before .before .before .before .before .before .before .before .before .before .before .before .before .before .before .before .before .before .note6 .ensures, c .before .before .before .before .before .before .before .before .before .before .before .before .before .before .before .before .before .before .before .before .before .before .before .before .before .before .before .before .before .before .before .before .note5 .ensures, c .before .before .before .before .before .before .before .before .before .before .before .before .before .before .before .before .before .before .before .before .before .before .before .before .before .before .before .before .before .before .before .before .before .before .note4 .ensures, c .before .before .before .before .before .before .before .before .before .before .before .before .before .before .before .before .before .before .before .before .before .before .before .before .before .before .before .before .before .before .before .before .before .before .before .before .note3 .ensures, c .before .before .before .before .before .before .before .before .before .before .before .before .before .before .before .before .before .before .before .before .before .before .before .before .before .before .before .before .before .before .before .before .before .before .before .before .before .before .note2 .ensures, c .before .before .before .before .before .before .before .before .before .before .before .before .before .before .before .before .before .before .before .before .before .before .before .before .before .before .before .before .before .before .before .before .before .before .before .before .before .before .before .before .note .ensures)
+returns c =
+    let at20 = c .before .before in
+    let at19 = at20 .before .before in
+    let at18 = at19 .before .before in
+    let at17 = at18 .before .before in
+    let at16 = at17 .before .before in
+    let at15 = at16 .before .before in
+    let at14 = at15 .before .before in
+    let at13 = at14 .before .before in
+    let at12 = at13 .before .before in
+    let at11 = at12 .before .before in
+    let at10 = at11 .before .before in
+    let at9 = at10 .before .before in
+    let at8 = at9 .before .before in
+    let at7 = at8 .before .before in
+    let at6 = at7 .before .before in
+    let at5 = at6 .before .before in
+    let at4 = at5 .before .before in
+    let at3 = at4 .before .before in
+    let at2 = at3 .before .before in
+    let at1 = at2 .before .before in
+    simp (
+      c .note21 .ensures, at20 .note20 .ensures, at19 .note19 .ensures, at18 .note18 .ensures, at17 .note17 .ensures, at16 .note16 .ensures,
+      at15 .note15 .ensures, at14 .note14 .ensures, at13 .note13 .ensures, at12 .note12 .ensures, at11 .note11 .ensures, at10 .note10 .ensures,
+      at9 .note9 .ensures, at8 .note8 .ensures, at7 .note7 .ensures, at6 .note6 .ensures, at5 .note5 .ensures, at4 .note4 .ensures,
+      at3 .note3 .ensures, at2 .note2 .ensures, at1 .note .ensures,
+    )
 
 pub note-all-spec : {M : Type 1} → statement M
 note-all-spec =

@@ -15,7 +15,10 @@ use Rattle.fen_reader.proofs.placement.place.Statement.{statement}
 use Rattle.fen_reader.proofs.placement.place.Tie as tie
 
 abbrev Inv-loop : tie.InvT-loop
-Inv-loop text classes pieces₀ rank₀ file₀ seen₀ i₀ pieces rank file seen i = (i ≤ length text) × (rank < 8) × (file < 8) × (length pieces ≡ 64) × (placeAll start (take i text) ≡ placement pieces rank file (ltb seen refused)) × (placeOf 32 text ≡ i + placeOf 32 (drop i text))
+Inv-loop text classes pieces₀ rank₀ file₀ seen₀ i₀ pieces rank file seen i =
+    (i ≤ length text) × (rank < 8) × (file < 8) × (length pieces ≡ 64)
+    × (placeAll start (take i text) ≡ placement pieces rank file (ltb seen refused))
+    × (placeOf 32 text ≡ i + placeOf 32 (drop i text))
 
 abbrev μ-loop : tie.MeasureT-loop
 μ-loop text classes pieces₀ rank₀ file₀ seen₀ i₀ pieces rank file seen i = length text - i
@@ -30,11 +33,14 @@ shared-slice-read-b : tie.Need-shared-slice-read-b Inv-loop μ-loop
 shared-slice-read-b c = search needs
 
 returns : tie.Need-returns Inv-loop μ-loop
-returns c = record {
-  place = sym (c .before .before .before .loop .inv .5 ∙ place-hit 32 (c .before .before .before .before .before .before .before .args .text .now) (c .before .before .before .loop .i) (c .before .before .loop-test .taken) (c .if1 .taken));
-  pieces = ap (λ (p : Placement). p .pieces) (c .before .before .before .loop .inv .4);
-  good = ap (λ (p : Placement). p .good) (c .before .before .before .loop .inv .4);
-}
+returns c =
+    let s = c .before .before .before .before .before .before .before .args .text .now in
+    let at = c .before .before .before .loop in
+    record {
+      place = sym (at .inv .5 ∙ place-hit 32 s (at .i) (c .before .before .loop-test .taken) (c .if1 .taken));
+      pieces = ap (λ (p : Placement). p .pieces) (at .inv .4);
+      good = ap (λ (p : Placement). p .good) (at .inv .4);
+    }
 
 wide-requires : tie.Need-wide-requires Inv-loop μ-loop
 wide-requires c κs = search needs
@@ -46,7 +52,8 @@ array-read-class c =
     let b : ℕ = getD s i 0 in
     let byte : b < 256 = omega (arith, c .before .before .shared-slice-known2 .given i) in
     let place : c .wide .result ≡ b = c .wide .ensures in
-    let long : length (c .before .before .before .before .before .note-all .last .0) ≡ 256 = ap length (c .before .before .before .before .before .note-all .ensures) ∙ table-long in
+    let noted = c .before .before .before .before .before .note-all in
+    let long : length (noted .last .0) ≡ 256 = ap length (noted .ensures) ∙ table-long in
     omega arith
 
 mul-at : tie.Need-mul-at Inv-loop μ-loop
@@ -79,21 +86,31 @@ loop-less c = search needs
 loop-again : tie.Need-loop-again Inv-loop μ-loop
 loop-again c =
     let s : List ℕ = c .before .before .before .before .before .before .before .before .before .before .before .args .text .now in
-    let i : ℕ = c .before .before .before .before .before .before .before .loop .i in
+    let at = c .before .before .before .before .before .before .before .loop in
+    let i : ℕ = at .i in
+    let r = at .rank in
+    let f = at .file in
+    let p = at .pieces in
     let b : ℕ = getD s i 0 in
     let byte : b < 256 = omega (arith, c .before .before .before .before .before .shared-slice-known2 .given i) in
     let h : i < length s = c .before .before .before .before .before .before .loop-test .taken in
-    let r = c .before .before .before .before .before .before .before .loop .rank in
-    let f = c .before .before .before .before .before .before .before .loop .file in
-    let p = c .before .before .before .before .before .before .before .loop .pieces in
-    let k = getD (c .before .before .before .before .before .before .before .before .note-all .last .0) (c .before .before .before .wide .result) 0 in
-    let class : k ≡ classOf b = ap (λ (k : ℕ). getD (c .before .before .before .before .before .before .before .before .note-all .last .0) k 0) (c .before .before .before .wide .ensures) ∙ ap (λ (t : List ℕ). getD t b 0) (c .before .before .before .before .before .before .before .before .note-all .ensures) ∙ class-at b byte in (
+    let noted = c .before .before .before .before .before .before .before .before .note-all in
+    let table : List ℕ = noted .last .0 in
+    let wide = c .before .before .before .wide in
+    let piece = c .before .before .piece-after in
+    let file = c .before .file-after in
+    let rank = c .rank-after in
+    let k = getD table (wide .result) 0 in
+    let class : k ≡ classOf b =
+        ap (λ (k : ℕ). getD table k 0) (wide .ensures) ∙ ap (λ (t : List ℕ). getD t b 0) (noted .ensures) ∙ class-at b byte in (
       omega arith,
-      subst (λ (n : ℕ). n < 8) (sym (c .rank-after .ensures)) (rank-small r k (c .before .before .before .before .before .before .before .loop .inv .1)),
-      subst (λ (n : ℕ). n < 8) (sym (c .before .file-after .ensures)) (file-small f k),
-      simp length-set (c .before .before .before .before .before .before .before .loop .inv .3),
-      turn s i h (c .before .before .before .before .before .before .before .loop .inv .4) (next p r f (ltb (c .before .before .before .before .before .before .before .loop .seen) refused) b (c .before .before .before .before .before .before .before .loop .inv .2) ∙ stored p r f (c .before .before .before .before .before .before .before .loop .seen) k (classOf b) (c .before .before .piece-after .result) (c .rank-after .result) (c .before .file-after .result) class (c .before .before .piece-after .ensures) (c .rank-after .ensures) (c .before .file-after .ensures)),
-      c .before .before .before .before .before .before .before .loop .inv .5 ∙ place-miss 32 s i h (c .before .before .before .before .if1 .left),
+      subst (λ (n : ℕ). n < 8) (sym (rank .ensures)) (rank-small r k (at .inv .1)),
+      subst (λ (n : ℕ). n < 8) (sym (file .ensures)) (file-small f k),
+      simp length-set (at .inv .3),
+      turn s i h (at .inv .4)
+        (next p r f (ltb (at .seen) refused) b (at .inv .2)
+        ∙ stored p r f (at .seen) k (classOf b) (piece .result) (rank .result) (file .result) class (piece .ensures) (rank .ensures) (file .ensures)),
+      at .inv .5 ∙ place-miss 32 s i h (c .before .before .before .before .if1 .left),
     )
 
 returns-2 : tie.Need-returns-2 Inv-loop μ-loop

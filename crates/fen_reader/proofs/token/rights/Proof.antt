@@ -7,7 +7,6 @@ use lib.Dec.{eqb}
 use lib.ListN.{length, drop, getD}
 use Rattle.square.specs.Numbers.{among}
 use Rattle.fen_reader.proofs.Seen.{seen-step, one-at-most, rights-of, both-sides}
-use Rattle.fen_reader.proofs.Seen.{seen-step, one-at-most, rights-of, both-sides}
 use Rattle.fen_reader.proofs.token.rights.Statement.{statement}
 use Rattle.fen_reader.proofs.token.rights.Tie as tie
 
@@ -49,17 +48,23 @@ loop-less c = search needs
 loop-again : tie.Need-loop-again Inv-loop μ-loop
 loop-again c =
     let s = c .before .before .before .before .before .before .before .before .args .token .now in
-    let i = c .before .before .before .before .before .before .loop .i in
+    let at = c .before .before .before .before .before .before .loop in
+    let i = at .i in
+    let h = c .before .before .before .before .before .loop-test .taken in
+    let white-king = c .before .before .before .seen in
+    let white-queen = c .before .before .seen2 in
+    let black-king = c .before .seen3 in
+    let black-queen = c .seen4 in
     let b = getD s i 0 in (
       omega arith,
-      one-at-most (eqb b 75) (c .before .before .before .before .before .before .loop .white-king) (c .before .before .before .seen .result) (c .before .before .before .before .before .before .loop .inv .1) (c .before .before .before .seen .ensures),
-      one-at-most (eqb b 81) (c .before .before .before .before .before .before .loop .white-queen) (c .before .before .seen2 .result) (c .before .before .before .before .before .before .loop .inv .2) (c .before .before .seen2 .ensures),
-      one-at-most (eqb b 107) (c .before .before .before .before .before .before .loop .black-king) (c .before .seen3 .result) (c .before .before .before .before .before .before .loop .inv .3) (c .before .seen3 .ensures),
-      one-at-most (eqb b 113) (c .before .before .before .before .before .before .loop .black-queen) (c .seen4 .result) (c .before .before .before .before .before .before .loop .inv .4) (c .seen4 .ensures),
-      c .before .before .before .before .before .before .loop .inv .5 ∙ seen-step 75 (c .before .before .before .before .before .before .loop .white-king) s i (c .before .before .before .seen .result) (c .before .before .before .before .before .loop-test .taken) (c .before .before .before .seen .ensures),
-      c .before .before .before .before .before .before .loop .inv .6 ∙ seen-step 81 (c .before .before .before .before .before .before .loop .white-queen) s i (c .before .before .seen2 .result) (c .before .before .before .before .before .loop-test .taken) (c .before .before .seen2 .ensures),
-      c .before .before .before .before .before .before .loop .inv .7 ∙ seen-step 107 (c .before .before .before .before .before .before .loop .black-king) s i (c .before .seen3 .result) (c .before .before .before .before .before .loop-test .taken) (c .before .seen3 .ensures),
-      c .before .before .before .before .before .before .loop .inv .8 ∙ seen-step 113 (c .before .before .before .before .before .before .loop .black-queen) s i (c .seen4 .result) (c .before .before .before .before .before .loop-test .taken) (c .seen4 .ensures),
+      one-at-most (eqb b 75) (at .white-king) (white-king .result) (at .inv .1) (white-king .ensures),
+      one-at-most (eqb b 81) (at .white-queen) (white-queen .result) (at .inv .2) (white-queen .ensures),
+      one-at-most (eqb b 107) (at .black-king) (black-king .result) (at .inv .3) (black-king .ensures),
+      one-at-most (eqb b 113) (at .black-queen) (black-queen .result) (at .inv .4) (black-queen .ensures),
+      at .inv .5 ∙ seen-step 75 (at .white-king) s i (white-king .result) h (white-king .ensures),
+      at .inv .6 ∙ seen-step 81 (at .white-queen) s i (white-queen .result) h (white-queen .ensures),
+      at .inv .7 ∙ seen-step 107 (at .black-king) s i (black-king .result) h (black-king .ensures),
+      at .inv .8 ∙ seen-step 113 (at .black-queen) s i (black-queen .result) h (black-queen .ensures),
     )
 
 mul-t12 : tie.Need-mul-t12 Inv-loop μ-loop

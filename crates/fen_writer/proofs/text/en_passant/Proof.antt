@@ -23,13 +23,19 @@ push-requires-3 : tie.Need-push-requires-3
 push-requires-3 c κs = search needs
 
 returns-2 : tie.Need-returns-2
-returns-2 c = put-as (white-file _ _ (c .before .before .before .before .before .before .pre .1 .1) (c .before .before .before .before .before .if1 .left) (c .before .before .if2 .taken)) (put-both (c .before .before .before .push2 .ensures) (c .push3 .ensures))
+returns-2 c =
+    let small = c .before .before .before .before .before .before .pre .1 .1 in
+    let some = c .before .before .before .before .before .if1 .left in
+    put-as (white-file _ _ small some (c .before .before .if2 .taken)) (put-both (c .before .before .before .push2 .ensures) (c .push3 .ensures))
 
 push-requires-4 : tie.Need-push-requires-4
 push-requires-4 c κs = search needs
 
 returns-3 : tie.Need-returns-3
-returns-3 c = put-as (black-file _ _ (c .before .before .before .before .before .before .pre .1 .1) (c .before .before .before .before .before .if1 .left) (c .before .before .if2 .left)) (put-both (c .before .before .before .push2 .ensures) (c .push4 .ensures))
+returns-3 c =
+    let small = c .before .before .before .before .before .before .pre .1 .1 in
+    let some = c .before .before .before .before .before .if1 .left in
+    put-as (black-file _ _ small some (c .before .before .if2 .left)) (put-both (c .before .before .before .push2 .ensures) (c .push4 .ensures))
 
 pub en-passant-spec : {M : Type 1} → statement M
 en-passant-spec =

@@ -74,8 +74,10 @@ loop-again c =
     let most = count-most (s .loop .n) (run .result) (n .result) (n .ensures) in
     let long = row-long letters from (s .before .pre .1 .1 .0) (s .before .pre .1 .1 .1) in
     let here = row-at letters from i (omega arith) in
+    let byte = c .byte-of in
     let turned =
-    row-turn (s .loop .inv .3) (omega arith) (omega arith) letter (run .result) (n .result) (c .byte-of .result) here (run .ensures) (n .ensures) (c .byte-of .ensures) in
+        row-turn (s .loop .inv .3) (omega arith) (omega arith) letter (run .result) (n .result) (byte .result)
+        here (run .ensures) (n .ensures) (byte .ensures) in
     (omega arith, omega arith, omega arith, turned)
 
 returns : tie.Need-returns Inv-loop μ-loop

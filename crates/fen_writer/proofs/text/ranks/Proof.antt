@@ -17,7 +17,8 @@ use Rattle.fen_writer.proofs.text.ranks.Statement.{statement}
 use Rattle.fen_writer.proofs.text.ranks.Tie as tie
 
 abbrev Inv-loop : tie.InvT-loop
-Inv-loop bytes₀ letters n₀ left₀ bytes n left = (left ≤ 8) × ((pieces : List ℕ) → letters ≡ lettersOf pieces → allAtMost 12 pieces ≡ true → Ranks pieces bytes n left)
+Inv-loop bytes₀ letters n₀ left₀ bytes n left =
+    (left ≤ 8) × ((pieces : List ℕ) → letters ≡ lettersOf pieces → allAtMost 12 pieces ≡ true → Ranks pieces bytes n left)
 
 abbrev μ-loop : tie.MeasureT-loop
 μ-loop bytes₀ letters n₀ left₀ bytes n left = left
@@ -63,7 +64,9 @@ loop-less c = search needs
 loop-again : tie.Need-loop-again Inv-loop μ-loop
 loop-again c =
     let s = c .before .before .before .before .before in
-    (omega arith, λ pieces e ok. ranks-turn _ (s .before .loop .inv .1 pieces e ok) (s .loop-test .taken) e ok (c .before .before .rank .ensures) (c .push-if .ensures))
+    let row = c .before .before .rank .ensures in
+    let slash = c .push-if .ensures in
+    (omega arith, λ pieces e ok. ranks-turn _ (s .before .loop .inv .1 pieces e ok) (s .loop-test .taken) e ok row slash)
 
 returns : tie.Need-returns Inv-loop μ-loop
 returns c =

@@ -53,7 +53,8 @@ returns c =
     let p = q .before .before in
     let a = c .before .before .before .before .before .before .before .before .before .before .args in
     let h = c .before .before .before .before .before .before .before .before .before .before .pre .1 .1 in
-    rights-put (a .white) (a .black) (h .0) (h .1) (p .push-if .ensures) (q .push-if2 .ensures) (s .push-if3 .ensures) (t .push-if4 .ensures) (c .push-if5 .ensures)
+    rights-put (a .white) (a .black) (h .0) (h .1)
+    (p .push-if .ensures) (q .push-if2 .ensures) (s .push-if3 .ensures) (t .push-if4 .ensures) (c .push-if5 .ensures)
 
 pub rights-spec : {M : Type 1} → statement M
 rights-spec =
