@@ -6,7 +6,9 @@ use Rattle.replay.proofs.play_all.Statement.{statement}
 use Rattle.replay.proofs.play_all.Tie as tie
 
 abbrev Inv-loop : tie.InvT-loop
-Inv-loop block₀ line₀ acts₀ ps₀ list₀ run₀ from₀ turns₀ block line acts ps list run from turns = (length block ≡ length block₀) × (length line ≡ length line₀) × (length acts ≡ length acts₀) × (length ps ≡ length ps₀) × (length list ≡ length list₀) × (from .at ≤ from .end) × (from .end ≤ length block₀)
+Inv-loop block₀ line₀ acts₀ ps₀ list₀ run₀ from₀ turns₀ block line acts ps list run from turns =
+    (length block ≡ length block₀) × (length line ≡ length line₀) × (length acts ≡ length acts₀) × (length ps ≡ length ps₀) × (length list ≡ length list₀)
+    × (from .at ≤ from .end) × (from .end ≤ length block₀)
 
 abbrev μ-loop : tie.MeasureT-loop
 μ-loop block₀ line₀ acts₀ ps₀ list₀ run₀ from₀ turns₀ block line acts ps list run from turns = turns

@@ -6,7 +6,8 @@ use Rattle.replay.proofs.input.read_line.Statement.{statement}
 use Rattle.replay.proofs.input.read_line.Tie as tie
 
 abbrev Inv-loop : tie.InvT-loop
-Inv-loop block₀ line₀ from₀ n₀ block line from n = (length block ≡ length block₀) × (length line ≡ length line₀) × (from .at ≤ from .end) × (from .end ≤ length block₀) × (n ≤ length line₀)
+Inv-loop block₀ line₀ from₀ n₀ block line from n =
+    (length block ≡ length block₀) × (length line ≡ length line₀) × (from .at ≤ from .end) × (from .end ≤ length block₀) × (n ≤ length line₀)
 
 abbrev μ-loop : tie.MeasureT-loop
 μ-loop block₀ line₀ from₀ n₀ block line from n = length line₀ - n
