@@ -2,7 +2,7 @@
 -- Assumes nothing.
 use mathlib.Core.Path.{sym, _∙_}
 use denote.Ref.{now}
-use Rattle.square.specs.Determined.{OneAnswer, OnePart}
+use Rattle.answer.specs.Determined.{OneAnswer, OnePart}
 use Rattle.action.proofs.to_bytes.Reads as to-bytes
 use Rattle.action.proofs.to_bytes.Kinds as to-bytes·k
 use Rattle.action.proofs.from_bytes.Reads as from-bytes

@@ -8,11 +8,11 @@ use native.Mathlib.Omega.{arith}
 use lib.Dec.{eqb, leb}
 use lib.ListN.{length}
 use borrow.Author.Tests.{le-leb, leb-true, eqb-true}
-use Rattle.square.specs.declared.Answer.{Answer}
-use Rattle.square.specs.Answer.{accepted}
-use Rattle.square.specs.Numbers.{allAtMost}
-use Rattle.square.proofs.Numbers.{both-left, both-right}
-use Rattle.square.proofs.Writes.{accepted-writes-its-text, check-passed}
+use Rattle.answer.specs.declared.Answer.{Answer}
+use Rattle.answer.specs.Answer.{accepted}
+use Rattle.answer.specs.Numbers.{allAtMost}
+use Rattle.answer.proofs.Numbers.{both-left, both-right}
+use Rattle.answer.proofs.Writes.{accepted-writes-its-text, check-passed}
 use Rattle.chess_move.specs.Number.{lastMove, moveOf, numberAnswer}
 use Rattle.chess_move.proofs.Numbers.{number-of-parts, parts-of-number}
 use Rattle.action.specs.declared.Action.{Action}

@@ -8,9 +8,9 @@ use native.Mathlib.Omega.{arith}
 use lib.Dec.{leb}
 use lib.ListN.{length, getD}
 use borrow.Author.Tests.{eq-eqb, ne-eqb, lt-leb}
-use Rattle.square.specs.declared.Answer.{Answer}
-use Rattle.square.specs.Answer.{refused, inRangeOr5, writeAnswer, writeBytes}
-use Rattle.square.proofs.Writes.{write-refused}
+use Rattle.answer.specs.declared.Answer.{Answer}
+use Rattle.answer.specs.Answer.{refused, inRangeOr5, writeAnswer, writeBytes}
+use Rattle.answer.proofs.Writes.{write-refused}
 use Rattle.chess_move.specs.declared.ChessMove.{ChessMove}
 use Rattle.chess_move.specs.Number.{numberOf, ofBytes, numberAnswer}
 use Rattle.action.specs.declared.Action.the-variants.{OfferDraw, AcceptDraw, DeclareDraw, Resign}

@@ -6,7 +6,7 @@ use mathlib.Core.Bool.{cond, _&&_}
 use mathlib.Core.List.{List, [], _∷_}
 use lib.Dec.{eqb, leb}
 use lib.ListN.{length, getD}
-use Rattle.square.specs.Answer.{outOfRange}
+use Rattle.answer.specs.Answer.{outOfRange}
 use Rattle.chess_move.specs.Number.{lastMove, lowByte, highByte, ofBytes, moveOf, numberAnswer}
 use Rattle.action.specs.declared.Action.{Action}
 use Rattle.action.specs.declared.Action.the-variants.{MakeMove, OfferDraw, AcceptDraw, DeclareDraw, Resign}

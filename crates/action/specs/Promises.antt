@@ -5,8 +5,8 @@ use mathlib.Core.Path.{_≡_}
 use mathlib.Core.Bool.{true}
 use mathlib.Core.List.{List}
 use lib.ListN.{length, take}
-use Rattle.square.specs.Answer.{writeAnswer, writeBytes}
-use Rattle.square.specs.Numbers.{allAtMost}
+use Rattle.answer.specs.Answer.{writeAnswer, writeBytes}
+use Rattle.answer.specs.Numbers.{allAtMost}
 use Rattle.action.specs.declared.Action.{Action}
 use Rattle.action.specs.declared.Stored.the-variants.{Holds}
 use Rattle.action.specs.Layout.{actionSize, actionBytes, actionCheck, actionOf}

@@ -1,12 +1,12 @@
 // The log's action, after game.rs: a move with its struct, an offer or a resignation with a colour, two bare cases. Each takes 4 bytes of the log.
+use answer::ACCEPTED;
+use answer::Answer;
+use answer::OUT_OF_RANGE;
 use chess_move::ChessMove;
 use chess_move::LAST_MOVE;
-use square::ACCEPTED;
-use square::Answer;
-use square::OUT_OF_RANGE;
 ghost use mathlib.Core.Path.{_≡_};
 ghost use lib.ListN.{length};
-ghost use Rattle.square.specs.Answer.{writeAnswer, writeBytes};
+ghost use Rattle.answer.specs.Answer.{writeAnswer, writeBytes};
 ghost use Rattle.chess_move.specs.Number.{numberAnswer};
 ghost use Rattle.action.specs.Layout.{fields, colourCheck, actionBytes, actionCheck, movesHere, standsAlone, actionOf};
 
@@ -34,10 +34,10 @@ fn write_move(m: ChessMove, out: &mut [u8]) -> Answer
 {
     let n = m.number();
     if n.number != ACCEPTED {
-        return square::refused(OUT_OF_RANGE);
+        return answer::refused(OUT_OF_RANGE);
     }
     let bytes = [1, 0, (n.value % 256) as u8, (n.value / 256) as u8];
-    square::write_text(&bytes, out)
+    answer::write_text(&bytes, out)
 }
 
 fn write_colour(kind: u8, colour: u8, out: &mut [u8]) -> Answer
@@ -45,10 +45,10 @@ fn write_colour(kind: u8, colour: u8, out: &mut [u8]) -> Answer
     ensures bytes { λ r. ⌜ now (out .exit) ≡ writeBytes (colourCheck colour) (fields kind colour 0) (now (out .entry)) ⌝ }
 {
     if BLACK < colour {
-        return square::refused(OUT_OF_RANGE);
+        return answer::refused(OUT_OF_RANGE);
     }
     let bytes = [kind, colour, 0, 0];
-    square::write_text(&bytes, out)
+    answer::write_text(&bytes, out)
 }
 
 // Writes an action to the front of `out`. Checks 5, then 7.

@@ -10,9 +10,9 @@ use lib.Dec.{eqb, leb}
 use lib.ListN.{length, drop, getD, length-take, length-drop}
 use lib.Seq.{getD-take, getD-drop}
 use borrow.Author.Tests.{eqb-true, eqb-false, le-leb, lt-leb, leb-true, leb-false}
-use Rattle.square.specs.Answer.{inRangeOr5}
-use Rattle.square.specs.Parts.{item}
-use Rattle.square.proofs.Parts.{length-item}
+use Rattle.answer.specs.Answer.{inRangeOr5}
+use Rattle.answer.specs.Parts.{item}
+use Rattle.answer.proofs.Parts.{length-item}
 use Rattle.chess_move.specs.declared.ChessMove.{ChessMove}
 use Rattle.chess_move.specs.Number.{lastMove, ofBytes, moveOf, numberOf, numberAnswer}
 use Rattle.chess_move.proofs.Numbers.{parts-of-number}
@@ -22,7 +22,8 @@ use Rattle.action.specs.declared.Stored.{Stored}
 use Rattle.action.specs.declared.Stored.the-variants.{Holds, Nothing}
 use Rattle.action.specs.Layout.{actionSize, actionOf}
 use Rattle.action.proofs.Rules.{not-four, of-move, of-offer, of-accept, of-declare, of-resign, of-none}
-use Rattle.actions.specs.Part.{noMove, moveHeld, moveAt, oneIfMove, movesIn}
+use Rattle.actions.specs.Part.{noMove, moveHeld, moveAt, movesIn}
+use Rattle.actions.specs.CodeCount.{oneIfMove}
 
 pub none-made : (acts : List ℕ) → movesIn acts 0 ≡ 0
 unfolding movesIn

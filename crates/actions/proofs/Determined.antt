@@ -1,7 +1,7 @@
 -- Each public function's contract, as the toolchain reads it off the source, permits one answer, and one content of each slice that is lent to be written.
 -- Assumes nothing.
 use mathlib.Core.Path.{sym, _∙_}
-use Rattle.square.specs.Determined.{OneAnswer}
+use Rattle.answer.specs.Determined.{OneAnswer}
 use Rattle.actions.proofs.move_at.Reads as move-at
 use Rattle.actions.proofs.move_at.Kinds as move-at·k
 use Rattle.actions.proofs.moves_in.Reads as moves-in

@@ -3,8 +3,8 @@
 use mathlib.Core.Bool.{Bool, true, false, cond, _&&_}
 use mathlib.Core.List.{List}
 use Prim.Native.Nat.{ℕ, zero, suc, _+_}
-use lib.Dec.{eqb, leb}
-use Rattle.square.specs.Parts.{item}
+use lib.Dec.{leb}
+use Rattle.answer.specs.Parts.{item}
 use Rattle.chess_move.specs.Number.{lastMove, numberAnswer}
 use Rattle.action.specs.declared.Action.the-variants.{MakeMove, OfferDraw, AcceptDraw, DeclareDraw, Resign}
 use Rattle.action.specs.declared.Stored.{Stored}
@@ -29,10 +29,6 @@ moveHeld Nothing = noMove
 
 abbrev pub moveAt : List ℕ → ℕ → ℕ
 moveAt acts i = moveHeld (actionAt acts i)
-
--- 1 for the fields of a move's action
-abbrev pub oneIfMove : ℕ → ℕ → ℕ → ℕ
-oneIfMove kind colour number = cond (eqb kind 1) (cond (eqb colour 0 && leb number lastMove) 1 0) 0
 
 -- how many of the first n actions are moves
 unfoldable pub movesIn : List ℕ → ℕ → ℕ

@@ -6,11 +6,12 @@ use chess_move::ChessMove;
 use chess_move::LAST_MOVE;
 ghost use mathlib.Core.Path.{_≡_};
 ghost use Prim.Native.Nat.{min};
-ghost use Rattle.square.specs.Parts.{item};
+ghost use Rattle.answer.specs.Parts.{item};
 ghost use Rattle.chess_move.specs.Number.{numberAnswer};
 ghost use Rattle.action.specs.declared.Stored.the-variants.{Holds};
 ghost use Rattle.action.specs.Layout.{actionSize, actionOf};
-ghost use Rattle.actions.specs.Part.{moveHeld, moveAt, oneIfMove, movesIn, isHeld, actionsHeld, lastAction};
+ghost use Rattle.actions.specs.Part.{moveHeld, moveAt, movesIn, isHeld, actionsHeld, lastAction};
+ghost use Rattle.actions.specs.CodeCount.{oneIfMove};
 
 // More than any move's number.
 pub const NO_MOVE: u64 = LAST_MOVE + 1;

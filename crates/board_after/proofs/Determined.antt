@@ -1,7 +1,7 @@
 -- Each public function's contract, as the toolchain reads it off the source, permits one answer.
 -- Assumes nothing.
 use mathlib.Core.Path.{sym, _∙_}
-use Rattle.square.specs.Determined.{OneAnswer}
+use Rattle.answer.specs.Determined.{OneAnswer}
 use Rattle.board_after.proofs.board_after.Reads as board-after
 use Rattle.board_after.proofs.board_after.Kinds as board-after·k
 use Rattle.board_after.proofs.leads_to.Reads as leads-to

@@ -9,10 +9,10 @@ use lib.Dec.{eqb}
 use lib.ListN.{length, getD, take}
 use lib.Seq.{drop-cons, take-add, take-take, getD-take}
 use borrow.Author.Tests.{eq-eqb, ne-eqb, eqb-true}
-use Rattle.square.specs.Numbers.{same}
+use Rattle.answer.specs.Numbers.{same}
 use Rattle.board_builder.specs.declared.BoardBuilder.{BoardBuilder}
 use Rattle.board_builder.specs.BoardBuilder.{board, numbers, recordSize, boardOf, inRange, numbersInRange}
-use Rattle.square.proofs.Numbers.{both-left, both-right}
+use Rattle.answer.proofs.Numbers.{both-left, both-right}
 
 same-append : (a b x y : List ℕ) → length a ≡ length b → same (a ++ x) (b ++ y) ≡ same a b && same x y
 unfolding same

@@ -8,15 +8,15 @@ use native.Mathlib.Omega.{arith}
 use lib.Dec.{T, eqb, leb, ltb}
 use lib.ListN.{length, set, length-set}
 use borrow.Author.Tests.{eq-eqb, eqb-true, eqb-false}
-use Rattle.square.specs.Numbers.{allAtMost}
+use Rattle.answer.specs.Numbers.{allAtMost}
 use Rattle.square.specs.Piece.{kindOf}
-use Rattle.square.proofs.Below.{holds, fails, belows}
-use Rattle.square.proofs.Bounds.{bound-at}
-use Rattle.square.proofs.Numbers.{most-set}
+use Rattle.answer.proofs.Below.{holds, fails, belows}
+use Rattle.answer.proofs.Bounds.{bound-at}
+use Rattle.answer.proofs.Numbers.{most-set}
 use Rattle.square.specs.Square.{squareOf}
 use Rattle.board_after.specs.After.{pawn, rank, file, twoApart, stepsTwice, manOn, colourStep, castles, corner, passedOver, rookMoved, takesInPassing}
 use Rattle.board_after.specs.After.{pawnRemoved, setDown, squaresAfter}
-use Rattle.board_after.specs.Differ.{touchesMore}
+use Rattle.board_after.specs.CodeDiffer.{touchesMore}
 
 pub step-most : (man : ℕ) → colourStep man ≤ 6
 unfolding colourStep

@@ -9,9 +9,9 @@ use lib.Dec.{eqb, ltb, leb}
 use lib.ListN.{length, getD, set, length-set}
 use lib.Seq.{getD-set-same, getD-set-other}
 use borrow.Author.Tests.{eqb-true, eqb-false, eq-eqb, lt-leb, le-leb, ltb-true, ltb-false}
-use Rattle.square.specs.Numbers.{among}
+use Rattle.answer.specs.Numbers.{among}
 use Rattle.square.specs.Piece.{kindOf}
-use Rattle.square.proofs.Numbers.{both-left, both-right}
+use Rattle.answer.proofs.Numbers.{both-left, both-right}
 use Rattle.board_builder.specs.declared.BoardBuilder.{BoardBuilder}
 use Rattle.board_after.specs.After.{rank, file, king, twoApart, manOn, castles, corner, passedOver, rookMoved, takesInPassing, pawnRemoved, setDown}
 use Rattle.board_after.specs.After.{squaresAfter, afterAnswer}

@@ -9,9 +9,9 @@ use lib.Dec.{eqb}
 use lib.ListN.{length, getD, take, length-take, length-append}
 use lib.Seq.{take-all}
 use borrow.Author.Tests.{le-leb, lt-leb, eqb-true, eqb-false}
-use Rattle.square.specs.Numbers.{same}
-use Rattle.square.proofs.Numbers.{both-left, both-right}
-use Rattle.square.proofs.Same.{same-lengths}
+use Rattle.answer.specs.Numbers.{same}
+use Rattle.answer.proofs.Numbers.{both-left, both-right}
+use Rattle.answer.proofs.Same.{same-lengths}
 use Rattle.board_builder.specs.declared.BoardBuilder.{BoardBuilder}
 use Rattle.board_builder.specs.BoardBuilder.{boardOf, numbers, recordSize}
 use Rattle.board_after.specs.After.{manOn, squaresAfter, rightsAfter, sideAfter, fileAfter, afterParts, boardAfter, recordAfter}

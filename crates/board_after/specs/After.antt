@@ -5,7 +5,7 @@ use mathlib.Core.List.{List}
 use Prim.Native.Nat.{ℕ, _+_, _-_, _/_, _%_}
 use lib.Dec.{eqb, leb, ltb}
 use lib.ListN.{getD, set}
-use Rattle.square.specs.Answer.{outOfRange, badList}
+use Rattle.answer.specs.Answer.{outOfRange, badList}
 use Rattle.square.specs.Piece.{kindOf}
 use Rattle.square.specs.Square.{squareOf}
 use Rattle.castle_rights.specs.CastleRights.{castlesAt, removed}

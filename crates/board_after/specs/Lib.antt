@@ -1,5 +1,5 @@
 pub mod After
 pub mod AtSmallest
 pub mod Leads
-pub mod Differ
+pub mod CodeDiffer
 pub mod Promises

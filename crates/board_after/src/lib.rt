@@ -1,4 +1,7 @@
 // The board after a move, after board.rs: the record that a listed move leaves, by document 02, order 9.
+use answer::ACCEPTED;
+use answer::BAD_LIST;
+use answer::OUT_OF_RANGE;
 use board_builder::BLACK_RIGHTS_AT;
 use board_builder::BoardBuilder;
 use board_builder::EN_PASSANT_AT;
@@ -7,22 +10,19 @@ use board_builder::SIDE_AT;
 use board_builder::Stepped;
 use board_builder::WHITE_RIGHTS_AT;
 use chess_move::LAST_MOVE;
-use square::ACCEPTED;
-use square::BAD_LIST;
-use square::OUT_OF_RANGE;
 ghost use mathlib.Core.Path.{_≡_};
 ghost use mathlib.Core.Bool.{_&&_};
 ghost use Prim.Native.Nat.{_-_, _≤_, _<_};
 ghost use lib.Dec.{eqb};
 ghost use lib.ListN.{length, take, set};
-ghost use Rattle.square.specs.Numbers.{same};
+ghost use Rattle.answer.specs.Numbers.{same};
 ghost use Rattle.board_builder.specs.BoardBuilder.{boardOf, numbers, recordSize};
 ghost use Rattle.board_builder.specs.Steps.{stepped};
 ghost use Rattle.board_after.specs.After.{colourStep, enemyPawn, twoApart, castles, corner, rookMoved, takesInPassing, pawnRemoved, setDown};
 ghost use Rattle.board_after.specs.After.{squaresAfter, rightsWithout, rightsAfter, sideAfter, stepsTwice, stoodBefore, stoodBehind, fileAfter};
 ghost use Rattle.board_after.specs.After.{afterParts, recordAfter, afterAnswer};
 ghost use Rattle.board_after.specs.Leads.{leadsTo, leadsToBoard};
-ghost use Rattle.board_after.specs.Differ.{differs, differing, touchesMore};
+ghost use Rattle.board_after.specs.CodeDiffer.{differs, differing, touchesMore};
 
 const SQUARES: usize = 64;
 
@@ -47,7 +47,7 @@ fn two_apart(a: u8, b: u8) -> bool
     requires { ⌜ (a < 64) × (b < 64) ⌝ }
     ensures { λ r. ⌜ r ≡ twoApart a b ⌝ }
 {
-    square::either(b == a + 2, a == b + 2)
+    answer::either(b == a + 2, a == b + 2)
 }
 
 // Castling is a king going two files along its rank. Here and below there is no branch, since which man moves cannot be predicted.
@@ -56,9 +56,9 @@ fn castles(man: u8, source: u8, dest: u8) -> bool
     ensures { λ r. ⌜ r ≡ castles man source dest ⌝ }
 {
     let two = two_apart(source, dest);
-    square::both(
+    answer::both(
         square::kind_of(man) == KING,
-        square::both(source / 8 == dest / 8, two),
+        answer::both(source / 8 == dest / 8, two),
     )
 }
 
@@ -93,9 +93,9 @@ fn takes_in_passing(squares: &[u8], man: u8, source: u8, dest: u8) -> bool
     ensures { λ r. ⌜ r ≡ takesInPassing (now (squares .entry)) man source dest ⌝ }
 {
     let empty = squares[dest as usize] == 0;
-    square::both(
+    answer::both(
         square::kind_of(man) == PAWN,
-        square::both(source % 8 != dest % 8, empty),
+        answer::both(source % 8 != dest % 8, empty),
     )
 }
 
@@ -162,7 +162,7 @@ fn steps_twice(man: u8, source: u8, dest: u8) -> bool
     requires { ⌜ (source < 64) × (dest < 64) ⌝ }
     ensures { λ r. ⌜ r ≡ stepsTwice man source dest ⌝ }
 {
-    if !square::either(dest == source + 16, source == dest + 16) {
+    if !answer::either(dest == source + 16, source == dest + 16) {
         return false;
     }
     square::kind_of(man) == PAWN
@@ -203,7 +203,7 @@ fn file_after(squares: &[u8], man: u8, source: u8, dest: u8) -> u8
         return 0;
     }
     let enemy = enemy_pawn(man);
-    if !square::either(
+    if !answer::either(
         stood_before(squares, dest, enemy),
         stood_behind(squares, dest, enemy),
     ) {
@@ -276,9 +276,9 @@ fn touches_more(squares: &[u8], man: u8, source: u8, dest: u8) -> bool
     ensures { λ r. ⌜ r ≡ touchesMore (now (squares .entry)) man source dest ⌝ }
 {
     let passing = takes_in_passing(squares, man, source, dest);
-    square::either(
+    answer::either(
         castles(man, source, dest),
-        square::either(passing, source == dest),
+        answer::either(passing, source == dest),
     )
 }
 
@@ -317,7 +317,7 @@ fn all_set(old: &[u8], source: u8, dest: u8, promotion: u8, new: &[u8]) -> bool
     let mut squares = [0u8; 64];
     copy(old, &mut squares);
     move_men(&mut squares, source, dest, promotion);
-    square::same_bytes(new, &squares)
+    answer::same_bytes(new, &squares)
 }
 
 fn squares_follow(old: &[u8], source: u8, dest: u8, promotion: u8, new: &[u8]) -> bool
@@ -336,8 +336,8 @@ fn rights_follow(white: u8, black: u8, source: u8, dest: u8, left: u8, right: u8
     requires { ⌜ (source < 64) × (dest < 64) ⌝ }
     ensures { λ r. ⌜ r ≡ (eqb left (rightsAfter 0 white source dest) && eqb right (rightsAfter 1 black source dest)) ⌝ }
 {
-    if square::both(white == 0, black == 0) {
-        return square::both(left == 0, right == 0);
+    if answer::both(white == 0, black == 0) {
+        return answer::both(left == 0, right == 0);
     }
     if left != rights_after(0, white, source, dest) {
         return false;
@@ -405,7 +405,7 @@ fn record_at(p: &[u8]) -> BoardBuilder
 fn same_squares(a: [u8; 64], b: [u8; 64]) -> bool
     ensures { λ r. ⌜ r ≡ same a b ⌝ }
 {
-    square::same_bytes(&a, &b)
+    answer::same_bytes(&a, &b)
 }
 
 fn same_record(a: BoardBuilder, b: BoardBuilder) -> bool

@@ -6,8 +6,8 @@ use Prim.Native.Nat.{ℕ, _+_, _≤_, _<_}
 use native.Mathlib.Omega.{arith}
 use lib.ListN.{length, take, getD, set, length-append, drop-of-length-le}
 use lib.Seq.{take-all}
-use Rattle.square.specs.Parts.{written}
-use Rattle.square.proofs.Parts.{written-next, bytes-turn}
+use Rattle.answer.specs.Parts.{written}
+use Rattle.answer.proofs.Parts.{written-next, bytes-turn}
 use Rattle.board_builder.specs.declared.BoardBuilder.{BoardBuilder}
 use Rattle.board_builder.specs.BoardBuilder.{squares, recordSize, numbers}
 

@@ -2,7 +2,7 @@
 -- Assumes nothing.
 use mathlib.Core.Path.{sym, _∙_}
 use denote.Ref.{now}
-use Rattle.square.specs.Determined.{OneAnswer, OnePart}
+use Rattle.answer.specs.Determined.{OneAnswer, OnePart}
 use Rattle.board_builder.proofs.numbers_in_range.Reads as numbers-in-range
 use Rattle.board_builder.proofs.numbers_in_range.Kinds as numbers-in-range·k
 use Rattle.board_builder.proofs.BoardBuilder.new.Reads as new

@@ -6,9 +6,9 @@ use Prim.Native.Nat.{_≤_}
 use lib.Dec.{eqb, leb}
 use lib.ListN.{length}
 use borrow.Author.Tests.{leb-true, eqb-true, eq-eqb, le-leb}
-use Rattle.square.proofs.Numbers.{both-left, both-right}
+use Rattle.answer.proofs.Numbers.{both-left, both-right}
 use Rattle.board_builder.specs.declared.BoardBuilder.{BoardBuilder}
-use Rattle.square.specs.Numbers.{allAtMost}
+use Rattle.answer.specs.Numbers.{allAtMost}
 use Rattle.board_builder.specs.BoardBuilder.{squares, inRange}
 
 pub record InRange (b : BoardBuilder) : Type 0 where

@@ -7,12 +7,12 @@ use native.Mathlib.Omega.{arith}
 use lib.Dec.{eqb, leb}
 use lib.ListN.{length-set}
 use borrow.Author.Tests.{leb-true}
-use Rattle.square.specs.Answer.{outOfRange}
+use Rattle.answer.specs.Answer.{outOfRange}
 use Rattle.board_builder.specs.declared.BoardBuilder.{BoardBuilder}
 use Rattle.board_builder.specs.BoardBuilder.{inRange}
 use Rattle.board_builder.specs.Steps.{stepped, step, withPiece, withRights}
 use Rattle.board_builder.specs.Promises.{KeepsRange, EveryStepKeepsRange, OutOfRangeHandsBack}
-use Rattle.square.proofs.Numbers.{both-left, both-right, most-set}
+use Rattle.answer.proofs.Numbers.{both-left, both-right, most-set}
 use Rattle.board_builder.proofs.Ranges.{InRange, in-range, range-holds}
 
 pub out-of-range-hands-back : OutOfRangeHandsBack

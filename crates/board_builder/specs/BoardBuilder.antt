@@ -5,7 +5,7 @@ use mathlib.Core.Bool.{Bool, _&&_}
 use mathlib.Core.List.{List, [], _∷_, _++_}
 use lib.Dec.{leb, eqb}
 use lib.ListN.{length, take, getD, replicate}
-use Rattle.square.specs.Numbers.{allAtMost}
+use Rattle.answer.specs.Numbers.{allAtMost}
 use Rattle.board_builder.specs.declared.BoardBuilder.{BoardBuilder}
 
 -- the record of these numbers

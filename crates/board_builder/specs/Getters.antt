@@ -4,8 +4,8 @@ use Prim.Native.Nat.{ℕ, _-_}
 use mathlib.Core.Bool.{cond, _&&_}
 use lib.Dec.{leb, eqb}
 use lib.ListN.{getD}
-use Rattle.square.specs.declared.Answer.{Answer}
-use Rattle.square.specs.Answer.{inRangeOr5}
+use Rattle.answer.specs.declared.Answer.{Answer}
+use Rattle.answer.specs.Answer.{inRangeOr5}
 use Rattle.square.specs.Square.{squareOf}
 use Rattle.board_builder.specs.declared.BoardBuilder.{BoardBuilder}
 use Rattle.board_builder.specs.BoardBuilder.{inRange}
@@ -13,11 +13,11 @@ use Rattle.board_builder.specs.BoardBuilder.{inRange}
 abbrev pub pieceOn : BoardBuilder → ℕ → Answer
 pieceOn b square = inRangeOr5 (inRange b && leb square 63) (getD (b .pieces) square 0)
 
-abbrev pub sideOf : BoardBuilder → Answer
-sideOf b = inRangeOr5 (inRange b) (b .«side_to_move»)
+abbrev pub sideAnswer : BoardBuilder → Answer
+sideAnswer b = inRangeOr5 (inRange b) (b .«side_to_move»)
 
-abbrev pub rightsOf : BoardBuilder → ℕ → Answer
-rightsOf b colour = inRangeOr5 (inRange b && leb colour 1) (cond (eqb colour 0) (b .«white_castle_rights») (b .«black_castle_rights»))
+abbrev pub rightsAnswer : BoardBuilder → ℕ → Answer
+rightsAnswer b colour = inRangeOr5 (inRange b && leb colour 1) (cond (eqb colour 0) (b .«white_castle_rights») (b .«black_castle_rights»))
 
 -- the rank behind the pawn that went two squares: 6 with white to move, 3 with black (PGN standard 16.1.3.4), counted from 0
 abbrev pub enPassantRank : ℕ → ℕ

@@ -5,7 +5,7 @@ use mathlib.Core.Path.{_≡_}
 use mathlib.Core.Bool.{Bool, true, false, _&&_}
 use mathlib.Core.List.{List}
 use lib.ListN.{length}
-use Rattle.square.specs.Answer.{outOfRange}
+use Rattle.answer.specs.Answer.{outOfRange}
 use Rattle.board_builder.specs.declared.BoardBuilder.{BoardBuilder}
 use Rattle.board_builder.specs.declared.Stepped.{Stepped}
 use Rattle.board_builder.specs.BoardBuilder.{numbers, boardOf, recordSize, inRange}

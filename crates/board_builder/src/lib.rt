@@ -2,18 +2,18 @@
 // A step given a number out of range, its record's too, hands its record back with 5.
 mod initial;
 
+use answer::ACCEPTED;
+use answer::Answer;
+use answer::OUT_OF_RANGE;
 use initial::INITIAL;
-use square::ACCEPTED;
-use square::Answer;
-use square::OUT_OF_RANGE;
 ghost use mathlib.Core.Path.{_≡_};
 ghost use Prim.Native.Nat.{_*_, _<_, max};
 ghost use lib.ListN.{length, take, drop};
-ghost use Rattle.square.specs.Answer.{writeAnswer, writeBytes};
-ghost use Rattle.square.specs.Numbers.{allAtMost, largest};
+ghost use Rattle.answer.specs.Answer.{writeAnswer, writeBytes};
+ghost use Rattle.answer.specs.Numbers.{allAtMost, largest};
 ghost use Rattle.board_builder.specs.BoardBuilder.{numbers, inRange, numbersInRange, emptyBoard, initialBoard};
 ghost use Rattle.board_builder.specs.Steps.{stepped, setPiece, clearSquare, setSide, setRights, setEnPassant};
-ghost use Rattle.board_builder.specs.Getters.{pieceOn, sideOf, rightsOf, enPassantSquare};
+ghost use Rattle.board_builder.specs.Getters.{pieceOn, sideAnswer, rightsAnswer, enPassantSquare};
 
 // How many numbers a record has.
 pub const RECORD_SIZE: usize = 68;
@@ -99,7 +99,7 @@ pub fn numbers_in_range(numbers: &[u8]) -> bool
     if 8 < numbers[EN_PASSANT_AT] {
         return false;
     }
-    square::all_at_most(&numbers[..SQUARES], 12)
+    answer::all_at_most(&numbers[..SQUARES], 12)
 }
 
 impl BoardBuilder {
@@ -152,33 +152,33 @@ impl BoardBuilder {
         ensures { λ r. ⌜ r ≡ pieceOn self square ⌝ }
     {
         if !self.in_range() {
-            return square::refused(OUT_OF_RANGE);
+            return answer::refused(OUT_OF_RANGE);
         }
         if 63 < square {
-            return square::refused(OUT_OF_RANGE);
+            return answer::refused(OUT_OF_RANGE);
         }
-        square::accepted_byte(self.pieces[square as usize])
+        answer::accepted_byte(self.pieces[square as usize])
     }
 
     pub fn get_side_to_move(self) -> Answer
-        ensures { λ r. ⌜ r ≡ sideOf self ⌝ }
+        ensures { λ r. ⌜ r ≡ sideAnswer self ⌝ }
     {
         if !self.in_range() {
-            return square::refused(OUT_OF_RANGE);
+            return answer::refused(OUT_OF_RANGE);
         }
-        square::accepted_byte(self.side_to_move)
+        answer::accepted_byte(self.side_to_move)
     }
 
     pub fn get_castle_rights(self, color: u8) -> Answer
-        ensures { λ r. ⌜ r ≡ rightsOf self color ⌝ }
+        ensures { λ r. ⌜ r ≡ rightsAnswer self color ⌝ }
     {
         if !self.in_range() {
-            return square::refused(OUT_OF_RANGE);
+            return answer::refused(OUT_OF_RANGE);
         }
         match color {
-            0 => square::accepted_byte(self.white_castle_rights),
-            1 => square::accepted_byte(self.black_castle_rights),
-            _ => square::refused(OUT_OF_RANGE),
+            0 => answer::accepted_byte(self.white_castle_rights),
+            1 => answer::accepted_byte(self.black_castle_rights),
+            _ => answer::refused(OUT_OF_RANGE),
         }
     }
 
@@ -187,16 +187,16 @@ impl BoardBuilder {
         ensures { λ r. ⌜ r ≡ enPassantSquare self ⌝ }
     {
         if !self.in_range() {
-            return square::refused(OUT_OF_RANGE);
+            return answer::refused(OUT_OF_RANGE);
         }
         let file = self.en_passant;
         if file == 0 {
-            return square::accepted(0);
+            return answer::accepted(0);
         }
         if self.side_to_move == 0 {
-            return square::accepted_byte(5 * 8 + (file - 1));
+            return answer::accepted_byte(5 * 8 + (file - 1));
         }
-        square::accepted_byte(2 * 8 + (file - 1))
+        answer::accepted_byte(2 * 8 + (file - 1))
     }
 
     fn stepped(self, number: u64) -> Stepped
@@ -311,6 +311,6 @@ impl BoardBuilder {
         ensures bytes { λ r. ⌜ now (out .exit) ≡ writeBytes 0 (numbers self) (now (out .entry)) ⌝ }
     {
         let text = self.bytes();
-        square::write_text(&text, out)
+        answer::write_text(&text, out)
     }
 }

@@ -2,7 +2,7 @@
 -- Assumes nothing.
 use mathlib.Core.Path.{sym, _∙_}
 use denote.Ref.{now}
-use Rattle.square.specs.Determined.{OneAnswer, OnePart}
+use Rattle.answer.specs.Determined.{OneAnswer, OnePart}
 use Rattle.castle_rights.proofs.has_kingside.Reads as has-kingside
 use Rattle.castle_rights.proofs.has_kingside.Kinds as has-kingside·k
 use Rattle.castle_rights.proofs.has_queenside.Reads as has-queenside

@@ -1,7 +1,7 @@
 -- The rights of squares, each kind of square once: files a, e and h of the colour's own back rank, another file of it, the other colour's back rank.
 -- Assumes nothing.
 use mathlib.Core.Path.{_≡_}
-use Rattle.square.specs.Answer.{accepted}
+use Rattle.answer.specs.Answer.{accepted}
 use Rattle.castle_rights.specs.CastleRights.{squareRights}
 
 pub record RightsAtSmallest : Type 0 where

@@ -4,8 +4,8 @@ use Prim.Native.Nat.{ℕ, _+_, _*_, _-_, _/_, _%_, max}
 use mathlib.Core.Bool.{cond, _&&_}
 use mathlib.Core.List.{List, [], _∷_, _++_}
 use lib.Dec.{ltb, eqb}
-use Rattle.square.specs.declared.Answer.{Answer}
-use Rattle.square.specs.Answer.{accepted, refused, inRangeOr5, outOfRange}
+use Rattle.answer.specs.declared.Answer.{Answer}
+use Rattle.answer.specs.Answer.{accepted, refused, inRangeOr5, outOfRange}
 
 -- the two bits, and the number that they make
 abbrev pub king : ℕ → ℕ

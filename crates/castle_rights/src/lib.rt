@@ -1,10 +1,10 @@
 // Castling rights, after castle_rights.rs: 0 none, 1 king side, 2 queen side, 3 both. A number out of range is answered 5.
-use square::Answer;
-use square::OUT_OF_RANGE;
+use answer::Answer;
+use answer::OUT_OF_RANGE;
 ghost use mathlib.Core.Path.{_≡_};
 ghost use Prim.Native.Nat.{_<_};
 ghost use lib.ListN.{length};
-ghost use Rattle.square.specs.Answer.{writeAnswer, writeBytes};
+ghost use Rattle.answer.specs.Answer.{writeAnswer, writeBytes};
 ghost use Rattle.castle_rights.specs.CastleRights.{fromIndex, hasKing, hasQueen, byFile, squareRights, removeRights, addRights, rookRights};
 ghost use Rattle.castle_rights.specs.CastleRights.{lettersOf, lettersText, lettersCheck};
 
@@ -12,18 +12,18 @@ pub fn has_kingside(rights: u8) -> Answer
     ensures { λ r. ⌜ r ≡ hasKing rights ⌝ }
 {
     if 4 <= rights {
-        return square::refused(OUT_OF_RANGE);
+        return answer::refused(OUT_OF_RANGE);
     }
-    square::accepted_byte(rights % 2)
+    answer::accepted_byte(rights % 2)
 }
 
 pub fn has_queenside(rights: u8) -> Answer
     ensures { λ r. ⌜ r ≡ hasQueen rights ⌝ }
 {
     if 4 <= rights {
-        return square::refused(OUT_OF_RANGE);
+        return answer::refused(OUT_OF_RANGE);
     }
-    square::accepted_byte(rights / 2)
+    answer::accepted_byte(rights / 2)
 }
 
 // On a back rank: the queen's rook stands on file a, the king on e, the king's rook on h.
@@ -43,49 +43,49 @@ pub fn square_to_castle_rights(color: u8, square: u8) -> Answer
     ensures { λ r. ⌜ r ≡ squareRights color square ⌝ }
 {
     if 2 <= color {
-        return square::refused(OUT_OF_RANGE);
+        return answer::refused(OUT_OF_RANGE);
     }
     if 64 <= square {
-        return square::refused(OUT_OF_RANGE);
+        return answer::refused(OUT_OF_RANGE);
     }
     let file = square % 8;
     if square == color * 56 + file {
-        return square::accepted_byte(by_file(file));
+        return answer::accepted_byte(by_file(file));
     }
-    square::accepted(0)
+    answer::accepted(0)
 }
 
 pub fn remove(rights: u8, remove: u8) -> Answer
     ensures { λ r. ⌜ r ≡ removeRights rights remove ⌝ }
 {
     if 4 <= rights {
-        return square::refused(OUT_OF_RANGE);
+        return answer::refused(OUT_OF_RANGE);
     }
     if 4 <= remove {
-        return square::refused(OUT_OF_RANGE);
+        return answer::refused(OUT_OF_RANGE);
     }
-    square::accepted_byte(rights & !remove)
+    answer::accepted_byte(rights & !remove)
 }
 
 pub fn add(rights: u8, add: u8) -> Answer
     ensures { λ r. ⌜ r ≡ addRights rights add ⌝ }
 {
     if 4 <= rights {
-        return square::refused(OUT_OF_RANGE);
+        return answer::refused(OUT_OF_RANGE);
     }
     if 4 <= add {
-        return square::refused(OUT_OF_RANGE);
+        return answer::refused(OUT_OF_RANGE);
     }
-    square::accepted_byte(rights | add)
+    answer::accepted_byte(rights | add)
 }
 
 pub fn from_index(i: u8) -> Answer
     ensures { λ r. ⌜ r ≡ fromIndex i ⌝ }
 {
     if 4 <= i {
-        return square::refused(OUT_OF_RANGE);
+        return answer::refused(OUT_OF_RANGE);
     }
-    square::accepted_byte(i)
+    answer::accepted_byte(i)
 }
 
 // Writes the letters of the rights that hold, king side first.
@@ -96,10 +96,10 @@ fn write_letters(rights: u8, king: u8, queen: u8, out: &mut [u8]) -> Answer
 {
     let both = [king, queen];
     match rights {
-        1 => square::write_text(&both[..1], out),
-        2 => square::write_text(&both[1..], out),
-        3 => square::write_text(&both, out),
-        _ => square::write_text(&both[..0], out),
+        1 => answer::write_text(&both[..1], out),
+        2 => answer::write_text(&both[1..], out),
+        3 => answer::write_text(&both, out),
+        _ => answer::write_text(&both[..0], out),
     }
 }
 
@@ -109,10 +109,10 @@ pub fn to_string(rights: u8, color: u8, out: &mut [u8]) -> Answer
     ensures bytes { λ r. ⌜ now (out .exit) ≡ writeBytes (lettersCheck rights color) (lettersText rights color) (now (out .entry)) ⌝ }
 {
     if 4 <= rights {
-        return square::refused(OUT_OF_RANGE);
+        return answer::refused(OUT_OF_RANGE);
     }
     if 2 <= color {
-        return square::refused(OUT_OF_RANGE);
+        return answer::refused(OUT_OF_RANGE);
     }
     if color == 0 {
         return write_letters(rights, b'K', b'Q', out);
@@ -125,12 +125,12 @@ pub fn rook_square_to_castle_rights(square: u8) -> Answer
     ensures { λ r. ⌜ r ≡ rookRights square ⌝ }
 {
     if 64 <= square {
-        return square::refused(OUT_OF_RANGE);
+        return answer::refused(OUT_OF_RANGE);
     }
     let file = square % 8;
     match file {
-        0 => square::accepted(2),
-        7 => square::accepted(1),
-        _ => square::refused(OUT_OF_RANGE),
+        0 => answer::accepted(2),
+        7 => answer::accepted(1),
+        _ => answer::refused(OUT_OF_RANGE),
     }
 }

@@ -1,7 +1,7 @@
 -- Order 3 at its smallest inputs, each computed.
 -- Assumes nothing.
 use mathlib.Core.Path.{refl}
-use Rattle.square.specs.Ascii.{ascii}
+use Rattle.answer.specs.Ascii.{ascii}
 use Rattle.square.specs.Square.{readSquare, told}
 use Rattle.chess_move.specs.Coordinate.{promotionNamed, withDest, withSource, readMove}
 use Rattle.chess_move.specs.AtSmallest.{MovesAtSmallest}

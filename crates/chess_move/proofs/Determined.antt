@@ -2,7 +2,7 @@
 -- Assumes nothing.
 use mathlib.Core.Path.{sym, _∙_}
 use denote.Ref.{now}
-use Rattle.square.specs.Determined.{OneAnswer, OnePart}
+use Rattle.answer.specs.Determined.{OneAnswer, OnePart}
 use Rattle.chess_move.proofs.source_of.Reads as source-of
 use Rattle.chess_move.proofs.source_of.Kinds as source-of·k
 use Rattle.chess_move.proofs.dest_of.Reads as dest-of

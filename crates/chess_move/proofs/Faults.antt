@@ -10,13 +10,14 @@ use native.Mathlib.Omega.{arith}
 use lib.Dec.{eqb}
 use lib.ListN.{length, getD}
 use borrow.Author.Tests.{eqb-true, eqb-false, ne-eqb, lt-ltb, le-ltb}
-use Rattle.square.specs.declared.Answer.{Answer}
-use Rattle.square.specs.declared.Placed.{Placed}
-use Rattle.square.specs.Answer.{accepted, refused, readAs, faultAt, invalidSquare, invalidUciMove}
-use Rattle.square.specs.Ascii.{ascii}
-use Rattle.square.specs.Numbers.{among}
-use Rattle.square.specs.Square.{squareOf, between, readSquare, told}
-use Rattle.square.proofs.Below.{agree}
+use Rattle.answer.specs.declared.Answer.{Answer}
+use Rattle.answer.specs.declared.Placed.{Placed}
+use Rattle.answer.specs.Answer.{accepted, refused, readAs, faultAt, invalidSquare, invalidUciMove}
+use Rattle.answer.specs.Ascii.{ascii}
+use Rattle.answer.specs.Numbers.{among}
+use Rattle.answer.specs.Numbers.{between}
+use Rattle.square.specs.Square.{squareOf, readSquare, told}
+use Rattle.answer.proofs.Below.{agree}
 use Rattle.square.proofs.Squares.{read-short}
 use Rattle.chess_move.specs.Number.{numberOf}
 use Rattle.chess_move.specs.Coordinate.{promotionNamed, withDest, withSource, readMove}

@@ -6,11 +6,11 @@ use Prim.Native.Nat.{ℕ}
 use native.Mathlib.Omega.{arith}
 use lib.Dec.{leb, lit≤}
 use lib.ListN.{replicate}
-use Rattle.square.specs.declared.Placed.{Placed}
-use Rattle.square.specs.Answer.{readAs, badList}
-use Rattle.square.specs.Ascii.{ascii}
+use Rattle.answer.specs.declared.Placed.{Placed}
+use Rattle.answer.specs.Answer.{readAs, badList}
+use Rattle.answer.specs.Ascii.{ascii}
 use Rattle.square.specs.Square.{readSquare}
-use Rattle.square.proofs.ItsText.{writers-keep-its-text, passed-or}
+use Rattle.answer.proofs.ItsText.{writers-keep-its-text, passed-or}
 use Rattle.chess_move.specs.Number.{lastMove}
 use Rattle.chess_move.specs.Coordinate.{withDest, withSource, readMove, moveText, moveCheck}
 use Rattle.chess_move.specs.Promises.{RefusingReaderFails, MoveTellsItsLength}

@@ -9,14 +9,14 @@ use lib.Dec.{eqb, eqb→eq}
 use lib.ListN.{length, drop}
 use lib.Seq.{take-at}
 use borrow.Author.Tests.{le-leb, eq-eqb, eqb-true, eqb-false}
-use Rattle.square.specs.declared.Answer.{Answer}
+use Rattle.answer.specs.declared.Answer.{Answer}
 use Rattle.square.specs.declared.Pair.the-variants.{Square}
-use Rattle.square.specs.Answer.{accepted, readAs, faultAt, invalidUciMove, overwrite, writeAnswer, writeBytes}
+use Rattle.answer.specs.Answer.{accepted, readAs, faultAt, invalidUciMove, overwrite, writeAnswer, writeBytes}
 use Rattle.square.specs.Square.{squareNamed, readSquare}
 use Rattle.square.specs.Piece.{letterOf}
-use Rattle.square.proofs.Below.{below}
+use Rattle.answer.proofs.Below.{below}
 use Rattle.square.proofs.Squares.{square-reads-back}
-use Rattle.square.proofs.Writes.{write-fits}
+use Rattle.answer.proofs.Writes.{write-fits}
 use Rattle.chess_move.specs.Number.{lastMove, sourceOf, destOf, promotionOf, numberOf}
 use Rattle.chess_move.specs.Coordinate.{promotionNamed, promoted, ended, readMove, moveText, moveCheck}
 use Rattle.chess_move.specs.Promises.{readable, MovesReadBack}

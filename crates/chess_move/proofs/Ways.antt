@@ -7,7 +7,7 @@ use native.Mathlib.Omega.{arith}
 use lib.ListN.{length, getD, drop}
 use borrow.Author.Tests.{eq-eqb, ne-eqb}
 use Rattle.square.specs.declared.Pair.the-variants.{Square, BadFile, BadRank, Missing}
-use Rattle.square.specs.Answer.{readAs, faultAt, invalidUciMove}
+use Rattle.answer.specs.Answer.{readAs, faultAt, invalidUciMove}
 use Rattle.square.specs.Square.{readSquare, told}
 use Rattle.square.specs.Piece.{letterOf}
 use Rattle.chess_move.specs.Number.{sourceOf, destOf, promotionOf, numberOf}

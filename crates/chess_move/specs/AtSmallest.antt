@@ -3,8 +3,8 @@
 use Prim.Native.Nat.{ℕ}
 use Prim.Native.String.{String}
 use mathlib.Core.Path.{_≡_}
-use Rattle.square.specs.Answer.{readAs, faultAt, invalidSquare, invalidUciMove}
-use Rattle.square.specs.Ascii.{ascii}
+use Rattle.answer.specs.Answer.{readAs, faultAt, invalidSquare, invalidUciMove}
+use Rattle.answer.specs.Ascii.{ascii}
 use Rattle.chess_move.specs.Coordinate.{readMove}
 
 -- a coordinate text's answer

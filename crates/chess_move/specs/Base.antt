@@ -5,9 +5,10 @@ use mathlib.Core.Bool.{Bool, cond, not, _&&_}
 use mathlib.Core.List.{List}
 use lib.Dec.{eqb, ltb}
 use lib.ListN.{length, getD}
-use Rattle.square.specs.declared.Answer.{Answer}
-use Rattle.square.specs.Answer.{accepted, refused, invalidSquare, invalidUciMove}
-use Rattle.square.specs.Square.{squareOf, between}
+use Rattle.answer.specs.declared.Answer.{Answer}
+use Rattle.answer.specs.Answer.{accepted, refused, invalidSquare, invalidUciMove}
+use Rattle.answer.specs.Numbers.{between}
+use Rattle.square.specs.Square.{squareOf}
 use Rattle.chess_move.specs.Number.{numberOf}
 use Rattle.chess_move.specs.Coordinate.{promotionNamed}
 

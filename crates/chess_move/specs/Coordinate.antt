@@ -7,10 +7,10 @@ use mathlib.Core.Bool.{cond}
 use mathlib.Core.List.{List, [], _∷_, _++_}
 use lib.Dec.{eqb, leb}
 use lib.ListN.{length, getD, drop}
-use Rattle.square.specs.declared.Placed.{Placed}
+use Rattle.answer.specs.declared.Placed.{Placed}
 use Rattle.square.specs.declared.Pair.{Pair}
 use Rattle.square.specs.declared.Pair.the-variants.{Square, BadFile, BadRank, Missing}
-use Rattle.square.specs.Answer.{readAs, faultAt, invalidUciMove, badList}
+use Rattle.answer.specs.Answer.{readAs, faultAt, invalidUciMove, badList}
 use Rattle.square.specs.Square.{readSquare, told, squareText}
 use Rattle.square.specs.Piece.{letterOf}
 use Rattle.chess_move.specs.Number.{lastMove, sourceOf, destOf, promotionOf, numberOf}

@@ -7,10 +7,10 @@ use mathlib.Core.List.{List}
 use mathlib.Core.Logic.{_⊎_}
 use lib.Dec.{eqb}
 use lib.ListN.{length, getD}
-use Rattle.square.specs.Answer.{faultAt, invalidSquare, invalidUciMove}
-use Rattle.square.specs.Ascii.{ascii}
-use Rattle.square.specs.Numbers.{among}
-use Rattle.square.specs.Square.{between}
+use Rattle.answer.specs.Answer.{faultAt, invalidSquare, invalidUciMove}
+use Rattle.answer.specs.Ascii.{ascii}
+use Rattle.answer.specs.Numbers.{among}
+use Rattle.answer.specs.Numbers.{between}
 use Rattle.chess_move.specs.Coordinate.{readMove}
 use Rattle.chess_move.specs.Base.{baseMove}
 

@@ -4,8 +4,8 @@
 use Prim.Native.Nat.{ℕ, _+_, _*_, _/_, _%_}
 use mathlib.Core.Bool.{_&&_}
 use lib.Dec.{leb}
-use Rattle.square.specs.declared.Answer.{Answer}
-use Rattle.square.specs.Answer.{inRangeOr5}
+use Rattle.answer.specs.declared.Answer.{Answer}
+use Rattle.answer.specs.Answer.{inRangeOr5}
 use Rattle.chess_move.specs.declared.ChessMove.{ChessMove}
 
 abbrev pub lastMove : ℕ

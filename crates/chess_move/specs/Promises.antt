@@ -6,10 +6,10 @@ use mathlib.Core.Bool.{Bool, cond, _||_}
 use mathlib.Core.List.{List}
 use lib.Dec.{eqb}
 use lib.ListN.{length, take}
-use Rattle.square.specs.declared.Placed.{Placed}
-use Rattle.square.specs.Promises.{ItsText}
-use Rattle.square.specs.Answer.{accepted, readAs, faultAt, invalidUciMove, writeAnswer, writeBytes}
-use Rattle.square.specs.Square.{between}
+use Rattle.answer.specs.declared.Placed.{Placed}
+use Rattle.answer.specs.Promises.{ItsText}
+use Rattle.answer.specs.Answer.{accepted, readAs, faultAt, invalidUciMove, writeAnswer, writeBytes}
+use Rattle.answer.specs.Numbers.{between}
 use Rattle.chess_move.specs.declared.ChessMove.{ChessMove}
 use Rattle.chess_move.specs.Number.{lastMove, promotionOf, moveOf, numberAnswer}
 use Rattle.chess_move.specs.Coordinate.{readMove, moveText, moveCheck}

@@ -1,13 +1,13 @@
 // The move and its coordinate text, after chess_move.rs: source, destination and promotion, as one number, as e2e4 or e7e8q.
-use square::Answer;
-use square::BAD_LIST;
-use square::INVALID_UCI_MOVE;
-use square::OUT_OF_RANGE;
+use answer::Answer;
+use answer::BAD_LIST;
+use answer::INVALID_UCI_MOVE;
+use answer::OUT_OF_RANGE;
+use answer::Placed;
 use square::Pair;
-use square::Placed;
 ghost use mathlib.Core.Path.{_≡_};
 ghost use lib.ListN.{length};
-ghost use Rattle.square.specs.Answer.{writeAnswer, writeBytes};
+ghost use Rattle.answer.specs.Answer.{writeAnswer, writeBytes};
 ghost use Rattle.chess_move.specs.Number.{sourceOf, destOf, moveOf, numberAnswer};
 ghost use Rattle.chess_move.specs.Coordinate.{promotionNamed, ended, withDest, readMove, moveText, moveCheck};
 
@@ -50,15 +50,15 @@ impl ChessMove {
         ensures { λ r. ⌜ r ≡ numberAnswer self ⌝ }
     {
         if 63 < self.source {
-            return square::refused(OUT_OF_RANGE);
+            return answer::refused(OUT_OF_RANGE);
         }
         if 63 < self.dest {
-            return square::refused(OUT_OF_RANGE);
+            return answer::refused(OUT_OF_RANGE);
         }
         if 6 < self.promotion {
-            return square::refused(OUT_OF_RANGE);
+            return answer::refused(OUT_OF_RANGE);
         }
-        square::accepted(self.source as u64 + 64 * self.dest as u64 + 4096 * self.promotion as u64)
+        answer::accepted(self.source as u64 + 64 * self.dest as u64 + 4096 * self.promotion as u64)
     }
 }
 
@@ -80,13 +80,13 @@ fn ended(text: &[u8], source: u8, dest: u8) -> Placed
     ensures { λ r. ⌜ r ≡ ended (now (text .entry)) source dest ⌝ }
 {
     if text.len() != 5 {
-        return square::read_as(source as u64 + 64 * dest as u64);
+        return answer::read_as(source as u64 + 64 * dest as u64);
     }
     let promotion = promotion_named(text[4]);
     if promotion == 0 {
-        return square::fault_at(INVALID_UCI_MOVE, 4);
+        return answer::fault_at(INVALID_UCI_MOVE, 4);
     }
-    square::read_as(source as u64 + 64 * dest as u64 + 4096 * promotion)
+    answer::read_as(source as u64 + 64 * dest as u64 + 4096 * promotion)
 }
 
 fn with_dest(text: &[u8], source: u8, dest: Pair) -> Placed
@@ -106,7 +106,7 @@ pub fn from_str(text: &[u8]) -> Placed
 {
     let source = square::from_str(text);
     match source {
-        Pair::Square(s) => with_dest(text, s, square::from_str(square::rest(text, 2))),
+        Pair::Square(s) => with_dest(text, s, square::from_str(answer::rest(text, 2))),
         Pair::BadFile => square::told(0, text.len(), Pair::BadFile),
         Pair::BadRank => square::told(0, text.len(), Pair::BadRank),
         Pair::Missing => square::told(0, text.len(), Pair::Missing),
@@ -119,7 +119,7 @@ pub fn to_string(n: u64, out: &mut [u8]) -> Answer
     ensures bytes { λ r. ⌜ now (out .exit) ≡ writeBytes (moveCheck n) (moveText n) (now (out .entry)) ⌝ }
 {
     if LAST_MOVE < n {
-        return square::refused(BAD_LIST);
+        return answer::refused(BAD_LIST);
     }
     let source = (n % 64) as u8;
     let dest = (n / 64 % 64) as u8;
@@ -132,7 +132,7 @@ pub fn to_string(n: u64, out: &mut [u8]) -> Answer
         square::letter_of_piece(promotion + 6),
     ];
     if promotion == 0 {
-        return square::write_text(&text[..4], out);
+        return answer::write_text(&text[..4], out);
     }
-    square::write_text(&text, out)
+    answer::write_text(&text, out)
 }

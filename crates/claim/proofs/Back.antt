@@ -8,8 +8,8 @@ use native.Mathlib.Numerals.{add-one}
 use native.Mathlib.Omega.{arith}
 use lib.Dec.{eqb}
 use borrow.Author.Tests.{ne-eqb, eqb-true, le-leb, lt-leb, not-true}
-use Rattle.square.specs.Parts.{item}
-use Rattle.square.proofs.Numbers.{both-left, both-right}
+use Rattle.answer.specs.Parts.{item}
+use Rattle.answer.proofs.Numbers.{both-left, both-right}
 use Rattle.chess_move.specs.Number.{lastMove}
 use Rattle.actions.specs.Part.{moveAt, movesIn}
 use Rattle.actions.proofs.Counting.{one-more}
@@ -17,7 +17,7 @@ use Rattle.position.specs.Layout.{Position, positionSize, positionOf, positionA
 use Rattle.claim.specs.declared.Run.{Run}
 use Rattle.claim.specs.Emptying.{emptiesCount, emptiesRun}
 use Rattle.claim.specs.Claim.{runBegun, runAfter, runAt}
-use Rattle.claim.specs.Back.{orElse, runBefore, runKnown}
+use Rattle.claim.specs.CodeBack.{orElse, runBefore, runKnown}
 
 or-nothing : (a : ℕ) → orElse a 0 ≡ a
 or-nothing a = go (eqb a 0) refl

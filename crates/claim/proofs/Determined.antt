@@ -1,7 +1,7 @@
 -- Each public function's contract, as the toolchain reads it off the source, permits one answer, and one content of each slice that is lent to be written.
 -- Assumes nothing.
 use mathlib.Core.Path.{sym, _∙_}
-use Rattle.square.specs.Determined.{OneAnswer}
+use Rattle.answer.specs.Determined.{OneAnswer}
 use Rattle.claim.proofs.is_irreversible.Reads as is-irreversible
 use Rattle.claim.proofs.is_irreversible.Kinds as is-irreversible·k
 use Rattle.claim.proofs.run_at.Reads as run-at

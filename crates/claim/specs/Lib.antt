@@ -1,3 +1,3 @@
 pub mod Emptying
 pub mod Claim
-pub mod Back
+pub mod CodeBack

@@ -8,7 +8,7 @@ ghost use mathlib.Core.Bool.{cond};
 ghost use Rattle.position.specs.Layout.{positionOf};
 ghost use Rattle.claim.specs.Emptying.{irreversible, rightsDiffer};
 ghost use Rattle.claim.specs.Claim.{runAfter, runAt, movesSince, claimIn, claimAt};
-ghost use Rattle.claim.specs.Back.{orElse, runBefore, runKnown};
+ghost use Rattle.claim.specs.CodeBack.{orElse, runBefore, runKnown};
 
 // The reversible moves after which a draw may be claimed.
 pub const CLAIM_COUNT: usize = 100;
@@ -25,20 +25,20 @@ pub struct Run {
 pub fn is_irreversible(p: &[u8], m: u64) -> bool
     ensures { λ r. ⌜ r ≡ irreversible (positionOf (now (p .entry))) m ⌝ }
 {
-    let moved = square::byte_at(p, (m % 64) as usize);
+    let moved = answer::byte_at(p, (m % 64) as usize);
     if square::kind_of(moved) == PAWN {
         return true;
     }
-    square::byte_at(p, (m / 64 % 64) as usize) != 0
+    answer::byte_at(p, (m / 64 % 64) as usize) != 0
 }
 
 fn rights_differ(p: &[u8], q: &[u8]) -> bool
     ensures { λ r. ⌜ r ≡ rightsDiffer (positionOf (now (p .entry))) (positionOf (now (q .entry))) ⌝ }
 {
-    if square::byte_at(p, WHITE_RIGHTS_AT) != square::byte_at(q, WHITE_RIGHTS_AT) {
+    if answer::byte_at(p, WHITE_RIGHTS_AT) != answer::byte_at(q, WHITE_RIGHTS_AT) {
         return true;
     }
-    square::byte_at(p, BLACK_RIGHTS_AT) != square::byte_at(q, BLACK_RIGHTS_AT)
+    answer::byte_at(p, BLACK_RIGHTS_AT) != answer::byte_at(q, BLACK_RIGHTS_AT)
 }
 
 fn from(emptied: bool, next: usize, before: usize) -> usize
@@ -54,8 +54,8 @@ fn run_after(p: &[u8], q: &[u8], m: u64, next: usize, r: Run) -> Run
     let undone = is_irreversible(p, m);
     let changed = rights_differ(p, q);
     Run {
-        first: from(square::either(undone, changed), next, r.first),
-        since: from(square::either(undone, changed), next, r.since),
+        first: from(answer::either(undone, changed), next, r.first),
+        since: from(answer::either(undone, changed), next, r.since),
     }
 }
 

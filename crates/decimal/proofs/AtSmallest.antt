@@ -1,7 +1,7 @@
 -- Numbers in decimal at their smallest, each row computed.
 -- Assumes nothing.
 use mathlib.Core.Path.{refl}
-use Rattle.square.specs.Ascii.{ascii}
+use Rattle.answer.specs.Ascii.{ascii}
 use Rattle.decimal.specs.Decimal.{digits, decimal}
 use Rattle.decimal.specs.AtSmallest.{NumbersAtSmallest}
 

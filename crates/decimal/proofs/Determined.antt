@@ -2,7 +2,7 @@
 -- Assumes nothing.
 use mathlib.Core.Path.{sym, _∙_}
 use denote.Ref.{now}
-use Rattle.square.specs.Determined.{OneAnswer, OnePart}
+use Rattle.answer.specs.Determined.{OneAnswer, OnePart}
 use Rattle.decimal.proofs.to_string.Reads as to-string
 use Rattle.decimal.proofs.to_string.Kinds as to-string·k
 

@@ -1,7 +1,7 @@
 -- Two long numbers in decimal, each computed with no more digits than it has: with n + 1 of them antt runs out of stack.
 -- Assumes nothing.
 use lib.Dec.{lit<}
-use Rattle.square.specs.Ascii.{ascii}
+use Rattle.answer.specs.Ascii.{ascii}
 use Rattle.decimal.specs.Decimal.{digits}
 use Rattle.decimal.specs.AtSmallest.{NumbersAtLargest}
 use Rattle.decimal.proofs.Digits.{decimal-in}

@@ -9,7 +9,7 @@ use native.Mathlib.Omega.{arith}
 use lib.Dec.{eqb, ltb}
 use lib.ListN.{length, length-append, List·getD-append}
 use borrow.Author.Tests.{eqb-true, eqb-false}
-use Rattle.square.specs.Numbers.{numberAt}
+use Rattle.answer.specs.Numbers.{numberAt}
 use Rattle.decimal.specs.Decimal.{digits, decimal}
 use Rattle.decimal.specs.Promises.{valueFrom, valueOf, ReadsBack, OneTextANumber, Digits, NoNeedlessZero, WritesBack, UpTo20}
 use Rattle.decimal.proofs.Digits.{decimal-in, decimal-one, decimal-more, by-tens}

@@ -1,7 +1,7 @@
 -- Numbers in decimal at the smallest of one, two and three digits and at the largest of one; and two long ones.
 -- Assumes nothing.
 use mathlib.Core.Path.{_≡_}
-use Rattle.square.specs.Ascii.{ascii}
+use Rattle.answer.specs.Ascii.{ascii}
 use Rattle.decimal.specs.Decimal.{decimal}
 
 pub record NumbersAtSmallest : Type 0 where

@@ -4,7 +4,7 @@ use Prim.Native.Nat.{ℕ, _+_, _*_, _-_, _^_, _≤_, _<_}
 use mathlib.Core.Path.{_≡_}
 use mathlib.Core.List.{List, [], _∷_}
 use lib.ListN.{length}
-use Rattle.square.specs.Numbers.{numberAt}
+use Rattle.answer.specs.Numbers.{numberAt}
 use Rattle.decimal.specs.Decimal.{decimal}
 
 -- the number that digits say, read from the left behind digits that said v

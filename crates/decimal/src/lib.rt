@@ -1,8 +1,8 @@
 // A number in decimal, one text a number: for every writer of numbers.
-use square::Answer;
+use answer::Answer;
 ghost use mathlib.Core.Path.{_≡_};
 ghost use lib.ListN.{length};
-ghost use Rattle.square.specs.Answer.{writeAnswer, writeBytes};
+ghost use Rattle.answer.specs.Answer.{writeAnswer, writeBytes};
 ghost use Rattle.decimal.specs.Decimal.{decimal};
 
 // A number of 64 bits has at most so many digits.
@@ -22,5 +22,5 @@ pub fn to_string(number: u64, out: &mut [u8]) -> Answer
         at -= 1;
     }
     text[at] = b'0' + left as u8;
-    square::write_text(&text[at..], out)
+    answer::write_text(&text[at..], out)
 }

@@ -9,12 +9,12 @@ use lib.Dec.{eqb, ltb}
 use lib.ListN.{length, drop}
 use lib.Seq.{drop-drop}
 use borrow.Author.Tests.{eq-eqb, ne-eqb, eqb-true}
-use Rattle.square.specs.Numbers.{numberAt}
-use Rattle.square.specs.Pushed.{Put}
-use Rattle.square.proofs.Pushes.{put-none, put-as}
+use Rattle.answer.specs.Numbers.{numberAt}
+use Rattle.answer.specs.CodePushed.{Put}
+use Rattle.answer.proofs.Pushes.{put-none, put-as}
 use Rattle.differences_text.specs.Differences.{Difference, difference, actionKey, actionDifference, lineText, linesText}
-use Rattle.differences.specs.Entries.{entrySize, entryNumber, sameEntry, textNumbers}
-use Rattle.differences.specs.Texts.{actionLine}
+use Rattle.differences.specs.CodeEntries.{entrySize, entryNumber, sameEntry, textNumbers}
+use Rattle.differences.specs.CodeTexts.{actionLine}
 
 -- ---- actions that are the same byte for byte
 

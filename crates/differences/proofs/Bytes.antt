@@ -4,8 +4,8 @@ use mathlib.Core.Path.{_≡_}
 use mathlib.Core.List.{List}
 use Prim.Native.Nat.{ℕ, _+_, _*_, _≤_, _<_}
 use borrow.Author.Tests.{lt-ltb, le-ltb, eq-eqb, ne-eqb}
-use Rattle.square.specs.Numbers.{numberAt}
-use Rattle.differences.specs.Entries.{entrySize, entryNumber, twoGroups, threeGroups, sameEntry}
+use Rattle.answer.specs.Numbers.{numberAt}
+use Rattle.differences.specs.CodeEntries.{entrySize, entryNumber, twoGroups, threeGroups, sameEntry}
 
 module _ (l : List ℕ) (a : ℕ) (ea : a ≡ numberAt l 0) where
   pub size-plain : (a ≡ 2 → ⊥) → 1 ≡ entrySize l

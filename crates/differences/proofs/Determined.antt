@@ -2,7 +2,7 @@
 -- Assumes nothing.
 use mathlib.Core.Path.{sym, _∙_}
 use denote.Ref.{now}
-use Rattle.square.specs.Determined.{OneAnswer, OnePart}
+use Rattle.answer.specs.Determined.{OneAnswer, OnePart}
 use Rattle.differences.proofs.differences.Reads as differences
 use Rattle.differences.proofs.differences.Kinds as differences·k
 

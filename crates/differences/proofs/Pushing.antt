@@ -6,9 +6,9 @@ use Prim.Native.Nat.{ℕ, _+_, _≤_, _<_}
 use native.Mathlib.Omega.{arith}
 use lib.ListN.{length, set, length-append, length-set}
 use borrow.Author.Tests.{eq-eqb, ne-eqb}
-use Rattle.square.specs.Ascii.{ascii}
-use Rattle.square.specs.Pushed.{Put}
-use Rattle.square.proofs.Pushes.{put-none, put-one, put-both, put-as}
+use Rattle.answer.specs.Ascii.{ascii}
+use Rattle.answer.specs.CodePushed.{Put}
+use Rattle.answer.proofs.Pushes.{put-none, put-one, put-both, put-as}
 use Rattle.decimal.specs.Decimal.{decimal}
 use Rattle.differences_text.specs.Differences.{difference, ifDiffers, actionKey, pairText, lineText, linesText}
 

@@ -8,10 +8,10 @@ use native.Mathlib.Nat.{zero-add}
 use native.Mathlib.Omega.{arith}
 use lib.ListN.{length, take, drop, getD, length-append}
 use lib.Seq.{length-take-le, getD-take}
-use Rattle.square.specs.Pushed.{Put}
+use Rattle.answer.specs.CodePushed.{Put}
 use Rattle.board_builder.specs.BoardBuilder.{recordSize}
 use Rattle.differences_text.specs.Differences.{startKey, ifDiffers, startDifferences, linesText}
-use Rattle.differences.specs.Texts.{startOf, startLines}
+use Rattle.differences.specs.CodeTexts.{startOf, startLines}
 use Rattle.differences_text.proofs.Lines.{lines-both, start-turn, start-end}
 
 abbrev pub leftText : List ℕ → List ℕ → ℕ → List ℕ

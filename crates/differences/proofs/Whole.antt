@@ -7,14 +7,14 @@ use Prim.Native.Nat.{ℕ, suc, _+_, _≤_, _<_}
 use native.Mathlib.Omega.{arith}
 use lib.ListN.{length, take, drop, getD}
 use lib.Seq.{drop-at}
-use Rattle.square.specs.declared.Answer.{Answer}
-use Rattle.square.specs.Answer.{accepted, refused, writeAnswer, writeBytes}
-use Rattle.square.specs.Numbers.{allAtMost, same}
-use Rattle.square.specs.Pushed.{Put}
-use Rattle.square.proofs.Numbers.{most-cons}
-use Rattle.square.proofs.Pushes.{push-whole, put-both}
-use Rattle.square.proofs.Same.{same-eq}
-use Rattle.square.proofs.Writes.{write-refused, write-fits}
+use Rattle.answer.specs.declared.Answer.{Answer}
+use Rattle.answer.specs.Answer.{accepted, refused, writeAnswer, writeBytes}
+use Rattle.answer.specs.Numbers.{allAtMost, same}
+use Rattle.answer.specs.CodePushed.{Put}
+use Rattle.answer.proofs.Numbers.{most-cons}
+use Rattle.answer.proofs.Pushes.{push-whole, put-both}
+use Rattle.answer.proofs.Same.{same-eq}
+use Rattle.answer.proofs.Writes.{write-refused, write-fits}
 use Rattle.board_builder.specs.BoardBuilder.{recordSize}
 use Rattle.game_rules.specs.Limits.{limits}
 use Rattle.roll_text.specs.Number.{numberText}
@@ -28,8 +28,8 @@ use Rattle.differences_text.proofs.Lines.{lines-both}
 use Rattle.differences_text.proofs.Games.{Read, read-roll, start-within, action-within}
 use Rattle.differences_text.proofs.Refusals.{first-told, second-told, both-pass, limits-have-four-digits}
 use Rattle.differences_text.proofs.NoLine.{no-own-text}
-use Rattle.differences.specs.Entries.{textNumbers}
-use Rattle.differences.specs.Texts.{startLines, actionLine}
+use Rattle.differences.specs.CodeEntries.{textNumbers}
+use Rattle.differences.specs.CodeTexts.{startLines, actionLine}
 use Rattle.differences.proofs.Pushing.{put-size}
 use Rattle.differences.proofs.Written.{text-numbers}
 

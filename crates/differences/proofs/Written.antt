@@ -15,10 +15,10 @@ use Rattle.roll_text.specs.Roll.{codeOf, kindAt, colourAt, moveNumberAt, action
 use Rattle.roll_text.proofs.Numbers.{groups-last, groups-more}
 use Rattle.roll_text.proofs.ByFields.{actionInRange, actionsInRange}
 use Rattle.roll_text.proofs.Entries.{code-range, move-here, plain-here}
-use Rattle.square.proofs.Numbers.{both-left}
+use Rattle.answer.proofs.Numbers.{both-left}
 use Rattle.differences_text.specs.Differences.{actionNumbers}
 use Rattle.differences_text.proofs.Numbers.{rest-in-range}
-use Rattle.differences.specs.Entries.{entrySize, entryNumber, textNumbers}
+use Rattle.differences.specs.CodeEntries.{entrySize, entryNumber, textNumbers}
 
 -- what the front of a text is read as
 record Front (text rest : List ℕ) (number : ℕ) : Type 0 where

@@ -1,2 +1,2 @@
-pub mod Entries
-pub mod Texts
+pub mod CodeEntries
+pub mod CodeTexts

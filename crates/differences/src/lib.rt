@@ -1,11 +1,11 @@
 // Tells what differs between two games (document 02, order 10): reads two rolls and writes a line for each start number and for the first action that
 // differs.
+use answer::ACCEPTED;
+use answer::Answer;
+use answer::byte_at;
+use answer::rest;
 use board_builder::RECORD_SIZE;
 use differences_text::MAX_DIFFERENCES;
-use square::ACCEPTED;
-use square::Answer;
-use square::byte_at;
-use square::rest;
 ghost use mathlib.Core.Path.{_≡_};
 ghost use Prim.Native.Nat.{_+_, _*_, _≤_, _<_};
 ghost use lib.ListN.{length, drop};
@@ -15,8 +15,8 @@ ghost use Rattle.game_rules.specs.Limits.{limits};
 ghost use Rattle.roll_text.specs.Number.{numberText};
 ghost use Rattle.differences_text.specs.Differences.{difference, startKey, ifDiffers, actionKey, pairText, lineText, linesText};
 ghost use Rattle.differences_text.specs.Calls.{differencesAnswer, differencesRoom};
-ghost use Rattle.differences.specs.Entries.{entrySize, entryNumber, twoGroups, threeGroups, sameEntry};
-ghost use Rattle.differences.specs.Texts.{PutIn, startLines, actionLine};
+ghost use Rattle.differences.specs.CodeEntries.{entrySize, entryNumber, twoGroups, threeGroups, sameEntry};
+ghost use Rattle.differences.specs.CodeTexts.{PutIn, startLines, actionLine};
 
 // A move's code in a roll.
 const MOVE_CODE: u8 = 2;
@@ -26,7 +26,7 @@ fn push_word(bytes: &mut [u8], n: usize, word: &[u8]) -> usize
     requires { ⌜ n + length (now word) ≤ length (now bytes) ⌝ }
     ensures { λ r. ⌜ PutIn (now (bytes .entry)) n (now (word .entry)) (now (bytes .exit)) r ⌝ }
 {
-    let written = square::write_text(word, &mut bytes[n..]);
+    let written = answer::write_text(word, &mut bytes[n..]);
     n + written.value as usize
 }
 
@@ -250,14 +250,14 @@ pub fn differences(first: &[u8], second: &[u8], out: &mut [u8]) -> Answer
 {
     let game = roll_reader::check(first);
     if game.number != ACCEPTED {
-        return square::refused(game.number);
+        return answer::refused(game.number);
     }
-    if square::same_bytes(first, second) {
-        return square::accepted(0);
+    if answer::same_bytes(first, second) {
+        return answer::accepted(0);
     }
     let other = roll_reader::check(second);
     if other.number != ACCEPTED {
-        return square::refused(other.number);
+        return answer::refused(other.number);
     }
     let mut text = [0u8; MAX_DIFFERENCES];
     let start = push_starts(first, second, &mut text);
@@ -269,5 +269,5 @@ pub fn differences(first: &[u8], second: &[u8], out: &mut [u8]) -> Answer
         actions_text(second, other.value),
         other.value as usize,
     );
-    square::write_text(&text[..all], out)
+    answer::write_text(&text[..all], out)
 }

@@ -1,8 +1,8 @@
 -- The lines at their smallest, each row computed.
 -- Assumes nothing.
 use mathlib.Core.Path.{refl}
-use Rattle.square.specs.Ascii.{ascii}
-use Rattle.square.specs.Answer.{writeAnswer}
+use Rattle.answer.specs.Ascii.{ascii}
+use Rattle.answer.specs.Answer.{writeAnswer}
 use Rattle.decimal.specs.Decimal.{digits, decimal}
 use Rattle.game_rules.specs.Rules.{firstRefusal}
 use Rattle.roll_text.specs.Number.{behind, readGroups}

@@ -9,9 +9,9 @@ use native.Mathlib.Omega.{arith}
 use lib.Dec.{eqb, ltb, leb}
 use lib.ListN.{length, length-append}
 use borrow.Author.Tests.{ltb-true, ltb-false, leb-true}
-use Rattle.square.specs.Ascii.{ascii}
-use Rattle.square.specs.Numbers.{allAtMost}
-use Rattle.square.proofs.Numbers.{both-left, both-right, most-head, most-tail}
+use Rattle.answer.specs.Ascii.{ascii}
+use Rattle.answer.specs.Numbers.{allAtMost}
+use Rattle.answer.proofs.Numbers.{both-left, both-right, most-head, most-tail}
 use Rattle.decimal.specs.Decimal.{digits, decimal}
 use Rattle.decimal.proofs.Digits.{decimal-one, decimal-more, by-tens, decimal-in}
 use Rattle.roll_text.specs.Roll.{largestNumbers, withinBounds}

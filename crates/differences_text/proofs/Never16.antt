@@ -8,7 +8,7 @@ use native.Mathlib.Omega.{arith}
 use lib.Dec.{eqb, leb}
 use lib.ListN.{length}
 use borrow.Author.Tests.{eq-eqb}
-use Rattle.square.specs.Answer.{partTooShort, writeAnswer}
+use Rattle.answer.specs.Answer.{partTooShort, writeAnswer}
 use Rattle.game_rules.specs.Rules.{firstRefusal}
 use Rattle.roll_text.specs.Roll.{Rolled, refusal, rolled, readRoll}
 use Rattle.roll_text.specs.Calls.{rollAnswer}

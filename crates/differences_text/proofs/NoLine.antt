@@ -9,8 +9,8 @@ use native.Mathlib.Omega.{arith}
 use lib.Dec.{eqb}
 use lib.ListN.{length, length-append}
 use borrow.Author.Tests.{eq-eqb, eqb-true, le-leb}
-use Rattle.square.specs.declared.Answer.{Answer}
-use Rattle.square.specs.Answer.{accepted, writeAnswer}
+use Rattle.answer.specs.declared.Answer.{Answer}
+use Rattle.answer.specs.Answer.{accepted, writeAnswer}
 use Rattle.game_rules.specs.Limits.{Limits}
 use Rattle.roll_text.specs.Number.{numberText}
 use Rattle.roll_text.specs.Roll.{Rolled, refusal, rolled, actionsText, readRoll}

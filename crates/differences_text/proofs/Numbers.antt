@@ -8,8 +8,8 @@ use native.Mathlib.Omega.{arith}
 use lib.Dec.{eqb}
 use lib.ListN.{length, drop}
 use borrow.Author.Tests.{eqb-true, eqb-false}
-use Rattle.square.specs.Numbers.{allAtMost}
-use Rattle.square.proofs.Numbers.{both-left, both-right, most-cons}
+use Rattle.answer.specs.Numbers.{allAtMost}
+use Rattle.answer.proofs.Numbers.{both-left, both-right, most-cons}
 use Rattle.chess_move.specs.Number.{lastMove}
 use Rattle.action.specs.Layout.{actionSize}
 use Rattle.roll_text.specs.Roll.{codeOf, kindAt, colourAt, moveNumberAt, actionsText}

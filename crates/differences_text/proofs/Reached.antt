@@ -6,8 +6,8 @@ use mathlib.Core.List.{List, [], _∷_, _++_}
 use Prim.Native.Nat.{ℕ}
 use native.Mathlib.Omega.{arith}
 use lib.ListN.{length, replicate, length-append}
-use Rattle.square.specs.Ascii.{ascii}
-use Rattle.square.specs.Numbers.{allAtMost}
+use Rattle.answer.specs.Ascii.{ascii}
+use Rattle.answer.specs.Numbers.{allAtMost}
 use Rattle.decimal.specs.Decimal.{digits, decimal}
 use Rattle.decimal.proofs.Digits.{decimal-in}
 use Rattle.board_builder.specs.BoardBuilder.{squares}

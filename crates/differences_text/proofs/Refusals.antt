@@ -8,8 +8,8 @@ use native.Mathlib.Omega.{arith}
 use lib.Dec.{leb}
 use lib.ListN.{length}
 use borrow.Author.Tests.{eq-eqb, ne-eqb}
-use Rattle.square.specs.Answer.{writeAnswer, writeBytes}
-use Rattle.square.proofs.Writes.{write-refused}
+use Rattle.answer.specs.Answer.{writeAnswer, writeBytes}
+use Rattle.answer.proofs.Writes.{write-refused}
 use Rattle.game_rules.specs.Limits.{Limits}
 use Rattle.game_rules.specs.Rules.{firstRefusal}
 use Rattle.roll_text.specs.Roll.{Rolled, rolled, readRoll}

@@ -4,7 +4,7 @@ use mathlib.Core.Path.{_≡_, ap, ap₂, _∙_}
 use mathlib.Core.List.{List, _++_, map}
 use Prim.Native.Nat.{ℕ}
 use lib.ListN.{length, take, drop}
-use Rattle.square.proofs.Writes.{accepted-writes-its-text}
+use Rattle.answer.proofs.Writes.{accepted-writes-its-text}
 use Rattle.game_rules.specs.Limits.{Limits}
 use Rattle.roll_text.specs.Roll.{rolled, readRoll}
 use Rattle.differences_text.specs.Differences.{Difference, actionNumbers, actionDifference, linesText}

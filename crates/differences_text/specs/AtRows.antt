@@ -4,8 +4,8 @@ use Prim.Native.Nat.{ℕ}
 use mathlib.Core.Path.{_≡_}
 use mathlib.Core.List.{List, [], _∷_, _++_}
 use lib.ListN.{replicate, set}
-use Rattle.square.specs.Ascii.{ascii}
-use Rattle.square.specs.Answer.{outOfRange, badRoll, accepted, refused, tooShort}
+use Rattle.answer.specs.Ascii.{ascii}
+use Rattle.answer.specs.Answer.{outOfRange, badRoll, accepted, refused, tooShort}
 use Rattle.board_builder.specs.BoardBuilder.{recordSize}
 use Rattle.game_rules.specs.Limits.{Limits}
 use Rattle.differences_text.specs.Calls.{differencesText, differencesAnswer}

@@ -2,8 +2,8 @@
 -- Assumes nothing.
 use Prim.Native.Nat.{ℕ}
 use mathlib.Core.List.{List, [], _∷_, _++_}
-use Rattle.square.specs.declared.Answer.{Answer}
-use Rattle.square.specs.Answer.{writeAnswer, writeBytes}
+use Rattle.answer.specs.declared.Answer.{Answer}
+use Rattle.answer.specs.Answer.{writeAnswer, writeBytes}
 use Rattle.game_rules.specs.Limits.{Limits}
 use Rattle.game_rules.specs.Rules.{firstRefusal}
 use Rattle.roll_text.specs.Roll.{Rolled, refusal, rolled, readRoll}

@@ -6,7 +6,7 @@ use mathlib.Core.Bool.{cond}
 use mathlib.Core.List.{List, [], _∷_, _++_}
 use lib.Dec.{eqb, ltb}
 use lib.ListN.{drop}
-use Rattle.square.specs.Ascii.{ascii}
+use Rattle.answer.specs.Ascii.{ascii}
 use Rattle.decimal.specs.Decimal.{decimal}
 use Rattle.board_builder.specs.BoardBuilder.{squares, sideAt, whiteRightsAt, blackRightsAt}
 use Rattle.action.specs.Layout.{actionSize}

@@ -6,9 +6,9 @@ use mathlib.Core.Bool.{Bool, true, _&&_}
 use mathlib.Core.List.{List, [], _∷_, _++_, map, List·Memᴰ}
 use lib.Dec.{leb}
 use lib.ListN.{length, take, drop, getD}
-use Rattle.square.specs.declared.Answer.{Answer}
-use Rattle.square.specs.Answer.{accepted, refused, partTooShort}
-use Rattle.square.specs.Numbers.{allAtMost}
+use Rattle.answer.specs.declared.Answer.{Answer}
+use Rattle.answer.specs.Answer.{accepted, refused, partTooShort}
+use Rattle.answer.specs.Numbers.{allAtMost}
 use Rattle.board_builder.specs.BoardBuilder.{recordSize}
 use Rattle.game_rules.specs.Limits.{Limits, limits, actionsLength}
 use Rattle.roll_text.specs.Roll.{rolled, readRoll}

@@ -11,7 +11,7 @@ ghost use Prim.Native.Nat.{_-_};
 ghost use lib.Dec.{eqb};
 ghost use Rattle.action.specs.declared.Stored.the-variants.{Holds};
 ghost use Rattle.actions.specs.Part.{lastAction};
-ghost use Rattle.ending.specs.Ending.{resultWithoutMoves, resultOfAction, isOffer, isOfferBy, resultAt, offerAt};
+ghost use Rattle.ending.specs.Ending.{whiteResigns, blackResigns, resultWithoutMoves, resultOfAction, isOffer, isOfferBy, resultAt, offerAt};
 
 // The results, in the order of `GameResult`; 0 is none.
 
@@ -47,7 +47,7 @@ fn without_moves(side: u8, check: u8) -> u64
 }
 
 fn by_resignation(colour: u8) -> u64
-    ensures { λ r. ⌜ r ≡ cond (eqb colour 0) 2 4 ⌝ }
+    ensures { λ r. ⌜ r ≡ cond (eqb colour 0) whiteResigns blackResigns ⌝ }
 {
     if colour == 0 {
         WHITE_RESIGNS
@@ -99,8 +99,8 @@ pub fn result(acts: &[u8], ps: &[u8], n: usize, m: usize) -> u64
     ensures { λ r. ⌜ r ≡ resultAt (now (acts .entry)) (now (ps .entry)) n m ⌝ }
 {
     let p = position::at(ps, m);
-    if square::byte_at(p, LENGTH_AT) == 0 {
-        return without_moves(square::byte_at(p, SIDE_AT), square::byte_at(p, CHECK_AT));
+    if answer::byte_at(p, LENGTH_AT) == 0 {
+        return without_moves(answer::byte_at(p, SIDE_AT), answer::byte_at(p, CHECK_AT));
     }
     by_last_action(acts, n)
 }
@@ -163,6 +163,6 @@ pub fn offer_stands(acts: &[u8], ps: &[u8], n: usize, m: usize) -> bool
     if n == 0 {
         return false;
     }
-    let side = square::byte_at(position::at(ps, m), SIDE_AT);
+    let side = answer::byte_at(position::at(ps, m), SIDE_AT);
     is_offer_by(other_side(side), actions::last(acts, n - 1))
 }

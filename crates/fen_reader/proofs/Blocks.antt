@@ -10,8 +10,8 @@ use lib.Bits.{bitOr}
 use lib.Dec.{eqb}
 use lib.ListN.{length, take, drop, getD, drop-of-length-le, length-drop}
 use lib.Seq.{drop-cons, drop-drop, take-all}
-use Rattle.square.specs.Numbers.{among}
-use Rattle.square.proofs.Bounds.{or-none}
+use Rattle.answer.specs.Numbers.{among}
+use Rattle.answer.proofs.Bounds.{or-none}
 use Rattle.fen_text.specs.Token.{placeOf}
 use Rattle.fen_text.specs.Lines.{lineFeed, lineEnd, ended}
 use Rattle.fen_text.proofs.Lines.{ended-parts, none-in-front, place-at-most}

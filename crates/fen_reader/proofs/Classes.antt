@@ -8,13 +8,13 @@ use native.Mathlib.Omega.{arith}
 use lib.Dec.{eqb, eqb→eq}
 use lib.ListN.{length, getD, replicate}
 use borrow.Author.Tests.{eq-eqb, ne-eqb, le-leb, lt-leb}
-use Rattle.square.specs.Ascii.{ascii}
-use Rattle.square.specs.Square.{between}
-use Rattle.square.specs.Numbers.{among}
+use Rattle.answer.specs.Ascii.{ascii}
+use Rattle.answer.specs.Numbers.{between}
+use Rattle.answer.specs.Numbers.{among}
 use Rattle.square.specs.Piece.{pieceOf}
-use Rattle.square.proofs.Below.{below, agree}
+use Rattle.answer.proofs.Below.{below, agree}
 use Rattle.fen_text.specs.Placement.{signs, isBad}
-use Rattle.fen_reader.specs.Class.{refused, classOf, noteAll}
+use Rattle.fen_reader.specs.CodeClass.{noClass, classOf, noteAll}
 
 -- what a byte is
 pub data Kind (b : ℕ) : Type 0 where
@@ -62,29 +62,29 @@ pub class-letter : (b : ℕ) → eqb b 47 ≡ false → between 49 56 b ≡ fals
 unfolding classOf
 class-letter b e f g = rw (e, f, g)
 
-pub class-other : (b : ℕ) → eqb b 47 ≡ false → between 49 56 b ≡ false → eqb (pieceOf b) 0 ≡ true → classOf b ≡ refused
+pub class-other : (b : ℕ) → eqb b 47 ≡ false → between 49 56 b ≡ false → eqb (pieceOf b) 0 ≡ true → classOf b ≡ noClass
 unfolding classOf
 class-other b e f g = rw (e, f, g)
 
 -- 256 bytes, each computed
 right : ℕ → Bool
-right b = eqb (getD (noteAll signs (replicate 256 refused)) b 0) (classOf b)
+right b = eqb (getD (noteAll signs (replicate 256 noClass)) b 0) (classOf b)
 
-pub class-at : (b : ℕ) → b < 256 → getD (noteAll signs (replicate 256 refused)) b 0 ≡ classOf b
+pub class-at : (b : ℕ) → b < 256 → getD (noteAll signs (replicate 256 noClass)) b 0 ≡ classOf b
 unfolding right noteAll ascii classOf pieceOf
-class-at b h = eqb→eq (getD (noteAll signs (replicate 256 refused)) b 0) (classOf b) (below right 256 tt b h)
+class-at b h = eqb→eq (getD (noteAll signs (replicate 256 noClass)) b 0) (classOf b) (below right 256 tt b h)
 
-pub table-long : length (noteAll signs (replicate 256 refused)) ≡ 256
+pub table-long : length (noteAll signs (replicate 256 noClass)) ≡ 256
 unfolding noteAll ascii
 table-long = refl
 
--- a byte is bad exactly if its class is the refused one
-bad-class : (b : ℕ) → b < 256 → isBad b ≡ eqb (classOf b) refused
+-- a byte is bad exactly if its class is the noClass one
+bad-class : (b : ℕ) → b < 256 → isBad b ≡ eqb (classOf b) noClass
 unfolding among ascii classOf pieceOf
-bad-class b h = agree isBad (λ (x : ℕ). eqb (classOf x) refused) 256 tt b h
+bad-class b h = agree isBad (λ (x : ℕ). eqb (classOf x) noClass) 256 tt b h
 
-pub class-bad : (b c : ℕ) → b < 256 → c ≡ classOf b → c ≡ refused → isBad b ≡ true
+pub class-bad : (b c : ℕ) → b < 256 → c ≡ classOf b → c ≡ noClass → isBad b ≡ true
 class-bad b c h e r = bad-class b h ∙ eq-eqb _ _ (sym e ∙ r)
 
-pub class-good : (b c : ℕ) → b < 256 → c ≡ classOf b → (c ≡ refused → ⊥) → isBad b ≡ false
+pub class-good : (b c : ℕ) → b < 256 → c ≡ classOf b → (c ≡ noClass → ⊥) → isBad b ≡ false
 class-good b c h e n = bad-class b h ∙ ne-eqb _ _ (λ r. n (e ∙ r))

@@ -2,7 +2,7 @@
 -- Assumes nothing.
 use mathlib.Core.Path.{sym, _∙_}
 use denote.Ref.{now}
-use Rattle.square.specs.Determined.{OneAnswer, OnePart}
+use Rattle.answer.specs.Determined.{OneAnswer, OnePart}
 use Rattle.fen_reader.proofs.read_fen.Reads as read-fen
 use Rattle.fen_reader.proofs.read_fen.Kinds as read-fen·k
 use Rattle.fen_reader.proofs.lines.line_count.Reads as line-count

@@ -8,9 +8,10 @@ use native.Mathlib.Omega.{arith}
 use lib.Dec.{ltb}
 use lib.ListN.{length, take, drop, drop-of-length-le}
 use borrow.Author.Tests.{ltb-true, ltb-false}
-use Rattle.square.specs.Answer.{overwrite}
-use Rattle.square.specs.Parts.{written}
-use Rattle.square.proofs.Parts.{length-written, written-behind, written-none}
+use Rattle.answer.specs.Answer.{overwrite}
+use Rattle.answer.specs.Parts.{written}
+use Rattle.answer.proofs.Parts.{length-written, written-behind, written-none}
+use Rattle.answer.proofs.Overwrites.{from-front}
 use Rattle.board_builder.specs.BoardBuilder.{numbers, recordSize}
 use Rattle.fen_text.specs.declared.Fen.{Fen}
 use Rattle.fen_text.specs.Token.{placeOf}
@@ -28,9 +29,6 @@ pub record Reached (text records₀ told₀ records told : List ℕ) (at line : 
   pub bytes : written records (recordSize * line) (pageRecords (drop at text)) ≡ overwrite (pageRecords text) records₀
   pub told-long : length told ≡ length told₀
   pub said : written told (toldSize * line) (pageTold (drop at text)) ≡ overwrite (pageTold text) told₀
-
-pub from-front : (l x : List ℕ) → written l 0 x ≡ overwrite x l
-from-front l x = let e : 0 + length x ≡ length x = omega arith in ap (λ (k : ℕ). x ++ drop k l) e
 
 pub begun : (text records told : List ℕ) → Reached text records told records told 0 0
 begun text records told = record {

@@ -11,7 +11,7 @@ use lib.Dec.{eqb, ltb, lit<}
 use borrow.Author.Tests.{eq-eqb, ne-eqb, lt-ltb, le-ltb, le-leb, ltb-true, ltb-false}
 use lib.ListN.{length, take, getD, set, replicate}
 use lib.Seq.{set-getD, take-suc, length-take-le}
-use Rattle.square.specs.Answer.{badPlacement, badSide}
+use Rattle.answer.specs.Answer.{badPlacement, badSide}
 use Rattle.square.specs.Square.{squareOf}
 use Rattle.square.specs.Piece.{pieceOf}
 use Rattle.board_builder.specs.BoardBuilder.{board}
@@ -23,22 +23,22 @@ use Rattle.fen_text.proofs.Cases.{cond-both}
 use Rattle.fen_text.proofs.Faults.{four}
 use Rattle.fen_text.proofs.Placed.{place-append}
 use Rattle.fen_text.proofs.Keys.{piece-most}
-use Rattle.fen_reader.specs.Class.{NoPlacement, refused, classOf, pieceAfter, stepOf, fileAfter, rankAfter}
+use Rattle.fen_reader.specs.CodeClass.{NoPlacement, noClass, classOf, pieceAfter, stepOf, fileNext, rankNext}
 use Rattle.fen_reader.proofs.Classes.{Kind, slash, digit, letter, other, kind, class-slash, class-digit, class-letter, class-other}
 use Rattle.fen_reader.proofs.Reading.{first-token}
 
 -- the square to fill next stays on the board
-pub file-small : (file c : ℕ) → fileAfter file c < 8
+pub file-small : (file c : ℕ) → fileNext file c < 8
 file-small file c = cond-both (λ (x : ℕ). x < 8) (eqb c 32) {x = 0} {y = (file + stepOf c) % 8} (lit< tt) (omega arith)
 
-pub rank-small : (rank c : ℕ) → rank < 8 → rankAfter rank c < 8
+pub rank-small : (rank c : ℕ) → rank < 8 → rankNext rank c < 8
 rank-small rank c h = cond-both (λ (x : ℕ). x < 8) (eqb c 32) {x = (rank + 7) % 8} {y = rank} (omega arith) h
 
 -- the placement after a byte of this class
 abbrev pub after : List ℕ → ℕ → ℕ → Bool → ℕ → Placement
 after pieces rank file good c =
     placement (set pieces (squareOf rank file) (pieceAfter c (getD pieces (squareOf rank file) 0)))
-    (rankAfter rank c) (fileAfter file c) (good && ltb c refused)
+    (rankNext rank c) (fileNext file c) (good && ltb c noClass)
 
 is-same : (l k : List ℕ) (r f g : ℕ) (t u : Bool) → l ≡ k → f ≡ g → t ≡ u → placement l r f t ≡ placement k r g u
 is-same l k r f g t u e p q = rw (e, p, q)
@@ -58,32 +58,32 @@ next pieces rank file good b small = by (kind b)
         let n : b ≡ 47 → ⊥ = λ e. omega arith in
         let c : b - 32 ≡ 32 → ⊥ = λ e. omega arith in
         let far : 16 ≤ b - 32 = omega arith in
-        let low : b - 32 < refused = omega arith in
+        let low : b - 32 < noClass = omega arith in
         let less : b - 48 ≡ b - 32 - 16 = omega arith in
         rw (class-digit b l m)
         (simp (ne-eqb _ _ n, le-leb _ _ l, le-leb _ _ m, ne-eqb _ _ c, le-ltb _ _ far, lt-ltb _ _ low)
         (is-same _ _ _ _ _ _ _ stays (ap (λ (m : ℕ). (file + m) % 8) less) (sym (and-true good))))
     by (letter e f g) =
         let few : pieceOf b < 16 = omega (arith, piece-most b) in
-        let low : pieceOf b < refused = omega (arith, piece-most b) in
+        let low : pieceOf b < noClass = omega (arith, piece-most b) in
         let c : pieceOf b ≡ 32 → ⊥ = λ q. omega (arith, piece-most b) in
         rw (class-letter b e f g) (simp (e, f, g, ne-eqb _ _ c, lt-ltb _ _ few, lt-ltb _ _ low) (is-same _ _ _ _ _ _ _ refl refl (sym (and-true good))))
     by (other e f g) =
         rw (class-other b e f g) (simp (e, f, g) (is-same _ _ _ _ _ _ _ stays (omega arith) (sym (and-false good))))
 
 -- the classes put together have the bit exactly if one of them has it
-low-both : (a c : ℕ) → ltb a refused && ltb c refused ≡ ltb (bitOr a c) refused
-low-both a c = go (ltb a refused) refl (ltb c refused) refl
+low-both : (a c : ℕ) → ltb a noClass && ltb c noClass ≡ ltb (bitOr a c) noClass
+low-both a c = go (ltb a noClass) refl (ltb c noClass) refl
   where
-    go : (t : Bool) → ltb a refused ≡ t → (u : Bool) → ltb c refused ≡ u → t && u ≡ ltb (bitOr a c) refused
-    go true e true f = sym (lt-ltb (bitOr a c) refused (or-lt 6 a c (ltb-true a refused e) (ltb-true c refused f)))
-    go true e false f = sym (le-ltb (bitOr a c) refused (omega (arith, ltb-false c refused f, or-add-and a c, and-le-l a c)))
-    go false e u f = sym (le-ltb (bitOr a c) refused (omega (arith, ltb-false a refused e, or-add-and a c, and-le-r a c)))
+    go : (t : Bool) → ltb a noClass ≡ t → (u : Bool) → ltb c noClass ≡ u → t && u ≡ ltb (bitOr a c) noClass
+    go true e true f = sym (lt-ltb (bitOr a c) noClass (or-lt 6 a c (ltb-true a noClass e) (ltb-true c noClass f)))
+    go true e false f = sym (le-ltb (bitOr a c) noClass (omega (arith, ltb-false c noClass f, or-add-and a c, and-le-l a c)))
+    go false e u f = sym (le-ltb (bitOr a c) noClass (omega (arith, ltb-false a noClass e, or-add-and a c, and-le-r a c)))
 
 -- the same, as the code has it: the class as it was looked up, what the three functions gave, and the classes so far
 pub stored : (pieces : List ℕ) (rank file a c d x r f : ℕ)
-    → c ≡ d → x ≡ pieceAfter c (getD pieces (squareOf rank file) 0) → r ≡ rankAfter rank c → f ≡ fileAfter file c
-    → after pieces rank file (ltb a refused) d ≡ placement (set pieces (squareOf rank file) x) r f (ltb (bitOr a c) refused)
+    → c ≡ d → x ≡ pieceAfter c (getD pieces (squareOf rank file) 0) → r ≡ rankNext rank c → f ≡ fileNext file c
+    → after pieces rank file (ltb a noClass) d ≡ placement (set pieces (squareOf rank file) x) r f (ltb (bitOr a c) noClass)
 stored pieces rank file a c d x r f e g h k = rw (g, h, k, ← low-both a c, e)
 
 -- one byte more

@@ -9,7 +9,7 @@ use native.Mathlib.Omega.{arith}
 use lib.ListN.{length, take, drop}
 use lib.Seq.{take-all}
 use Rattle.fen_text.specs.Token.{placeOf, tokens}
-use Rattle.square.specs.Answer.{tooFewTokens}
+use Rattle.answer.specs.Answer.{tooFewTokens}
 use Rattle.fen_text.specs.Read.{refusedAt, assembled, ofTokens, readFen}
 use Rattle.fen_text.proofs.Tokens.{tokens-last, tokens-next}
 

@@ -4,16 +4,16 @@ pub mod page;
 mod placement;
 mod token;
 
+use answer::ACCEPTED;
+use answer::BAD_PLACEMENT;
+use answer::BAD_SIDE;
+use answer::TOO_FEW_TOKENS;
 use board_builder::BoardBuilder;
 use fen_text::Fen;
 use placement::REFUSED;
-use square::ACCEPTED;
-use square::BAD_PLACEMENT;
-use square::BAD_SIDE;
-use square::TOO_FEW_TOKENS;
 ghost use mathlib.Core.Path.{_≡_};
 ghost use Rattle.fen_text.specs.Read.{sideOf, refusedAt, sided, readFen};
-ghost use Rattle.fen_reader.specs.Class.{NoPlacement};
+ghost use Rattle.fen_reader.specs.CodeClass.{NoPlacement};
 
 fn refused_at(number: u64, offset: usize) -> Fen
     ensures { λ r. ⌜ r ≡ refusedAt number offset ⌝ }

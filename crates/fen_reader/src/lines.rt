@@ -4,7 +4,7 @@ ghost use mathlib.Core.Path.{_≡_};
 ghost use mathlib.Core.Bool.{cond};
 ghost use Prim.Native.Nat.{_<_};
 ghost use lib.ListN.{length};
-ghost use Rattle.square.specs.Numbers.{among};
+ghost use Rattle.answer.specs.Numbers.{among};
 ghost use Rattle.fen_text.specs.Lines.{lineFeed, lineEnd, ended};
 ghost use Rattle.fen_text.specs.Page.{lineCount};
 

@@ -1,19 +1,19 @@
 // A page of FENs at once: the single reader's answer for each line, put into two lent rooms.
+use answer::Answer;
+use answer::OUTPUT_TOO_SHORT;
+use board_builder::BoardBuilder;
+use board_builder::RECORD_SIZE;
 use crate::lines::line_count;
 use crate::lines::line_end;
 use crate::read_fen;
-use board_builder::BoardBuilder;
-use board_builder::RECORD_SIZE;
-use square::Answer;
-use square::OUTPUT_TOO_SHORT;
 ghost use mathlib.Core.Path.{_≡_};
 ghost use Prim.Native.Nat.{_*_, _+_, _≤_};
 ghost use mathlib.Core.Bool.{cond};
 ghost use mathlib.Core.List.{[], _∷_};
 ghost use lib.Dec.{ltb};
 ghost use lib.ListN.{length};
-ghost use Rattle.square.specs.Answer.{tooShort, overwrite};
-ghost use Rattle.square.specs.Parts.{written};
+ghost use Rattle.answer.specs.Answer.{tooShort, overwrite};
+ghost use Rattle.answer.specs.Parts.{written};
 ghost use Rattle.board_builder.specs.BoardBuilder.{numbers, recordSize};
 ghost use Rattle.fen_text.specs.Page.{toldSize, lineCount, pageRecords, pageTold, pageAnswer, recordsLeft, toldLeft};
 
@@ -85,5 +85,5 @@ pub fn read_page(text: &[u8], records: &mut [u8], told: &mut [u64]) -> Answer
         return too_short(lines);
     }
     read_lines(text, records, told);
-    square::accepted(lines as u64)
+    answer::accepted(lines as u64)
 }

@@ -3,7 +3,7 @@ ghost use mathlib.Core.Path.{_≡_};
 ghost use Prim.Native.Nat.{_<_};
 ghost use lib.ListN.{set};
 ghost use Rattle.fen_text.specs.Placement.{signs, firstBad};
-ghost use Rattle.fen_reader.specs.Class.{classOf, noteAll, pieceAfter, stepOf, fileAfter, rankAfter, Walk};
+ghost use Rattle.fen_reader.specs.CodeClass.{classOf, noteAll, pieceAfter, stepOf, fileNext, rankNext, Walk};
 
 // A byte's class: a piece's code, DIGIT and how many files it adds, SLASH, or REFUSED, a bit that no other class has and that leaves the board as it is.
 const DIGIT: u8 = 16;
@@ -87,7 +87,7 @@ fn wide(x: u8) -> usize
 
 fn file_after(file: usize, class: u8) -> usize
     requires { ⌜ file < 8 ⌝ }
-    ensures { λ r. ⌜ r ≡ fileAfter file class ⌝ }
+    ensures { λ r. ⌜ r ≡ fileNext file class ⌝ }
 {
     let next = (file + wide(step_of(class))) % 8;
     if class == SLASH { 0 } else { next }
@@ -95,7 +95,7 @@ fn file_after(file: usize, class: u8) -> usize
 
 fn rank_after(rank: usize, class: u8) -> usize
     requires { ⌜ rank < 8 ⌝ }
-    ensures { λ r. ⌜ r ≡ rankAfter rank class ⌝ }
+    ensures { λ r. ⌜ r ≡ rankNext rank class ⌝ }
 {
     if class == SLASH { (rank + 7) % 8 } else { rank }
 }

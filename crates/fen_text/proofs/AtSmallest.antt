@@ -1,10 +1,10 @@
 -- Order 2 at its smallest inputs, each computed.
 -- Assumes nothing.
 use mathlib.Core.Path.{refl}
-use Rattle.square.specs.Ascii.{ascii}
+use Rattle.answer.specs.Ascii.{ascii}
 use Rattle.square.specs.Square.{readSquare}
 use Rattle.square.specs.Piece.{pieceOf}
-use Rattle.square.specs.Numbers.{among}
+use Rattle.answer.specs.Numbers.{among}
 use Rattle.fen_text.specs.Token.{onto, joined, tokens, placeAfter, placeWhere}
 use Rattle.fen_text.specs.Placement.{placeByte, placeAll}
 use Rattle.fen_text.specs.Read.{sideOf, rightsOf, sided, assembled, ofTokens, readFen}

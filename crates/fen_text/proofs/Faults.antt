@@ -10,13 +10,13 @@ use lib.Dec.{eqb, leb, ltb}
 use lib.ListN.{length, getD, take}
 use lib.Seq.{length-take-le}
 use borrow.Author.Tests.{ne-eqb, eqb-true, lt-leb}
-use Rattle.square.specs.Answer.{tooFewTokens, badPlacement, badSide}
-use Rattle.square.specs.Ascii.{ascii}
-use Rattle.square.specs.Numbers.{allAtMost, among}
-use Rattle.square.specs.Square.{between}
+use Rattle.answer.specs.Answer.{tooFewTokens, badPlacement, badSide}
+use Rattle.answer.specs.Ascii.{ascii}
+use Rattle.answer.specs.Numbers.{allAtMost, among}
+use Rattle.answer.specs.Numbers.{between}
 use Rattle.square.specs.Piece.{pieceOf}
-use Rattle.square.proofs.Below.{agree}
-use Rattle.square.proofs.Numbers.{most-head, most-tail}
+use Rattle.answer.proofs.Below.{agree}
+use Rattle.answer.proofs.Numbers.{most-head, most-tail}
 use Rattle.fen_text.specs.declared.Fen.{Fen}
 use Rattle.fen_text.specs.Token.{tokens, placeAfter, placeWhere, placeOf}
 use Rattle.fen_text.specs.Placement.{Placement, start, down, skip, fill, spoil, placeByte, placeAll, signs, firstBad}

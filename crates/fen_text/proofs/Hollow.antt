@@ -9,12 +9,12 @@ use native.Mathlib.Omega.{arith}
 use lib.Dec.{lit≤}
 use lib.ListN.{length, take, drop, replicate}
 use lib.Seq.{take-at}
-use Rattle.square.specs.declared.Answer.{Answer}
-use Rattle.square.specs.Answer.{outOfRange, accepted, overwrite, writeAnswer, writeBytes}
-use Rattle.square.proofs.Writes.{write-fits}
-use Rattle.square.proofs.ItsText as its-text
-use Rattle.square.proofs.ItsText.{writers-keep-its-text, passed-or}
-use Rattle.square.specs.Numbers.{allAtMost}
+use Rattle.answer.specs.declared.Answer.{Answer}
+use Rattle.answer.specs.Answer.{outOfRange, accepted, overwrite, writeAnswer, writeBytes}
+use Rattle.answer.proofs.Writes.{write-fits}
+use Rattle.answer.proofs.ItsText as its-text
+use Rattle.answer.proofs.ItsText.{writers-keep-its-text, passed-or}
+use Rattle.answer.specs.Numbers.{allAtMost}
 use Rattle.board_builder.specs.declared.BoardBuilder.{BoardBuilder}
 use Rattle.board_builder.specs.BoardBuilder.{inRange, emptyBoard, initialBoard}
 use Rattle.fen_text.specs.declared.Fen.{Fen}

@@ -11,14 +11,15 @@ use lib.ListN.{length, length-set}
 use borrow.Author.Tests.{ltb-true}
 use Rattle.square.specs.declared.Pair.{Pair}
 use Rattle.square.specs.declared.Pair.the-variants.{Square, BadFile, BadRank, Missing}
-use Rattle.square.specs.Answer.{tooFewTokens, badPlacement, badSide}
-use Rattle.square.specs.Square.{squareOf, between, readSquare}
+use Rattle.answer.specs.Answer.{tooFewTokens, badPlacement, badSide}
+use Rattle.answer.specs.Numbers.{between}
+use Rattle.square.specs.Square.{squareOf, readSquare}
 use Rattle.square.specs.Piece.{pieceOf}
 use Rattle.castle_rights.specs.CastleRights.{rights}
 use Rattle.board_builder.specs.declared.BoardBuilder.{BoardBuilder}
-use Rattle.square.specs.Numbers.{allAtMost, among}
+use Rattle.answer.specs.Numbers.{allAtMost, among}
 use Rattle.board_builder.specs.BoardBuilder.{squares, inRange}
-use Rattle.square.proofs.Numbers.{most-set}
+use Rattle.answer.proofs.Numbers.{most-set}
 use Rattle.board_builder.proofs.Ranges.{range-holds}
 use Rattle.fen_text.specs.declared.Fen.{Fen}
 use Rattle.fen_text.specs.Token.{tokens}

@@ -7,7 +7,7 @@ use native.Mathlib.Nat.{add-zero}
 use native.Mathlib.Omega.{arith}
 use lib.Dec.{eqb, leb, eqb·suc-zero, leb→le, lit≤}
 use lib.ListN.{length, length-append, length-take, length-drop}
-use Rattle.square.proofs.Below.{belows}
+use Rattle.answer.proofs.Below.{belows}
 use Rattle.castle_rights.specs.CastleRights.{lettersOf, lettersText}
 use Rattle.board_builder.specs.declared.BoardBuilder.{BoardBuilder}
 use Rattle.board_builder.proofs.Ranges.{InRange, in-range}

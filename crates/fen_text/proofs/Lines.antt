@@ -1,7 +1,7 @@
 -- Laws of lines: the first ends at the first newline or with the text, and those past it follow; how many there are; a page and one behind it.
 -- Assumes nothing.
 use mathlib.Core.Path.{_≡_, refl, sym, ap, _∙_}
-use mathlib.Core.Bool.{Bool, true, false, cond, _||_}
+use mathlib.Core.Bool.{Bool, true, false, cond}
 use mathlib.Core.List.{List, [], _∷_, _++_, append-assoc}
 use Prim.Native.Nat.{ℕ, zero, suc, _+_, _*_, _-_, _≤_, _<_}
 use native.Mathlib.Nat.{mul-suc}
@@ -10,18 +10,11 @@ use native.Mathlib.Omega.{arith}
 use lib.Dec.{eqb}
 use lib.ListN.{length, getD, take, drop, drop-of-length-le, length-append, length-drop, take-append-drop}
 use lib.Seq.{drop-cons, drop-drop}
-use Rattle.square.specs.Numbers.{among}
+use Rattle.answer.specs.Numbers.{among}
+use Rattle.answer.proofs.Numbers.{or-left, or-right}
 use Rattle.fen_text.specs.Token.{placeAfter, placeWhere, placeOf, onto, joined}
 use Rattle.fen_text.proofs.Cases.{cond-both}
 use Rattle.fen_text.specs.Lines.{lineFeed, lines, ontoEnded, endedBy, ended, overLines}
-
-or-left : (a b : Bool) → a || b ≡ false → a ≡ false
-or-left true b e = e
-or-left false b e = refl
-
-or-right : (a b : Bool) → a || b ≡ false → b ≡ false
-or-right true b e = let w : _≡_ {A = ℕ} 0 1 = cc in absurd (omega arith)
-or-right false b e = e
 
 -- ---- the first line, and those past it
 

@@ -1,7 +1,7 @@
 -- What order 7 promises of a page: each line has the single reader's answer, rooms are judged by the number of lines, and pages one after the other are
 -- the page of both joined.
 -- Assumes nothing.
-use mathlib.Core.Path.{_≡_, refl, sym, ap, ap₂, _∙_}
+use mathlib.Core.Path.{_≡_, refl, sym, ap, _∙_}
 use mathlib.Core.Bool.{Bool, true, false, cond, _&&_, _||_}
 use mathlib.Core.List.{List, [], _∷_, _++_, append-assoc, append-nil}
 use Prim.Native.Nat.{ℕ, zero, suc, _+_, _*_, _≤_, _<_}
@@ -9,12 +9,14 @@ use native.Mathlib.Nat.{mul-suc}
 use native.Mathlib.Omega.{arith}
 use lib.Dec.{eqb, leb}
 use lib.ListN.{length, getD, take, drop, length-append, length-drop}
-use lib.Seq.{take-at, drop-at, drop-drop, getD-take, getD-drop}
+use lib.Seq.{take-at, drop-at, drop-drop}
 use borrow.Author.Tests.{eqb-true, eqb-false, leb-true, le-leb, lt-leb}
-use Rattle.square.specs.Answer.{accepted, tooShort, overwrite}
-use Rattle.square.specs.Numbers.{among}
-use Rattle.square.specs.Parts.{item}
-use Rattle.square.proofs.Numbers.{both-left, both-right}
+use Rattle.answer.specs.Answer.{accepted, tooShort, overwrite}
+use Rattle.answer.specs.Numbers.{among}
+use Rattle.answer.specs.Parts.{item}
+use Rattle.answer.proofs.Numbers.{both-left, both-right}
+use Rattle.answer.proofs.Parts.{of-item}
+use Rattle.answer.proofs.Overwrites.{past-it, over-two}
 use Rattle.board_builder.specs.BoardBuilder.{numbers, recordSize}
 use Rattle.board_builder.proofs.Numbers.{sixty-eight-numbers}
 use Rattle.fen_text.specs.declared.Fen.{Fen}
@@ -130,13 +132,6 @@ item-over f size h (l ∷ ls) past (suc k) n =
     sym (drop-drop (size * k) size (f l ++ (overLines f ls ++ past))) ∙ ap (drop (size * k)) one in
     rw (z, append-assoc (f l) (overLines f ls) past) (ap (take size) past-one ∙ item-over f size h ls past k (omega arith))
 
--- a number of an item is that number of the list
-of-item : (l : List ℕ) (size k i : ℕ) → i < size → getD l (size * k + i) 0 ≡ getD (item size l k) i 0
-of-item l size k i h = sym (getD-take size (drop (size * k) l) i 0 h ∙ getD-drop (size * k) l i 0)
-
-past-it : (text l : List ℕ) (n : ℕ) → length text ≡ n → drop n (overwrite text l) ≡ drop n l
-past-it text l n e = drop-at text (drop (length text) l) n e ∙ ap (λ (k : ℕ). drop k l) e
-
 single : (s records told : List ℕ) → pageFits s (length records) (length told) ≡ true → AsTheSingleReader s records told
 unfolding recordsLeft toldLeft
 single s records told e = record {
@@ -187,16 +182,6 @@ one-line-is-the-single-call s records told h e m n =
     }
 
 -- ---- two pages
-
--- one text after the other over the front of a room: the second over what is left behind the first
-over-two : (x y l : List ℕ) (n : ℕ) → length x ≡ n → overwrite (x ++ y) l ≡ take n (overwrite x l) ++ overwrite y (drop n (overwrite x l))
-over-two x y l n e =
-    let front : take n (overwrite x l) ≡ x = take-at x (drop (length x) l) n e in
-    let rest : drop n (overwrite x l) ≡ drop (length x) l = drop-at x (drop (length x) l) n e in
-    let past : drop (length (x ++ y)) l ≡ drop (length y) (drop (length x) l) =
-    ap (λ (k : ℕ). drop k l) (length-append x y) ∙ sym (drop-drop (length y) (length x) l) in
-    append-assoc x y (drop (length (x ++ y)) l)
-    ∙ ap₂ (λ (a b : List ℕ). a ++ (y ++ b)) (sym front) (past ∙ ap (drop (length y)) (sym rest))
 
 pub pages-join : PagesJoin
 unfolding recordsLeft toldLeft

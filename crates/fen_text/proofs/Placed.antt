@@ -12,9 +12,9 @@ use lib.ListN.{length, drop, replicate}
 use lib.ListN.{length-append, length-take, length-drop, length-replicate, replicate-append-replicate, take-append-drop, drop-of-length-le}
 use lib.Seq.{append-snoc, set-at, drop-drop}
 use Rattle.square.specs.Piece.{pieceOf, letterOf}
-use Rattle.square.proofs.Below.{below}
-use Rattle.square.specs.Numbers.{allAtMost}
-use Rattle.square.proofs.Numbers.{most-head, most-tail, most-take, most-drop}
+use Rattle.answer.proofs.Below.{below}
+use Rattle.answer.specs.Numbers.{allAtMost}
+use Rattle.answer.proofs.Numbers.{most-head, most-tail, most-take, most-drop}
 use Rattle.fen_text.specs.Placement.{Placement, placement, start, skip, fill, placeByte, placeAll}
 use Rattle.fen_text.specs.Write.{digitText, runText, rowOf, slashText, ranksText}
 

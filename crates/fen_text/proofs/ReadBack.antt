@@ -1,7 +1,7 @@
 -- The read-back: for each record in range, its FEN is read as that record.
 -- Assumes nothing.
 use mathlib.Core.Path.{_≡_, refl, ap, _∙_}
-use mathlib.Core.Bool.{Bool, true, false, not, _||_}
+use mathlib.Core.Bool.{Bool, true, false, not}
 use mathlib.Core.List.{List, [], _∷_, _++_}
 use Prim.Native.Nat.{ℕ, zero, suc, _+_, _≤_, _<_}
 use native.Mathlib.Omega.{arith}
@@ -11,10 +11,10 @@ use lib.ListN.{length}
 use Rattle.square.specs.Piece.{letterOf}
 use Rattle.square.specs.Square.{readSquare}
 use Rattle.castle_rights.specs.CastleRights.{lettersOf, lettersText}
-use Rattle.square.proofs.Below.{fails, every, below, belows, same}
+use Rattle.answer.proofs.Below.{fails, every, below, belows, same}
 use Rattle.board_builder.specs.declared.BoardBuilder.{BoardBuilder}
-use Rattle.square.specs.Numbers.{allAtMost, among}
-use Rattle.square.proofs.Numbers.{most-head, most-tail}
+use Rattle.answer.specs.Numbers.{allAtMost, among}
+use Rattle.answer.proofs.Numbers.{most-head, most-tail, or-left, or-right}
 use Rattle.board_builder.proofs.Ranges.{InRange, in-range}
 use Rattle.fen_text.specs.Token.{onto, joined, tokens}
 use Rattle.fen_text.specs.Read.{sideOf, rightsOf, enPassantOf, fenOf, sided, assembled, ofTokens, readFen}
@@ -25,14 +25,6 @@ use Rattle.fen_text.proofs.Placed.{row-codes, placed-back}
 -- ---- no part of a FEN has a space in it
 abbrev Free : List ℕ → Type 0
 Free xs = among 32 xs ≡ false
-
-or-left : (a b : Bool) → a || b ≡ false → a ≡ false
-or-left true b e = e
-or-left false b e = refl
-
-or-right : (a b : Bool) → a || b ≡ false → b ≡ false
-or-right true b e = absurd (mathlib.Core.Bool.true≢false e)
-or-right false b e = e
 
 free-cons : (x : ℕ) (xs : List ℕ) → eqb x 32 ≡ false → Free xs → Free (x ∷ xs)
 unfolding among

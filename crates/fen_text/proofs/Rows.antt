@@ -1,10 +1,10 @@
 -- The paper's FEN rows and the initial position, each computed.
 -- Assumes nothing.
 use mathlib.Core.Path.{refl}
-use Rattle.square.specs.Ascii.{ascii}
+use Rattle.answer.specs.Ascii.{ascii}
 use Rattle.square.specs.Square.{readSquare}
 use Rattle.square.specs.Piece.{pieceOf, letterOf}
-use Rattle.square.specs.Numbers.{among}
+use Rattle.answer.specs.Numbers.{among}
 use Rattle.castle_rights.specs.CastleRights.{lettersOf, lettersText}
 use Rattle.fen_text.specs.Token.{onto, joined, tokens, placeAfter, placeWhere}
 use Rattle.fen_text.specs.Placement.{placeByte, placeAll}

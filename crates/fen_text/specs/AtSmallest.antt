@@ -1,8 +1,8 @@
 -- Order 2 at its smallest inputs: each number before the next, the first of two bad bytes, and no offset where nothing is wrong.
 -- Assumes nothing.
 use mathlib.Core.Path.{_≡_}
-use Rattle.square.specs.Answer.{tooFewTokens, badPlacement, badSide}
-use Rattle.square.specs.Ascii.{ascii}
+use Rattle.answer.specs.Answer.{tooFewTokens, badPlacement, badSide}
+use Rattle.answer.specs.Ascii.{ascii}
 use Rattle.board_builder.specs.BoardBuilder.{emptyBoard}
 use Rattle.fen_text.specs.Read.{readFen, fenOf}
 use Rattle.fen_text.specs.Rows.{Refused}

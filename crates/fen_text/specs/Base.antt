@@ -5,7 +5,7 @@ use Prim.Native.Nat.{ℕ}
 use mathlib.Core.Bool.{cond, _&&_}
 use mathlib.Core.List.{List, [], _∷_}
 use lib.Dec.{ltb}
-use Rattle.square.specs.Answer.{invalidFen}
+use Rattle.answer.specs.Answer.{invalidFen}
 use Rattle.board_builder.specs.BoardBuilder.{board}
 use Rattle.fen_text.specs.declared.Fen.{Fen}
 use Rattle.fen_text.specs.Token.{tokens}

@@ -5,9 +5,9 @@ use mathlib.Core.Path.{_≡_}
 use mathlib.Core.Bool.{true, false}
 use mathlib.Core.List.{List, []}
 use lib.ListN.{length, getD}
-use Rattle.square.specs.Answer.{tooFewTokens, badPlacement, badSide}
-use Rattle.square.specs.Ascii.{ascii}
-use Rattle.square.specs.Numbers.{among}
+use Rattle.answer.specs.Answer.{tooFewTokens, badPlacement, badSide}
+use Rattle.answer.specs.Ascii.{ascii}
+use Rattle.answer.specs.Numbers.{among}
 use Rattle.fen_text.specs.Token.{tokens, placeOf}
 use Rattle.fen_text.specs.Placement.{signs}
 use Rattle.fen_text.specs.Read.{readFen, refusedAt, fenOf}

@@ -6,8 +6,8 @@ use mathlib.Core.Bool.{Bool, cond, _&&_}
 use mathlib.Core.List.{List, [], _∷_}
 use lib.Dec.{leb}
 use lib.ListN.{length}
-use Rattle.square.specs.declared.Answer.{Answer}
-use Rattle.square.specs.Answer.{accepted, tooShort, overwrite}
+use Rattle.answer.specs.declared.Answer.{Answer}
+use Rattle.answer.specs.Answer.{accepted, tooShort, overwrite}
 use Rattle.board_builder.specs.BoardBuilder.{numbers, recordSize}
 use Rattle.fen_text.specs.Read.{readFen}
 use Rattle.fen_text.specs.Lines.{lines, overLines}

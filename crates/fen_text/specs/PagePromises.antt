@@ -5,9 +5,9 @@ use mathlib.Core.Path.{_≡_}
 use mathlib.Core.Bool.{true, false}
 use mathlib.Core.List.{List, [], _∷_, _++_}
 use lib.ListN.{length, take, drop, getD}
-use Rattle.square.specs.Answer.{accepted, outputTooShort, overwrite}
-use Rattle.square.specs.Numbers.{among}
-use Rattle.square.specs.Parts.{item}
+use Rattle.answer.specs.Answer.{accepted, outputTooShort, overwrite}
+use Rattle.answer.specs.Numbers.{among}
+use Rattle.answer.specs.Parts.{item}
 use Rattle.board_builder.specs.BoardBuilder.{numbers, recordSize}
 use Rattle.fen_text.specs.Read.{readFen}
 use Rattle.fen_text.specs.Lines.{lineFeed, lines}

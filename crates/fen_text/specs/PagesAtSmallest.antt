@@ -4,8 +4,8 @@ use Prim.Native.Nat.{ℕ}
 use mathlib.Core.Path.{_≡_}
 use mathlib.Core.List.{List, [], _∷_, _++_}
 use lib.ListN.{replicate}
-use Rattle.square.specs.Answer.{accepted, tooShort}
-use Rattle.square.specs.Ascii.{ascii}
+use Rattle.answer.specs.Answer.{accepted, tooShort}
+use Rattle.answer.specs.Ascii.{ascii}
 use Rattle.fen_text.specs.Lines.{lines, ended}
 use Rattle.fen_text.specs.Page.{pageAnswer, recordsLeft, toldLeft}
 

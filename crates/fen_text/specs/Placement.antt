@@ -6,9 +6,10 @@ use mathlib.Core.Bool.{Bool, true, false, cond, not}
 use mathlib.Core.List.{List, [], _∷_}
 use lib.Dec.{eqb}
 use lib.ListN.{set, replicate}
-use Rattle.square.specs.Ascii.{ascii}
-use Rattle.square.specs.Numbers.{among}
-use Rattle.square.specs.Square.{squareOf, between}
+use Rattle.answer.specs.Ascii.{ascii}
+use Rattle.answer.specs.Numbers.{among}
+use Rattle.answer.specs.Numbers.{between}
+use Rattle.square.specs.Square.{squareOf}
 use Rattle.square.specs.Piece.{pieceOf}
 use Rattle.board_builder.specs.BoardBuilder.{squares}
 use Rattle.fen_text.specs.Token.{placeWhere}

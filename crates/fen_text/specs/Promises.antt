@@ -5,9 +5,9 @@ use mathlib.Core.Path.{_≡_}
 use mathlib.Core.Bool.{true}
 use mathlib.Core.List.{List}
 use lib.ListN.{length, take}
-use Rattle.square.specs.declared.Answer.{Answer}
-use Rattle.square.specs.Answer.{writeAnswer, writeBytes}
-use Rattle.square.specs.Promises.{ItsText, Invented}
+use Rattle.answer.specs.declared.Answer.{Answer}
+use Rattle.answer.specs.Answer.{writeAnswer, writeBytes}
+use Rattle.answer.specs.Promises.{ItsText, Invented}
 use Rattle.board_builder.specs.declared.BoardBuilder.{BoardBuilder}
 use Rattle.board_builder.specs.BoardBuilder.{inRange}
 use Rattle.fen_text.specs.declared.Fen.{Fen}

@@ -4,8 +4,8 @@
 use Prim.Native.Nat.{ℕ}
 use Prim.Native.String.{String}
 use mathlib.Core.Path.{_≡_}
-use Rattle.square.specs.Answer.{tooFewTokens, badPlacement}
-use Rattle.square.specs.Ascii.{ascii}
+use Rattle.answer.specs.Answer.{tooFewTokens, badPlacement}
+use Rattle.answer.specs.Ascii.{ascii}
 use Rattle.board_builder.specs.BoardBuilder.{initialBoard}
 use Rattle.fen_text.specs.Read.{readFen, refusedAt, fenOf}
 use Rattle.fen_text.specs.Write.{fenText}

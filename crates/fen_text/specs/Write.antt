@@ -6,7 +6,7 @@ use mathlib.Core.Bool.{cond, _&&_}
 use mathlib.Core.List.{List, [], _∷_, _++_}
 use lib.Dec.{eqb}
 use lib.ListN.{take, drop}
-use Rattle.square.specs.Answer.{outOfRange}
+use Rattle.answer.specs.Answer.{outOfRange}
 use Rattle.square.specs.Square.{squareText}
 use Rattle.square.specs.Piece.{letterOf}
 use Rattle.castle_rights.specs.CastleRights.{lettersText}

@@ -2,7 +2,7 @@
 -- Assumes nothing.
 use mathlib.Core.Path.{sym, _∙_}
 use denote.Ref.{now}
-use Rattle.square.specs.Determined.{OneAnswer, OnePart}
+use Rattle.answer.specs.Determined.{OneAnswer, OnePart}
 use Rattle.fen_writer.proofs.write_fen.Reads as write-fen
 use Rattle.fen_writer.proofs.write_fen.Kinds as write-fen·k
 

@@ -11,49 +11,49 @@ use lib.Dec.{leb, leb→le}
 use lib.ListN.{length, take, drop, getD, set, drop-of-length-le}
 use lib.Seq.{take-all}
 use Rattle.square.specs.Piece.{letterOf}
-use Rattle.square.proofs.Below.{below}
-use Rattle.square.proofs.Writes.{store}
-use Rattle.square.specs.Numbers.{allAtMost}
-use Rattle.square.proofs.Numbers.{most-head, most-tail, most-take, most-drop}
+use Rattle.answer.proofs.Below.{below}
+use Rattle.answer.proofs.Writes.{store}
+use Rattle.answer.specs.Numbers.{allAtMost}
+use Rattle.answer.proofs.Numbers.{most-head, most-tail, most-take, most-drop}
 use Rattle.fen_text.specs.Write.{digitText, runText}
-use Rattle.fen_writer.specs.Letters.{lettersOf, rowText}
+use Rattle.fen_writer.specs.CodeLetters.{lettersOn, rowText}
 
-pub letters-long : (xs : List ℕ) → length (lettersOf xs) ≡ length xs
-unfolding lettersOf
+pub letters-long : (xs : List ℕ) → length (lettersOn xs) ≡ length xs
+unfolding lettersOn
 letters-long [] = refl
 letters-long (x ∷ xs) = ap suc (letters-long xs)
 
-pub letters-take : (n : ℕ) (xs : List ℕ) → take n (lettersOf xs) ≡ lettersOf (take n xs)
-unfolding lettersOf
+pub letters-take : (n : ℕ) (xs : List ℕ) → take n (lettersOn xs) ≡ lettersOn (take n xs)
+unfolding lettersOn
 letters-take zero xs = refl
 letters-take (suc n) [] = refl
 letters-take (suc n) (x ∷ xs) = ap (λ (l : List ℕ). letterOf x ∷ l) (letters-take n xs)
 
-pub letters-drop : (n : ℕ) (xs : List ℕ) → drop n (lettersOf xs) ≡ lettersOf (drop n xs)
-unfolding lettersOf
+pub letters-drop : (n : ℕ) (xs : List ℕ) → drop n (lettersOn xs) ≡ lettersOn (drop n xs)
+unfolding lettersOn
 letters-drop zero xs = refl
 letters-drop (suc n) [] = refl
 letters-drop (suc n) (x ∷ xs) = letters-drop n xs
 
 -- past the end both are 0
-pub letters-at : (xs : List ℕ) (i : ℕ) → getD (lettersOf xs) i 0 ≡ letterOf (getD xs i 0)
-unfolding lettersOf letterOf
+pub letters-at : (xs : List ℕ) (i : ℕ) → getD (lettersOn xs) i 0 ≡ letterOf (getD xs i 0)
+unfolding lettersOn letterOf
 letters-at [] i = refl
 letters-at (x ∷ xs) zero = refl
 letters-at (x ∷ xs) (suc i) = letters-at xs i
 
 -- a turn's store takes the copy of i letters to the copy of one more, and the last one ends it
 pub letters-turn : (pieces old new : List ℕ) (i b : ℕ) → i < length pieces → i < length old → b ≡ letterOf (getD pieces i 0)
-    → new ≡ take i (lettersOf pieces) ++ drop i old → set new i b ≡ take (i + 1) (lettersOf pieces) ++ drop (i + 1) old
+    → new ≡ take i (lettersOn pieces) ++ drop i old → set new i b ≡ take (i + 1) (lettersOn pieces) ++ drop (i + 1) old
 letters-turn pieces old new i b h k e f =
-    let long : i < length (lettersOf pieces) = omega (arith, letters-long pieces) in
-    rw (f, e, ← letters-at pieces i, add-one i) (store (lettersOf pieces) old i long k)
+    let long : i < length (lettersOn pieces) = omega (arith, letters-long pieces) in
+    rw (f, e, ← letters-at pieces i, add-one i) (store (lettersOn pieces) old i long k)
 
-pub letters-end : (pieces old new : List ℕ) (i : ℕ) → length pieces ≤ i → length old ≤ i → new ≡ take i (lettersOf pieces) ++ drop i old
-    → new ≡ lettersOf pieces
+pub letters-end : (pieces old new : List ℕ) (i : ℕ) → length pieces ≤ i → length old ≤ i → new ≡ take i (lettersOn pieces) ++ drop i old
+    → new ≡ lettersOn pieces
 letters-end pieces old new i h k f =
-    let long : length (lettersOf pieces) ≤ i = omega (arith, letters-long pieces) in
-    f ∙ rw (drop-of-length-le old k, take-all i (lettersOf pieces) long) (append-nil (lettersOf pieces))
+    let long : length (lettersOn pieces) ≤ i = omega (arith, letters-long pieces) in
+    f ∙ rw (drop-of-length-le old k, take-all i (lettersOn pieces) long) (append-nil (lettersOn pieces))
 
 -- the next square of a rank: an empty one, a letter
 pub row-empty : (n l : ℕ) (xs : List ℕ) → l ≡ 0 → rowText n (l ∷ xs) ≡ rowText (n + 1) xs
@@ -74,17 +74,17 @@ no-letter : letterOf 0 ≡ 0
 unfolding letterOf
 no-letter = refl
 
-row-run : (n : ℕ) (xs : List ℕ) → allAtMost 12 xs ≡ true → rowText n (lettersOf xs) ≡ runText n xs
-unfolding lettersOf rowText runText
+row-run : (n : ℕ) (xs : List ℕ) → allAtMost 12 xs ≡ true → rowText n (lettersOn xs) ≡ runText n xs
+unfolding lettersOn rowText runText
 row-run n [] ok = refl
-row-run n (zero ∷ xs) ok = row-empty n (letterOf 0) (lettersOf xs) no-letter ∙ row-run (n + 1) xs (most-tail 12 0 xs ok)
+row-run n (zero ∷ xs) ok = row-empty n (letterOf 0) (lettersOn xs) no-letter ∙ row-run (n + 1) xs (most-tail 12 0 xs ok)
 row-run n (suc x ∷ xs) ok =
-    row-letter n (letterOf (suc x)) (lettersOf xs) (some-letter x (omega (arith, most-head 12 (suc x) xs ok)))
+    row-letter n (letterOf (suc x)) (lettersOn xs) (some-letter x (omega (arith, most-head 12 (suc x) xs ok)))
     ∙ ap (λ (l : List ℕ). digitText n ++ (letterOf (suc x) ∷ l)) (row-run 0 xs (most-tail 12 (suc x) xs ok))
 
 -- a rank of the letters is the rank's letters
 pub rank-run : (from : ℕ) (pieces : List ℕ) → allAtMost 12 pieces ≡ true
-    → rowText 0 (take 8 (drop from (lettersOf pieces))) ≡ runText 0 (take 8 (drop from pieces))
+    → rowText 0 (take 8 (drop from (lettersOn pieces))) ≡ runText 0 (take 8 (drop from pieces))
 rank-run from pieces ok =
     ap (rowText 0) (ap (take 8) (letters-drop from pieces) ∙ letters-take 8 (drop from pieces))
     ∙ row-run 0 (take 8 (drop from pieces)) (most-take 8 12 (drop from pieces) (most-drop from 12 pieces ok))

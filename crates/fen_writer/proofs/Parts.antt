@@ -9,10 +9,10 @@ use native.Mathlib.Omega.{arith}
 use lib.Dec.{eqb, eqb·suc-zero, lit<, lit≤}
 use lib.ListN.{length}
 use borrow.Author.Tests.{eq-eqb, ne-eqb}
-use Rattle.square.specs.Numbers.{same}
+use Rattle.answer.specs.Numbers.{same}
 use Rattle.square.specs.Square.{squareText, squareOf}
-use Rattle.square.proofs.Below.{belows, holds}
-use Rattle.square.proofs.Same.{same-eq}
+use Rattle.answer.proofs.Below.{belows, holds}
+use Rattle.answer.proofs.Same.{same-eq}
 use Rattle.castle_rights.specs.CastleRights.{lettersOf, lettersText}
 use Rattle.fen_text.specs.Write.{rightsText, enPassantText}
 use Rattle.board_builder.specs.declared.BoardBuilder.{BoardBuilder}
@@ -20,8 +20,8 @@ use Rattle.board_builder.specs.BoardBuilder.{inRange}
 use Rattle.board_builder.proofs.Ranges.{in-range}
 use Rattle.fen_text.proofs.Cases.{cond-both}
 use Rattle.fen_text.proofs.Lengths.{rights-long, en-passant-long}
-use Rattle.square.specs.Pushed.{Put}
-use Rattle.square.proofs.Pushes.{put-both, put-as}
+use Rattle.answer.specs.CodePushed.{Put}
+use Rattle.answer.proofs.Pushes.{put-both, put-as}
 
 -- one letter where its test holds
 abbrev pub letterIf : Bool → ℕ → List ℕ

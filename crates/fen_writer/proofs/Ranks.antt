@@ -8,11 +8,11 @@ use native.Mathlib.Omega.{arith}
 use lib.Dec.{ltb}
 use lib.ListN.{length, take, drop, length-append}
 use borrow.Author.Tests.{lt-ltb}
-use Rattle.square.specs.Numbers.{allAtMost}
+use Rattle.answer.specs.Numbers.{allAtMost}
 use Rattle.fen_text.specs.Write.{runText, rowOf, slashText, ranksText}
-use Rattle.fen_writer.specs.Letters.{lettersOf, rowText}
-use Rattle.square.specs.Pushed.{Put}
-use Rattle.square.proofs.Pushes.{put-both, put-as}
+use Rattle.fen_writer.specs.CodeLetters.{lettersOn, rowText}
+use Rattle.answer.specs.CodePushed.{Put}
+use Rattle.answer.proofs.Pushes.{put-both, put-as}
 use Rattle.fen_writer.proofs.Letters.{rank-run}
 
 -- the first n bytes and the text of the ranks that are left make the whole, in number and in bytes
@@ -41,13 +41,13 @@ next left pieces h =
     ap (λ (m : ℕ). ranksText m pieces) whole ∙ above (left - 1) pieces
 
 -- a rank's row, by the letters
-rank-as : (pieces letters : List ℕ) (from : ℕ) {old mid : List ℕ} {n m : ℕ} → letters ≡ lettersOf pieces → allAtMost 12 pieces ≡ true
+rank-as : (pieces letters : List ℕ) (from : ℕ) {old mid : List ℕ} {n m : ℕ} → letters ≡ lettersOn pieces → allAtMost 12 pieces ≡ true
     → Put 85 old n (rowText 0 (take 8 (drop from letters))) mid m → Put 85 old n (runText 0 (take 8 (drop from pieces))) mid m
 rank-as pieces letters from e ok p = put-as (ap (λ (l : List ℕ). rowText 0 (take 8 (drop from l))) e ∙ rank-run from pieces ok) p
 
 -- behind a rank there is room for what is left
 pub ranks-room : {pieces old mid : List ℕ} {n m left : ℕ} (letters : List ℕ)
-    → Ranks pieces old n left → 0 < left → letters ≡ lettersOf pieces → allAtMost 12 pieces ≡ true
+    → Ranks pieces old n left → 0 < left → letters ≡ lettersOn pieces → allAtMost 12 pieces ≡ true
     → Put 85 old n (rowText 0 (take 8 (drop ((left - 1) * 8) letters))) mid m → m ≤ length (ranksText 8 pieces)
 ranks-room {pieces} {left = left} letters r h e ok p =
     let q = rank-as pieces letters ((left - 1) * 8) e ok p in
@@ -55,7 +55,7 @@ ranks-room {pieces} {left = left} letters r h e ok p =
 
 -- one rank, and a slash where there are ranks below it
 pub ranks-turn : {pieces old mid new : List ℕ} {n m r left : ℕ} (letters : List ℕ)
-    → Ranks pieces old n left → 0 < left → letters ≡ lettersOf pieces → allAtMost 12 pieces ≡ true
+    → Ranks pieces old n left → 0 < left → letters ≡ lettersOn pieces → allAtMost 12 pieces ≡ true
     → Put 85 old n (rowText 0 (take 8 (drop ((left - 1) * 8) letters))) mid m → Put 85 mid m (cond (ltb 0 (left - 1)) (47 ∷ []) []) new r
     → Ranks pieces new r (left - 1)
 ranks-turn {pieces} {old} {new = new} {n} {r = r} {left} letters a h e ok p q =

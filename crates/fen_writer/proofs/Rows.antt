@@ -12,8 +12,8 @@ use lib.Seq.{take-suc-set, take-take, take-at, drop-cons, append-snoc, getD-take
 use borrow.Author.Tests.{eq-eqb, ne-eqb, eqb-true, eqb-false, lt-ltb, le-ltb}
 use Rattle.fen_text.specs.Write.{digitText}
 use Rattle.fen_text.proofs.Cases.{cond-both}
-use Rattle.fen_writer.specs.Letters.{rowText}
-use Rattle.square.specs.Pushed.{Put}
+use Rattle.fen_writer.specs.CodeLetters.{rowText}
+use Rattle.answer.specs.CodePushed.{Put}
 use Rattle.fen_writer.proofs.Letters.{row-empty, row-letter}
 
 -- with i squares behind and a run of `run` open: the first n bytes are what is done and the run's digit, and what is done and what is left

@@ -1,12 +1,12 @@
 // The FEN writer, after board_builder.rs: a record's text, written into a lent room.
 mod text;
 
+use answer::Answer;
+use answer::OUT_OF_RANGE;
 use board_builder::BoardBuilder;
-use square::Answer;
-use square::OUT_OF_RANGE;
 ghost use mathlib.Core.Path.{_≡_};
 ghost use lib.ListN.{length};
-ghost use Rattle.square.specs.Answer.{writeAnswer, writeBytes};
+ghost use Rattle.answer.specs.Answer.{writeAnswer, writeBytes};
 ghost use Rattle.fen_text.specs.Write.{fenText, fenCheck};
 
 // Writes the record's FEN to the front of `out`. Checks 5, then 7.
@@ -15,9 +15,9 @@ pub fn write_fen(board: BoardBuilder, out: &mut [u8]) -> Answer
     ensures bytes { λ r. ⌜ now (out .exit) ≡ writeBytes (fenCheck board) (fenText board) (now (out .entry)) ⌝ }
 {
     if !board.in_range() {
-        return square::refused(OUT_OF_RANGE);
+        return answer::refused(OUT_OF_RANGE);
     }
     let mut bytes = [0u8; 85];
     let length = text::fen_text(&mut bytes, board);
-    square::write_text(&bytes[..length], out)
+    answer::write_text(&bytes[..length], out)
 }

@@ -7,11 +7,11 @@ ghost use mathlib.Core.List.{[], _∷_};
 ghost use Prim.Native.Nat.{_+_, _<_};
 ghost use lib.Dec.{eqb, ltb};
 ghost use lib.ListN.{length, take, drop};
-ghost use Rattle.square.specs.Numbers.{allAtMost};
+ghost use Rattle.answer.specs.Numbers.{allAtMost};
 ghost use Rattle.board_builder.specs.BoardBuilder.{inRange};
 ghost use Rattle.fen_text.specs.Write.{sideLetter, rightsText, enPassantText, ranksText, tailText, fenText};
-ghost use Rattle.fen_writer.specs.Letters.{lettersOf, rowText};
-ghost use Rattle.square.specs.Pushed.{Put};
+ghost use Rattle.fen_writer.specs.CodeLetters.{lettersOn, rowText};
+ghost use Rattle.answer.specs.CodePushed.{Put};
 
 fn push(bytes: &mut [u8; 85], n: usize, b: u8) -> usize
     requires { ⌜ length (now bytes) ≡ 85 ⌝ }
@@ -37,7 +37,7 @@ fn push_if(bytes: &mut [u8; 85], n: usize, there: bool, b: u8) -> usize
 fn letters_of(pieces: &[u8; 64], letters: &mut [u8; 64])
     requires { ⌜ length (now pieces) ≡ 64 ⌝ }
     requires { ⌜ length (now letters) ≡ 64 ⌝ }
-    ensures { λ r. ⌜ now (letters .exit) ≡ lettersOf (now (pieces .entry)) ⌝ }
+    ensures { λ r. ⌜ now (letters .exit) ≡ lettersOn (now (pieces .entry)) ⌝ }
 {
     let mut i: usize = 0;
     while i < 64 {

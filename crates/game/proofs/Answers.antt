@@ -9,11 +9,11 @@ use native.Mathlib.Omega.{arith}
 use lib.Dec.{eqb, leb, ltb}
 use lib.ListN.{length, take, length-take}
 use borrow.Author.Tests.{eq-eqb, eqb-true, leb-true, ltb-true}
-use Rattle.square.specs.Answer.{notGood, partTooShort, gameOver, logFull, noOffer, noClaim, notListed, wrongSide, wrongRecord}
-use Rattle.square.specs.Numbers.{among}
-use Rattle.square.specs.Parts.{item}
-use Rattle.square.proofs.Numbers.{both-left, both-right}
-use Rattle.square.proofs.Parts.{length-item}
+use Rattle.answer.specs.Answer.{notGood, partTooShort, gameOver, logFull, noOffer, noClaim, notListed, wrongSide, wrongRecord}
+use Rattle.answer.specs.Numbers.{among}
+use Rattle.answer.specs.Parts.{item}
+use Rattle.answer.proofs.Numbers.{both-left, both-right}
+use Rattle.answer.proofs.Parts.{length-item}
 use Rattle.chess_move.specs.Number.{lastMove}
 use Rattle.board_builder.specs.BoardBuilder.{recordSize, numbersInRange}
 use Rattle.board_after.proofs.Records.{record-long}
@@ -35,9 +35,9 @@ use Rattle.game_rules.proofs.Checks.{none-refuses, refusals-joined, test-held, 
 use Rattle.game_rules.proofs.Decide.{sound-good}
 use Rattle.game_rules.proofs.Log.{current-is, actions-at, moves-at, result-is, offer-is}
 use Rattle.game_rules.proofs.Rulings.{claim-is}
-use Rattle.good_log.specs.Steps.{otherCheck}
+use Rattle.good_log.specs.CodeSteps.{otherCheck}
 use Rattle.good_log.proofs.Turns.{board-fits}
-use Rattle.game.specs.Answers.{openCheck, otherAnswer}
+use Rattle.game.specs.CodeAnswers.{openCheck, otherAnswer}
 
 pub record Ready (acts ps : List ℕ) (n m : ℕ) : Type 0 where
   pub counted : m ≡ movesIn acts n

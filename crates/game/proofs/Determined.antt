@@ -2,7 +2,7 @@
 -- Assumes nothing.
 use mathlib.Core.Path.{sym, _∙_}
 use denote.Ref.{now}
-use Rattle.square.specs.Determined.{OneAnswer, OnePart}
+use Rattle.answer.specs.Determined.{OneAnswer, OnePart}
 use Rattle.game.proofs.offer_draw.Reads as offer-draw
 use Rattle.game.proofs.offer_draw.Kinds as offer-draw·k
 use Rattle.game.proofs.accept_draw.Reads as accept-draw

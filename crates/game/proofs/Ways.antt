@@ -9,10 +9,10 @@ use lib.ListN.{length, getD}
 use native.Mathlib.Numerals.{add-one}
 use lib.Dec.{eqb, leb, ltb}
 use borrow.Author.Tests.{eq-eqb, ne-eqb, eqb-true, eqb-false, lt-ltb, le-ltb, lt-leb, le-leb, leb-true}
-use Rattle.square.specs.declared.Answer.{Answer}
-use Rattle.square.specs.Answer.{accepted, refused, gameOver, logFull, notListed, wrongSide, wrongRecord, partTooShort}
-use Rattle.square.specs.Parts.{item, written}
-use Rattle.square.proofs.Numbers.{both-right}
+use Rattle.answer.specs.declared.Answer.{Answer}
+use Rattle.answer.specs.Answer.{accepted, refused, gameOver, logFull, notListed, wrongSide, wrongRecord, partTooShort}
+use Rattle.answer.specs.Parts.{item, written}
+use Rattle.answer.proofs.Numbers.{both-right}
 use Rattle.board_builder.specs.declared.BoardBuilder.{BoardBuilder}
 use Rattle.board_builder.specs.BoardBuilder.{squares, recordSize, sideAt, numbers}
 use Rattle.chess_move.specs.Number.{moveOf}
@@ -33,12 +33,12 @@ use Rattle.game_rules.specs.Rules.{makeMove, unless, comesAfter, firstRefusal, 
 use Rattle.game_rules.specs.Good.{historyOf}
 use Rattle.game_rules.specs.Calls.{longEnough, logCheck, callAnswer, startAnswer, resultAnswer, claimAnswer, counts, countsAfter, actionsAfter}
 use Rattle.game_rules.specs.Calls.{positionsAfter, positionsBegun, told}
-use Rattle.good_log.specs.Steps.{otherCheck}
+use Rattle.good_log.specs.CodeSteps.{otherCheck}
 use Rattle.game_rules.proofs.Checks.{first-refuses, first-passes, start-says}
 use Rattle.game_rules.proofs.Log.{result-is}
 use Rattle.game_rules.proofs.Rulings.{claim-is}
 use Rattle.game.proofs.Answers.{Ready, log-ready, move-is}
-use Rattle.game.specs.Answers.{openCheck, otherAnswer, otherCounts, otherActions}
+use Rattle.game.specs.CodeAnswers.{openCheck, otherAnswer, otherCounts, otherActions}
 
 -- a check, found by its number
 pub refused-by : (a x : ℕ) (l : List ℕ) → x ≡ a → (x ≡ 0 → ⊥) → x ≡ firstRefusal (a ∷ l)

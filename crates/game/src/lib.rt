@@ -1,6 +1,14 @@
 // The game log: its calls and queries, after game.rs. The log lies in two lent parts, and its counts travel by value.
 use action::ACTION_SIZE;
 use action::Action;
+use answer::ACCEPTED;
+use answer::Answer;
+use answer::GAME_OVER;
+use answer::LOG_FULL;
+use answer::NOT_LISTED;
+use answer::PART_TOO_SHORT;
+use answer::WRONG_RECORD;
+use answer::WRONG_SIDE;
 use board_builder::BoardBuilder;
 use board_builder::SIDE_AT;
 use chess_move::ChessMove;
@@ -11,25 +19,17 @@ use game_rules::MAX_ACTIONS;
 use game_rules::MAX_MOVES;
 use game_rules::POSITIONS_LENGTH;
 use position::POSITION_SIZE;
-use square::ACCEPTED;
-use square::Answer;
-use square::GAME_OVER;
-use square::LOG_FULL;
-use square::NOT_LISTED;
-use square::PART_TOO_SHORT;
-use square::WRONG_RECORD;
-use square::WRONG_SIDE;
 ghost use mathlib.Core.Path.{_≡_};
 ghost use Prim.Native.Nat.{_+_, _*_, _≤_};
 ghost use lib.ListN.{length};
-ghost use Rattle.square.specs.Parts.{written};
+ghost use Rattle.answer.specs.Parts.{written};
 ghost use Rattle.action.specs.Layout.{actionSize, actionBytes, actionCheck};
 ghost use Rattle.position.specs.Layout.{positionSize};
 ghost use Rattle.stored_position.specs.Bytes.{positionBytes, positionCheck, positionGiven};
 ghost use Rattle.game_rules.specs.Limits.{limits};
 ghost use Rattle.game_rules.specs.Rules.{makeMove, offerDraw, acceptDraw, declareDraw, resign};
 ghost use Rattle.game_rules.specs.Calls.{callAnswer, counts, countsAfter, actionsAfter, positionsAfter, startAnswer, positionsBegun, resultAnswer, claimAnswer};
-ghost use Rattle.game.specs.Answers.{openCheck, otherAnswer, otherCounts, otherActions};
+ghost use Rattle.game.specs.CodeAnswers.{openCheck, otherAnswer, otherCounts, otherActions};
 
 fn counts(number: u64, n: usize, m: usize) -> Counts
     ensures { λ r. ⌜ r ≡ counts number n m ⌝ }
@@ -161,7 +161,7 @@ fn move_answer(
     if number != ACCEPTED {
         return number;
     }
-    if next.side_to_move == square::byte_at(p, SIDE_AT) {
+    if next.side_to_move == answer::byte_at(p, SIDE_AT) {
         return WRONG_SIDE;
     }
     if !board_after::leads_to_board(p, x as u16, next) {
@@ -245,9 +245,9 @@ pub fn result(acts: &[u8], ps: &[u8], n: u64, m: u64) -> Answer
 {
     let number = good_log::check(acts, ps, n as usize, m as usize);
     if number != ACCEPTED {
-        return square::refused(number);
+        return answer::refused(number);
     }
-    square::accepted(ending::result(acts, ps, n as usize, m as usize))
+    answer::accepted(ending::result(acts, ps, n as usize, m as usize))
 }
 
 // Whether a draw may be declared, 1 or 0.
@@ -256,13 +256,13 @@ pub fn can_declare_draw(acts: &[u8], ps: &[u8], n: u64, m: u64) -> Answer
 {
     let number = good_log::check(acts, ps, n as usize, m as usize);
     if number != ACCEPTED {
-        return square::refused(number);
+        return answer::refused(number);
     }
     if ending::result(acts, ps, n as usize, m as usize) != GOES_ON {
-        return square::accepted(0);
+        return answer::accepted(0);
     }
     if claim::stands(acts, ps, n as usize, m as usize) {
-        return square::accepted(1);
+        return answer::accepted(1);
     }
-    square::accepted(0)
+    answer::accepted(0)
 }

@@ -1,7 +1,7 @@
 -- The order of the checks of a log call, each row computed.
 -- Assumes nothing.
 use mathlib.Core.Path.{refl}
-use Rattle.square.specs.Numbers.{same, allAtMost, among}
+use Rattle.answer.specs.Numbers.{same, allAtMost, among}
 use Rattle.square.specs.Piece.{kindOf}
 use Rattle.board_builder.specs.BoardBuilder.{numbers, inRange, numbersInRange}
 use Rattle.board_after.specs.After.{castles, rookMoved, takesInPassing, pawnRemoved, setDown, squaresAfter, rightsWithout, rightsAfter}

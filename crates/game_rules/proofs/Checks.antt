@@ -8,10 +8,10 @@ use Prim.Native.Nat.{ℕ, suc, _≤_, _<_}
 use native.Mathlib.Omega.{arith}
 use lib.Dec.{eqb, leb, ltb}
 use borrow.Author.Tests.{eqb-true, eqb-false, ne-eqb, ltb-true, not-true}
-use Rattle.square.specs.declared.Answer.{Answer}
-use Rattle.square.specs.Answer.{notListed, gameOver, wrongSide, wrongRecord, logFull, noOffer, noClaim, notGood, partTooShort}
-use Rattle.square.specs.Numbers.{among}
-use Rattle.square.proofs.Numbers.{both-left, both-right}
+use Rattle.answer.specs.declared.Answer.{Answer}
+use Rattle.answer.specs.Answer.{notListed, gameOver, wrongSide, wrongRecord, logFull, noOffer, noClaim, notGood, partTooShort}
+use Rattle.answer.specs.Numbers.{among}
+use Rattle.answer.proofs.Numbers.{both-left, both-right}
 use Rattle.chess_move.specs.Number.{lastMove}
 use Rattle.chess_move.proofs.Numbers.{number-of-parts}
 use Rattle.move_list.proofs.Listed.{listed-in-range}

@@ -9,12 +9,12 @@ use native.Mathlib.Omega.{arith}
 use lib.Dec.{eqb, leb}
 use lib.ListN.{length, drop, take, length-append}
 use borrow.Author.Tests.{eqb-true, eq-eqb}
-use Rattle.square.specs.declared.Answer.{Answer}
-use Rattle.square.specs.Numbers.{same}
-use Rattle.square.specs.Parts.{item}
-use Rattle.square.proofs.Numbers.{both-left, both-right}
-use Rattle.square.proofs.Same.{same-eq, same-refl}
-use Rattle.square.proofs.Written.{used-grows, last-piece}
+use Rattle.answer.specs.declared.Answer.{Answer}
+use Rattle.answer.specs.Numbers.{same}
+use Rattle.answer.specs.Parts.{item}
+use Rattle.answer.proofs.Numbers.{both-left, both-right}
+use Rattle.answer.proofs.Same.{same-eq, same-refl}
+use Rattle.answer.proofs.Written.{used-grows, last-piece}
 use Rattle.chess_move.specs.Number.{lastMove}
 use Rattle.chess_move.proofs.Numbers.{number-of-parts}
 use Rattle.action.specs.declared.Action.the-variants.{MakeMove, OfferDraw, AcceptDraw, DeclareDraw, Resign}

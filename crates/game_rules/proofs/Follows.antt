@@ -3,7 +3,7 @@
 use mathlib.Core.Path.{_≡_, sym, _∙_}
 use mathlib.Core.List.{List}
 use Prim.Native.Nat.{ℕ}
-use Rattle.square.proofs.Same.{same-eq}
+use Rattle.answer.proofs.Same.{same-eq}
 use Rattle.position.specs.Layout.{Position}
 use Rattle.game_rules.specs.Limits.{Limits}
 use Rattle.game_rules.specs.Rules.{makeMove, offerDraw, acceptDraw, declareDraw, resign, History, begun, after, current}

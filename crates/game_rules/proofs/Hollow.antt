@@ -10,11 +10,11 @@ use native.Mathlib.Omega.{arith}
 use lib.Dec.{T, eqb, leb}
 use lib.ListN.{replicate, take, getD}
 use borrow.Author.Tests.{eqb-true, eq-eqb, leb-true}
-use Rattle.square.specs.declared.Answer.{Answer}
-use Rattle.square.specs.Answer.{accepted}
-use Rattle.square.specs.Numbers.{same, allAtMost}
-use Rattle.square.proofs.Below.{every, fails, below}
-use Rattle.square.proofs.Numbers.{both-left, both-right}
+use Rattle.answer.specs.declared.Answer.{Answer}
+use Rattle.answer.specs.Answer.{accepted}
+use Rattle.answer.specs.Numbers.{same, allAtMost}
+use Rattle.answer.proofs.Below.{every, fails, below}
+use Rattle.answer.proofs.Numbers.{both-left, both-right}
 use Rattle.board_builder.specs.BoardBuilder.{recordSize, inRange, numbersInRange}
 use Rattle.move_list.specs.MoveList.{listInRange}
 use Rattle.action.specs.Layout.{actionSize, actionBytes, actionOf}

@@ -9,8 +9,8 @@ use native.Mathlib.Omega.{arith}
 use lib.Dec.{eqb}
 use lib.ListN.{length, take}
 use borrow.Author.Tests.{eqb-true, ne-eqb}
-use Rattle.square.specs.Parts.{written}
-use Rattle.square.proofs.Written.{used-written}
+use Rattle.answer.specs.Parts.{written}
+use Rattle.answer.proofs.Written.{used-written}
 use Rattle.action.specs.Layout.{actionSize, actionBytes}
 use Rattle.action.proofs.ReadBack.{length-bytes}
 use Rattle.position.specs.Layout.{Position, positionSize}

@@ -8,9 +8,9 @@ use native.Mathlib.Omega.{arith}
 use lib.Dec.{eqb, leb}
 use lib.ListN.{length, getD}
 use borrow.Author.Tests.{leb-true}
-use Rattle.square.specs.declared.Answer.{Answer}
-use Rattle.square.proofs.Numbers.{both-left, both-right}
-use Rattle.square.specs.Parts.{item}
+use Rattle.answer.specs.declared.Answer.{Answer}
+use Rattle.answer.proofs.Numbers.{both-left, both-right}
+use Rattle.answer.specs.Parts.{item}
 use Rattle.chess_move.specs.Number.{lastMove, moveOf, ofBytes}
 use Rattle.chess_move.proofs.Numbers.{number-of-parts}
 use Rattle.action.specs.declared.Action.{Action}

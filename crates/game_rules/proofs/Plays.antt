@@ -9,9 +9,9 @@ use native.Mathlib.Omega.{arith}
 use lib.Dec.{leb}
 use lib.ListN.{length}
 use borrow.Author.Tests.{le-leb, leb-true}
-use Rattle.square.specs.Parts.{written}
-use Rattle.square.proofs.Numbers.{both-left, both-right}
-use Rattle.square.proofs.Parts.{length-written}
+use Rattle.answer.specs.Parts.{written}
+use Rattle.answer.proofs.Numbers.{both-left, both-right}
+use Rattle.answer.proofs.Parts.{length-written}
 use Rattle.action.specs.Layout.{actionSize, actionBytes}
 use Rattle.action.proofs.ReadBack.{length-bytes}
 use Rattle.position.specs.Layout.{Position, positionSize}

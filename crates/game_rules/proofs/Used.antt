@@ -8,7 +8,7 @@ use Prim.Native.Nat.{ℕ, suc, _*_}
 use lib.Dec.{eqb}
 use lib.ListN.{take}
 use borrow.Author.Tests.{eqb-true}
-use Rattle.square.specs.Answer.{accepted, refused}
+use Rattle.answer.specs.Answer.{accepted, refused}
 use Rattle.action.specs.Layout.{actionSize}
 use Rattle.position.specs.Layout.{positionSize}
 use Rattle.game_rules.specs.Limits.{Limits}

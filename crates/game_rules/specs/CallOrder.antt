@@ -6,7 +6,7 @@ use mathlib.Core.Path.{_≡_}
 use mathlib.Core.List.{List, [], _∷_, _++_}
 use Prim.Native.Nat.{ℕ}
 use lib.ListN.{replicate}
-use Rattle.square.specs.Answer.{outOfRange, badList, notGood, gameOver, notListed, wrongSide, wrongRecord, logFull, noOffer, noClaim, partTooShort}
+use Rattle.answer.specs.Answer.{outOfRange, badList, notGood, gameOver, notListed, wrongSide, wrongRecord, logFull, noOffer, noClaim, partTooShort}
 use Rattle.position.specs.Layout.{Position}
 use Rattle.stored_position.specs.Bytes.{positionBytes}
 use Rattle.game_rules.specs.Limits.{Limits}

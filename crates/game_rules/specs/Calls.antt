@@ -5,9 +5,9 @@ use mathlib.Core.List.{List, [], _∷_}
 use Prim.Native.Nat.{ℕ, suc, _+_, _*_}
 use lib.Dec.{eqb, leb}
 use lib.ListN.{length}
-use Rattle.square.specs.declared.Answer.{Answer}
-use Rattle.square.specs.Answer.{accepted, refused, notGood, partTooShort}
-use Rattle.square.specs.Parts.{written}
+use Rattle.answer.specs.declared.Answer.{Answer}
+use Rattle.answer.specs.Answer.{accepted, refused, notGood, partTooShort}
+use Rattle.answer.specs.Parts.{written}
 use Rattle.action.specs.Layout.{actionSize, actionBytes}
 use Rattle.position.specs.Layout.{Position, positionSize}
 use Rattle.stored_position.specs.Bytes.{positionBytes, positionCheck}

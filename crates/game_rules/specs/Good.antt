@@ -6,8 +6,8 @@ use mathlib.Core.List.{List, [], _++_}
 use Prim.Native.Nat.{ℕ, zero, suc, _*_}
 use lib.Dec.{eqb}
 use lib.ListN.{take}
-use Rattle.square.specs.Numbers.{same}
-use Rattle.square.specs.Parts.{item}
+use Rattle.answer.specs.Numbers.{same}
+use Rattle.answer.specs.Parts.{item}
 use Rattle.chess_move.specs.Number.{numberAnswer}
 use Rattle.action.specs.declared.Action.the-variants.{MakeMove, OfferDraw, AcceptDraw, DeclareDraw, Resign}
 use Rattle.action.specs.declared.Stored.{Stored}

@@ -7,7 +7,7 @@ use mathlib.Core.List.{List}
 use Prim.Native.Nat.{ℕ, suc, _+_, _*_}
 use lib.Dec.{eqb}
 use lib.ListN.{take}
-use Rattle.square.specs.Answer.{accepted}
+use Rattle.answer.specs.Answer.{accepted}
 use Rattle.board_after.specs.After.{recordAfter}
 use Rattle.action.specs.Layout.{actionSize}
 use Rattle.position.specs.Layout.{Position, positionSize}

@@ -4,8 +4,8 @@ use mathlib.Core.Bool.{Bool, true, false, cond, not, _&&_, _||_}
 use mathlib.Core.List.{List, [], _∷_, _++_}
 use Prim.Native.Nat.{ℕ, suc}
 use lib.Dec.{eqb, leb, ltb}
-use Rattle.square.specs.Answer.{notListed, gameOver, wrongSide, wrongRecord, logFull, noOffer, noClaim}
-use Rattle.square.specs.Numbers.{same, among}
+use Rattle.answer.specs.Answer.{notListed, gameOver, wrongSide, wrongRecord, logFull, noOffer, noClaim}
+use Rattle.answer.specs.Numbers.{same, among}
 use Rattle.chess_move.specs.Number.{moveOf}
 use Rattle.board_after.specs.After.{recordAfter}
 use Rattle.action.specs.declared.Action.{Action}

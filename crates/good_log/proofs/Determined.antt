@@ -1,7 +1,7 @@
 -- Each public function's contract, as the toolchain reads it off the source, permits one answer, and one content of each slice that is lent to be written.
 -- Assumes nothing.
 use mathlib.Core.Path.{sym, _∙_}
-use Rattle.square.specs.Determined.{OneAnswer}
+use Rattle.answer.specs.Determined.{OneAnswer}
 use Rattle.good_log.proofs.other_check.Reads as other-check
 use Rattle.good_log.proofs.other_check.Kinds as other-check·k
 use Rattle.good_log.proofs.check.Reads as check

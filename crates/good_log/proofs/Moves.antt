@@ -8,9 +8,9 @@ use native.Mathlib.Omega.{arith}
 use lib.Dec.{eqb, leb, ltb}
 use lib.ListN.{length}
 use borrow.Author.Tests.{eq-eqb, ne-eqb, eqb-true, eqb-false, le-leb, lt-leb, lt-ltb, ltb-true}
-use Rattle.square.specs.Numbers.{among}
-use Rattle.square.specs.Parts.{item}
-use Rattle.square.proofs.Numbers.{both-left, both-right}
+use Rattle.answer.specs.Numbers.{among}
+use Rattle.answer.specs.Parts.{item}
+use Rattle.answer.proofs.Numbers.{both-left, both-right}
 use Rattle.chess_move.specs.Number.{lastMove}
 use Rattle.action.specs.declared.Action.the-variants.{MakeMove, OfferDraw, AcceptDraw, DeclareDraw, Resign}
 use Rattle.action.specs.declared.Stored.{Stored}
@@ -20,7 +20,7 @@ use Rattle.position.specs.Layout.{Position, positionSize, side, positionOf, pos
 use Rattle.stored_position.specs.Bytes.{isPosition, listsMove}
 use Rattle.ending.specs.Ending.{whiteCheckmates, blackCheckmates, stalemate, resultWithoutMoves, resultOfAction, resultOf, resultAt}
 use Rattle.game_rules.specs.Limits.{limits}
-use Rattle.good_log.specs.Steps.{otherFits, otherSound}
+use Rattle.good_log.specs.CodeSteps.{otherFits, otherSound}
 use Rattle.good_log.proofs.Counted.{moveFits, notSound, moveStep, step}
 
 -- with no move left, a game has ended

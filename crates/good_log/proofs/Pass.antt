@@ -9,18 +9,18 @@ use native.Mathlib.Omega.{arith}
 use lib.Dec.{eqb, leb, ltb}
 use lib.ListN.{length, getD}
 use borrow.Author.Tests.{ne-eqb, eqb-true, eqb-false, le-leb, lt-leb, leb-true, leb-false, ltb-true, ltb-false}
-use Rattle.square.proofs.Numbers.{both-left, both-right, most-each}
-use Rattle.square.specs.Parts.{item}
+use Rattle.answer.proofs.Numbers.{both-left, both-right, most-each}
+use Rattle.answer.specs.Parts.{item}
 use Rattle.chess_move.specs.Number.{lastMove}
 use Rattle.actions.specs.Part.{moveAt, movesIn, lastAction}
 use Rattle.position.specs.Layout.{positionSize}
 use Rattle.stored_position.specs.Bytes.{isPosition, listsMove, isPositionWith}
-use Rattle.stored_position.specs.ByParts.{recordFits}
+use Rattle.stored_position.specs.CodeParts.{recordFits}
 use Rattle.stored_position.proofs.Known.{no-record}
 use Rattle.ending.specs.Ending.{resultOfAction}
 use Rattle.game_rules.specs.Limits.{Limits, limits, actionsLength, positionsLength}
 use Rattle.game_rules.specs.Good.{nextSound, sound, isGood}
-use Rattle.good_log.specs.Steps.{turnsTo, moveLeads, moveMayStand, otherSound, otherMayStand}
+use Rattle.good_log.specs.CodeSteps.{turnsTo, moveLeads, moveMayStand, otherSound, otherMayStand}
 use Rattle.good_log.proofs.Counted.{notSound, moveStep, step}
 use Rattle.good_log.proofs.Turns.{leads-in-range}
 use Rattle.good_log.proofs.Steps.{stepTo, step-is}

@@ -8,12 +8,12 @@ use native.Mathlib.Omega.{arith}
 use lib.Dec.{eqb, leb, ltb}
 use lib.ListN.{length, drop}
 use borrow.Author.Tests.{eq-eqb, ne-eqb, eqb-true, eqb-false, le-leb, lt-leb, lt-ltb}
-use Rattle.square.specs.Answer.{notListed, noOffer, noClaim, wrongSide, wrongRecord}
-use Rattle.square.specs.Numbers.{allAtMost, same, among}
-use Rattle.square.specs.Parts.{item}
-use Rattle.square.proofs.Numbers.{most-take, most-drop}
-use Rattle.square.proofs.Parts.{length-item}
-use Rattle.square.proofs.Same.{same-refl}
+use Rattle.answer.specs.Answer.{notListed, noOffer, noClaim, wrongSide, wrongRecord}
+use Rattle.answer.specs.Numbers.{allAtMost, same, among}
+use Rattle.answer.specs.Parts.{item}
+use Rattle.answer.proofs.Numbers.{most-take, most-drop}
+use Rattle.answer.proofs.Parts.{length-item}
+use Rattle.answer.proofs.Same.{same-refl}
 use Rattle.chess_move.specs.declared.ChessMove.{ChessMove}
 use Rattle.chess_move.specs.Number.{lastMove, numberAnswer}
 use Rattle.action.specs.declared.Action.{Action}
@@ -33,7 +33,7 @@ use Rattle.game_rules.specs.Good.{callOf, callAt, historyOf, positionHere, posi
 use Rattle.game_rules.proofs.Log.{actions-at, moves-at, made-back, Back, current-is, result-is, offer-is}
 use Rattle.game_rules.proofs.Checks.{nothing-refused}
 use Rattle.game_rules.proofs.Rulings.{claim-is}
-use Rattle.good_log.specs.Steps.{otherCheck, otherFits}
+use Rattle.good_log.specs.CodeSteps.{otherCheck, otherFits}
 use Rattle.good_log.proofs.Counted.{moveFits, notSound, moveStep, step}
 
 -- what a step should give

@@ -8,8 +8,8 @@ use native.Mathlib.Omega.{arith}
 use lib.Dec.{eqb}
 use lib.ListN.{length, getD, take, length-take}
 use borrow.Author.Tests.{ne-eqb, le-leb}
-use Rattle.square.proofs.Numbers.{both-right}
-use Rattle.square.proofs.Same.{same-eq}
+use Rattle.answer.proofs.Numbers.{both-right}
+use Rattle.answer.proofs.Same.{same-eq}
 use Rattle.board_builder.specs.BoardBuilder.{recordSize, sideAt, numbersInRange}
 use Rattle.chess_move.specs.Number.{lastMove}
 use Rattle.board_after.specs.After.{recordAfter}
@@ -19,10 +19,10 @@ use Rattle.board_after.proofs.Records.{record-long}
 use Rattle.position.specs.Layout.{Position, side, positionOf}
 use Rattle.position.proofs.Moves.{AllBytes}
 use Rattle.stored_position.specs.Bytes.{positionCheck, isPositionWith}
-use Rattle.stored_position.specs.ByParts.{recordFits, restFitsWith}
+use Rattle.stored_position.specs.CodeParts.{recordFits, restFitsWith}
 use Rattle.stored_position.proofs.Known.{by-rest-with}
 use Rattle.game_rules.specs.Rules.{comesAfter}
-use Rattle.good_log.specs.Steps.{turnsTo, moveLeads}
+use Rattle.good_log.specs.CodeSteps.{turnsTo, moveLeads}
 
 -- a position that passes its check has a record in range
 pub board-fits : (p : Position) → positionCheck p ≡ 0 → numbersInRange (p .board) ≡ true

@@ -2,33 +2,33 @@
 use action::ACTION_SIZE;
 use action::Action;
 use action::Stored;
+use answer::ACCEPTED;
+use answer::NOT_GOOD;
+use answer::NOT_LISTED;
+use answer::NO_CLAIM;
+use answer::NO_OFFER;
+use answer::OUT_OF_RANGE;
+use answer::PART_TOO_SHORT;
 use chess_move::LAST_MOVE;
 use ending::GOES_ON;
 use game_rules::ACTIONS_LENGTH;
 use game_rules::MAX_ACTIONS;
 use game_rules::MAX_MOVES;
 use game_rules::POSITIONS_LENGTH;
-use square::ACCEPTED;
-use square::NO_CLAIM;
-use square::NO_OFFER;
-use square::NOT_GOOD;
-use square::NOT_LISTED;
-use square::OUT_OF_RANGE;
-use square::PART_TOO_SHORT;
 ghost use mathlib.Core.Path.{_≡_};
 ghost use mathlib.Core.Bool.{true};
 ghost use Prim.Native.Nat.{_≤_, _<_};
 ghost use lib.ListN.{length};
-ghost use Rattle.square.specs.Parts.{item};
+ghost use Rattle.answer.specs.Parts.{item};
 ghost use Rattle.chess_move.specs.Number.{lastMove};
 ghost use Rattle.action.specs.Layout.{colourCheck};
 ghost use Rattle.position.specs.Layout.{positionSize};
-ghost use Rattle.stored_position.specs.ByParts.{recordFits};
+ghost use Rattle.stored_position.specs.CodeParts.{recordFits};
 ghost use Rattle.game_rules.specs.Limits.{limits, actionsLength, positionsLength};
 ghost use Rattle.game_rules.specs.Rules.{unless};
 ghost use Rattle.game_rules.specs.Good.{isGood};
 ghost use Rattle.game_rules.specs.Calls.{logCheck};
-ghost use Rattle.good_log.specs.Steps.{otherCheck, otherFits, otherSound, otherMayStand, moveLeads, moveMayStand};
+ghost use Rattle.good_log.specs.CodeSteps.{otherCheck, otherFits, otherSound, otherMayStand, moveLeads, moveMayStand};
 
 fn number_unless(ok: bool, number: u64) -> u64
     ensures { λ r. ⌜ r ≡ unless ok number ⌝ }

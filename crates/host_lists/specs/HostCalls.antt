@@ -7,7 +7,7 @@ use contract.Lifetimes.{Lfts}
 use borrow.Fn.Kinds.{Dens, resT, endedOf, Out, PK, RK}
 use denote.Ref.{now}
 use denote.Triple.Clauses.{AtExit}
-use Rattle.square.specs.declared.Answer.{Answer}
+use Rattle.answer.specs.declared.Answer.{Answer}
 use Rattle.board_builder.specs.declared.BoardBuilder.{BoardBuilder}
 use Rattle.menkhodur.proofs.menkhodur_san_read.Kinds as reader
 use Rattle.menkhodur.proofs.menkhodur_san_name.Kinds as namer

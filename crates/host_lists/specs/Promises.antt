@@ -4,8 +4,8 @@ use Prim.Native.Nat.{ℕ}
 use mathlib.Core.Path.{_≡_}
 use mathlib.Core.Bool.{true}
 use mathlib.Core.Logic.{_⊎_}
-use Rattle.square.specs.Answer.{accepted, refused, invalidSanMove}
-use Rattle.square.specs.Numbers.{among}
+use Rattle.answer.specs.Answer.{accepted, refused, invalidSanMove}
+use Rattle.answer.specs.Numbers.{among}
 use Rattle.move_list.specs.MoveList.{listInRange}
 use Rattle.san_lists.specs.Lists.{Reordered, Within}
 use Rattle.host_lists.specs.HostCalls.{Reading, ReadCall, readBoard, readList, readText, readAnswer}

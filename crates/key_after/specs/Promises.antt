@@ -4,7 +4,7 @@ use mathlib.Core.Path.{_≡_}
 use mathlib.Core.List.{List}
 use Prim.Native.Nat.{ℕ, _≤_}
 use lib.ListN.{length}
-use Rattle.square.specs.Answer.{outOfRange}
+use Rattle.answer.specs.Answer.{outOfRange}
 use Rattle.board_builder.specs.declared.BoardBuilder.{BoardBuilder}
 use Rattle.fen_text.specs.Read.{readFen}
 use Rattle.fen_text.specs.Promises.{fenWriter, BackAgain}

@@ -2,7 +2,7 @@
 -- Assumes nothing.
 use mathlib.Core.Path.{sym, _∙_}
 use denote.Ref.{now}
-use Rattle.square.specs.Determined.{OneAnswer, OnePart}
+use Rattle.answer.specs.Determined.{OneAnswer, OnePart}
 use Rattle.key_line.proofs.key_line.Reads as key-line
 use Rattle.key_line.proofs.key_line.Kinds as key-line·k
 use Rattle.key_line.proofs.page.key_page.Reads as key-page

@@ -8,15 +8,15 @@ use lib.Dec.{eqb}
 use lib.ListN.{length, take, drop, length-append, length-drop}
 use lib.Seq.{drop-drop, length-take-le}
 use borrow.Author.Tests.{le-leb, lt-leb}
-use Rattle.square.specs.Answer.{overwrite}
-use Rattle.square.specs.Parts.{written}
-use Rattle.square.proofs.Parts.{written-behind, length-written}
+use Rattle.answer.specs.Answer.{overwrite}
+use Rattle.answer.specs.Parts.{written}
+use Rattle.answer.proofs.Parts.{written-behind, length-written}
+use Rattle.answer.proofs.Overwrites.{from-front}
 use Rattle.fen_text.specs.Token.{placeOf}
 use Rattle.fen_text.specs.Read.{readFen}
 use Rattle.fen_text.specs.Lines.{lineFeed, lineEnd, ended, overLines}
 use Rattle.fen_text.proofs.Cases.{cond-both}
 use Rattle.fen_text.proofs.Lines.{ended-next, ended-none, over-append}
-use Rattle.fen_reader.proofs.Paging.{from-front}
 use Rattle.key_line.specs.declared.Lined.{Lined}
 use Rattle.key_line.specs.declared.page.Paged.{Paged}
 use Rattle.key_line.specs.KeyLine.{keyLine}

@@ -7,11 +7,11 @@ use Prim.Native.Nat.{ℕ, _+_, _-_, _≤_, _<_}
 use native.Mathlib.Omega.{arith}
 use lib.ListN.{length, take, drop, set, length-append}
 use borrow.Author.Tests.{eq-eqb, ne-eqb}
-use Rattle.square.specs.declared.Answer.{Answer}
-use Rattle.square.specs.Answer.{writeAnswer, writeBytes, outOfRange}
-use Rattle.square.specs.Parts.{written}
-use Rattle.square.proofs.Parts.{written-next, length-written}
-use Rattle.square.proofs.Puts.{put-text, put-written}
+use Rattle.answer.specs.declared.Answer.{Answer}
+use Rattle.answer.specs.Answer.{writeAnswer, writeBytes, outOfRange}
+use Rattle.answer.specs.Parts.{written}
+use Rattle.answer.proofs.Parts.{written-next, length-written}
+use Rattle.answer.proofs.Puts.{put-text, put-written}
 use Rattle.board_builder.specs.BoardBuilder.{inRange}
 use Rattle.fen_text.specs.declared.Fen.{Fen}
 use Rattle.fen_text.specs.Read.{readFen}

@@ -6,8 +6,8 @@ use Prim.Native.Nat.{ℕ, _+_, _≤_, _<_}
 use native.Mathlib.Omega.{arith}
 use lib.Dec.{lit<}
 use lib.ListN.{length, set, replicate}
-use Rattle.square.specs.Pushed.{Put}
-use Rattle.square.proofs.Pushes.{put-one, put-both}
+use Rattle.answer.specs.CodePushed.{Put}
+use Rattle.answer.proofs.Pushes.{put-one, put-both}
 use Rattle.decimal.specs.Decimal.{decimal}
 use Rattle.decimal.proofs.Promises.{up-to-20}
 use Rattle.key_line.specs.KeyLine.{refusalLine}

@@ -6,7 +6,7 @@ use mathlib.Core.Bool.{cond}
 use mathlib.Core.List.{List, [], _∷_}
 use lib.Dec.{eqb, leb}
 use lib.ListN.{length}
-use Rattle.square.specs.Answer.{overwrite}
+use Rattle.answer.specs.Answer.{overwrite}
 use Rattle.fen_text.specs.Read.{readFen}
 use Rattle.fen_text.specs.Lines.{lines, ended, overLines}
 use Rattle.key_line.specs.declared.Lined.{Lined}

@@ -1,13 +1,13 @@
 // The lines of the program keys: a FEN text's key and a newline, or `! N OFFSET` and a newline with the number of the refusal and where the text is wrong.
 pub mod page;
 
-use square::Answer;
+use answer::Answer;
 ghost use mathlib.Core.Path.{_≡_};
 ghost use Prim.Native.Nat.{_+_, _≤_};
 ghost use lib.ListN.{length};
-ghost use Rattle.square.specs.Answer.{writeAnswer, writeBytes};
-ghost use Rattle.square.specs.Parts.{written};
-ghost use Rattle.square.specs.Pushed.{Put};
+ghost use Rattle.answer.specs.Answer.{writeAnswer, writeBytes};
+ghost use Rattle.answer.specs.Parts.{written};
+ghost use Rattle.answer.specs.CodePushed.{Put};
 ghost use Rattle.decimal.specs.Decimal.{decimal};
 ghost use Rattle.key_line.specs.KeyLine.{refusalLine, keyLine};
 ghost use Rattle.key_line.specs.KeyPage.{longestLine, linedAt};
@@ -40,7 +40,7 @@ fn write_refusal(number: u64, offset: u64, out: &mut [u8]) -> Answer
     bytes[a] = b' ';
     let b = push_number(&mut bytes, a + 1, offset);
     bytes[b] = b'\n';
-    square::write_text(&bytes[..b + 1], out)
+    answer::write_text(&bytes[..b + 1], out)
 }
 
 // Where the answers end with one more line, and 1 if the line has a key.
@@ -57,7 +57,7 @@ pub(crate) fn put_line(line: &[u8], out: &mut [u8], at: usize) -> Lined
     ensures short { λ r. ⌜ length (keyLine (now (line .entry))) ≤ longestLine ⌝ }
 {
     let fen = fen_reader::read_fen(line);
-    if fen.number != square::ACCEPTED {
+    if fen.number != answer::ACCEPTED {
         let refusal = write_refusal(fen.number, fen.offset, &mut out[at..]);
         return Lined {
             ready: at + refusal.value as usize,
@@ -82,5 +82,5 @@ pub fn key_line(line: &[u8], out: &mut [u8]) -> Answer
     let mut text = [0u8; LONGEST];
     let put = put_line(line, &mut text, 0);
     let all = put.ready;
-    square::write_text(&text[..all], out)
+    answer::write_text(&text[..all], out)
 }

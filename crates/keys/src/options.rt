@@ -1,5 +1,5 @@
 // What the arguments ask for: options stand before `--`, or anywhere if there is none; `-` is standard input.
-use square::same_bytes;
+use answer::same_bytes;
 
 pub(crate) enum Asked {
     Keys,

@@ -127,7 +127,7 @@ pub(crate) fn with_room(out: &[u8], run: Run) -> Run
 }
 
 // How many bytes a line took: a writer answers no more than the room, or 7.
-fn taken(answer: square::Answer, room: usize) -> usize
+fn taken(answer: answer::Answer, room: usize) -> usize
     ensures { λ r. ⌜ r ≤ room ⌝ }
 {
     let value = answer.value;
@@ -198,7 +198,7 @@ pub(crate) fn put_long(out: &mut [u8], run: Run) -> Run
     }
     let ready = run.ready;
     let room = out.len() - ready;
-    let answer = square::write_text(b"! long\n", &mut out[ready..]);
+    let answer = answer::write_text(b"! long\n", &mut out[ready..]);
     let mut next = counted(run, taken(answer, room), 0, 1, out);
     next.long = false;
     next

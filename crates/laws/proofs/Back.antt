@@ -7,13 +7,13 @@ use Prim.Native.Nat.{ℕ, suc, _+_, _-_, _≤_, _<_}
 use native.Mathlib.Numerals.{add-one}
 use native.Mathlib.Omega.{arith}
 use borrow.Author.Tests.{le-leb, lt-leb}
-use Rattle.square.specs.Parts.{item}
+use Rattle.answer.specs.Parts.{item}
 use Rattle.chess_move.specs.Number.{lastMove}
 use Rattle.actions.specs.Part.{moveAt, movesIn}
 use Rattle.actions.proofs.Counting.{one-more}
 use Rattle.position.specs.Layout.{positionSize, positionOf, positionAt}
 use Rattle.claim.specs.Emptying.{irreversible}
-use Rattle.laws.specs.Since.{lawsSince}
+use Rattle.laws.specs.CodeSince.{lawsSince}
 
 pub since-start : (acts ps : List ℕ) → lawsSince acts ps 0 ≡ 0
 unfolding lawsSince

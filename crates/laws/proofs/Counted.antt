@@ -17,7 +17,7 @@ use Rattle.claim.specs.Emptying.{irreversible}
 use Rattle.game_rules.specs.Good.{callOf, callAt, historyOf}
 use Rattle.game_rules.proofs.Log.{current-at}
 use Rattle.laws.specs.Laws.{Made, madeBy, movesMade, sinceLast, lawsCount}
-use Rattle.laws.specs.Since.{lawsSince}
+use Rattle.laws.specs.CodeSince.{lawsSince}
 
 -- of the moves that led to position m, as many are counted as were made since position s
 record SinceIs (m : ℕ) (made : List Made) (s : ℕ) : Type 0 where

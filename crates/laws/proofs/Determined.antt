@@ -1,7 +1,7 @@
 -- Each public function's contract, as the toolchain reads it off the source, permits one answer.
 -- Assumes nothing.
 use mathlib.Core.Path.{sym, _∙_}
-use Rattle.square.specs.Determined.{OneAnswer}
+use Rattle.answer.specs.Determined.{OneAnswer}
 use Rattle.laws.proofs.ruling.Reads as ruling
 use Rattle.laws.proofs.ruling.Kinds as ruling·k
 use Rattle.laws.proofs.can_claim.Reads as can-claim

@@ -4,7 +4,7 @@ use mathlib.Core.Path.{_≡_, refl, ap}
 use mathlib.Core.Bool.{cond, not, _&&_}
 use mathlib.Core.List.{List}
 use Prim.Native.Nat.{ℕ}
-use Rattle.square.specs.Answer.{accepted, refused}
+use Rattle.answer.specs.Answer.{accepted, refused}
 use Rattle.game_rules.specs.Limits.{Limits}
 use Rattle.game_rules.specs.Rules.{History, ended}
 use Rattle.game_rules.specs.Good.{historyOf}

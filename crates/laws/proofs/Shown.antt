@@ -8,7 +8,7 @@ use native.Mathlib.Omega.{arith}
 use lib.Dec.{eqb, leb}
 use lib.ListN.{length}
 use borrow.Author.Tests.{le-leb, lt-leb, eq-eqb, ne-eqb}
-use Rattle.square.specs.Answer.{accepted, refused}
+use Rattle.answer.specs.Answer.{accepted, refused}
 use Rattle.position.specs.declared.Places.{Places}
 use Rattle.position.specs.Layout.{positionSize, positionAt, positionsFrom}
 use Rattle.position.specs.Repeats.{equalsTwoEarlier}
@@ -24,7 +24,7 @@ use Rattle.game_rules.proofs.Log.{moves-at, current-is, result-is}
 use Rattle.game_rules.proofs.Rulings.{run-is}
 use Rattle.game.proofs.Answers.{Ready, log-ready}
 use Rattle.laws.specs.declared.Ruled.{Ruled}
-use Rattle.laws.specs.Since.{lawsSince}
+use Rattle.laws.specs.CodeSince.{lawsSince}
 use Rattle.laws.specs.Laws.{lawsCount, lawsClaimStands}
 use Rattle.laws.specs.Ruling.{equalsAt, reason, ruledOn, notRuled, rulingAnswer, lawsAnswer}
 use Rattle.laws.proofs.Counted.{laws-counted}

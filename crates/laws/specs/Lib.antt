@@ -1,5 +1,5 @@
 pub mod Laws
-pub mod Since
+pub mod CodeSince
 pub mod Ruling
 pub mod Promises
 pub mod AtSmallest

@@ -5,7 +5,7 @@ use mathlib.Core.Bool.{true, cond, not, _&&_}
 use mathlib.Core.List.{List}
 use Prim.Native.Nat.{ℕ, _≤_, _<_}
 use lib.ListN.{length}
-use Rattle.square.specs.Answer.{accepted}
+use Rattle.answer.specs.Answer.{accepted}
 use Rattle.claim.specs.Claim.{claimCount}
 use Rattle.game_rules.specs.Limits.{Limits}
 use Rattle.game_rules.specs.Rules.{History, ended, ruling, repeats, claimStands}

@@ -5,7 +5,7 @@ use mathlib.Core.List.{List, [], _∷_}
 use Prim.Native.Nat.{ℕ, _+_}
 use lib.Dec.{eqb, leb}
 use lib.ListN.{getD}
-use Rattle.square.specs.declared.Answer.{Answer}
+use Rattle.answer.specs.declared.Answer.{Answer}
 use Rattle.position.specs.Layout.{Position}
 use Rattle.position.specs.Places.{placesOf}
 use Rattle.claim.specs.Claim.{claimCount}

@@ -1,9 +1,9 @@
 // The Laws' count beside the crate's, and what both rulings rest on (document 02, order 5).
+use answer::ACCEPTED;
+use answer::Answer;
 use chess_move::LAST_MOVE;
 use claim::CLAIM_COUNT;
 use ending::GOES_ON;
-use square::ACCEPTED;
-use square::Answer;
 ghost use mathlib.Core.Path.{_≡_};
 ghost use mathlib.Core.Bool.{cond};
 ghost use Prim.Native.Nat.{_+_};
@@ -13,7 +13,7 @@ ghost use Rattle.game_rules.specs.Limits.{limits};
 ghost use Rattle.game_rules.specs.Good.{historyOf};
 ghost use Rattle.game_rules.specs.Calls.{logCheck};
 ghost use Rattle.laws.specs.Laws.{lawsClaimStands};
-ghost use Rattle.laws.specs.Since.{lawsSince};
+ghost use Rattle.laws.specs.CodeSince.{lawsSince};
 ghost use Rattle.laws.specs.Ruling.{notRuled, ruledOn, rulingAnswer, lawsAnswer};
 
 // What a ruling rests on: an answer number, both counts, how many earlier positions of the run equal the last and the numbers of the two earliest of
@@ -134,13 +134,13 @@ pub fn can_claim(acts: &[u8], ps: &[u8], n: u64, m: u64) -> Answer
 {
     let number = good_log::check(acts, ps, n as usize, m as usize);
     if number != ACCEPTED {
-        return square::refused(number);
+        return answer::refused(number);
     }
     if ending::result(acts, ps, n as usize, m as usize) != GOES_ON {
-        return square::accepted(0);
+        return answer::accepted(0);
     }
     if stands(acts, ps, n as usize, m as usize) {
-        return square::accepted(1);
+        return answer::accepted(1);
     }
-    square::accepted(0)
+    answer::accepted(0)
 }

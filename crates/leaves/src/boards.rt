@@ -1,6 +1,6 @@
 // Boards, as the getters tell them.
-use crate::put;
 use board_builder::BoardBuilder;
+use crate::put;
 
 // The line's end: side, both rights, the en passant square, and what stands on every square.
 pub(crate) fn tell(b: BoardBuilder) {

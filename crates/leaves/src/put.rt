@@ -1,6 +1,6 @@
 // What is printed.
+use answer::Answer;
 use libc::STDOUT_FILENO;
-use square::Answer;
 ghost use Prim.Native.Nat.{_≤_};
 
 pub(crate) fn text(t: &[u8]) {

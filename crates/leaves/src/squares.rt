@@ -1,15 +1,15 @@
 // Squares and their texts.
+use answer::Answer;
 use crate::put;
-use square::Answer;
 use square::Pair;
 
 // The original has one error for every pair that is no square.
 fn answer(pair: Pair) -> Answer {
     match pair {
-        Pair::Square(s) => square::accepted_byte(s),
-        Pair::BadFile => square::refused(square::INVALID_SQUARE),
-        Pair::BadRank => square::refused(square::INVALID_SQUARE),
-        Pair::Missing => square::refused(square::INVALID_SQUARE),
+        Pair::Square(s) => answer::accepted_byte(s),
+        Pair::BadFile => answer::refused(answer::INVALID_SQUARE),
+        Pair::BadRank => answer::refused(answer::INVALID_SQUARE),
+        Pair::Missing => answer::refused(answer::INVALID_SQUARE),
     }
 }
 

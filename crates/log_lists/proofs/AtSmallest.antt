@@ -1,7 +1,7 @@
 -- One list in another order than the others, computed.
 -- Assumes nothing.
 use mathlib.Core.Path.{refl}
-use Rattle.square.specs.Numbers.{same}
+use Rattle.answer.specs.Numbers.{same}
 use Rattle.square.specs.Piece.{kindOf}
 use Rattle.position.specs.Repeats.{equal, times}
 use Rattle.claim.specs.Emptying.{irreversible, rightsDiffer}

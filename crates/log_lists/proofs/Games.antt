@@ -5,8 +5,8 @@ use Prim.Native.Nat.{ℕ, suc, _-_}
 use mathlib.Core.Path.{_≡_, refl, sym, ap, _∙_}
 use mathlib.Core.Bool.{Bool, true, false, cond, _&&_}
 use mathlib.Core.List.{List, [], _∷_}
-use Rattle.square.specs.Numbers.{same}
-use Rattle.square.proofs.Same.{same-refl, same-eq}
+use Rattle.answer.specs.Numbers.{same}
+use Rattle.answer.proofs.Same.{same-refl, same-eq}
 use Rattle.position.specs.Layout.{Position}
 use Rattle.position.specs.Repeats.{equal, times}
 use Rattle.position.specs.Places.{placesOf}

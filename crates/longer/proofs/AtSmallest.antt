@@ -1,8 +1,8 @@
 -- Two limits at their smallest, each row computed.
 -- Assumes nothing.
 use mathlib.Core.Path.{refl}
-use Rattle.square.specs.Answer.{writeAnswer}
-use Rattle.square.specs.Numbers.{same, allAtMost, among}
+use Rattle.answer.specs.Answer.{writeAnswer}
+use Rattle.answer.specs.Numbers.{same, allAtMost, among}
 use Rattle.board_builder.specs.BoardBuilder.{inRange, numbersInRange, numbers}
 use Rattle.move_list.specs.MoveList.{listInRange}
 use Rattle.action.specs.Layout.{actionOf, actionBytes}

@@ -9,8 +9,8 @@ use native.Mathlib.Omega.{arith}
 use lib.Dec.{eqb, leb, ltb}
 use lib.ListN.{length}
 use borrow.Author.Tests.{eqb-true, eqb-false, leb-true, le-leb, ltb-true, lt-ltb}
-use Rattle.square.specs.Answer.{logFull, gameOver}
-use Rattle.square.proofs.Numbers.{both-left, both-right}
+use Rattle.answer.specs.Answer.{logFull, gameOver}
+use Rattle.answer.proofs.Numbers.{both-left, both-right}
 use Rattle.actions.specs.Part.{movesIn}
 use Rattle.game_rules.specs.Limits.{Limits, actionsLength, positionsLength}
 use Rattle.game_rules.specs.Rules.{Call, History, begun, after, isMove, actions, moves, ended, unless, firstRefusal, ownChecks, roomFor, answer}

@@ -8,7 +8,7 @@ use native.Mathlib.Omega.{arith}
 use lib.Dec.{eqb, leb}
 use lib.ListN.{drop}
 use borrow.Author.Tests.{eq-eqb, ne-eqb, leb-true, le-leb}
-use Rattle.square.specs.Answer.{logFull}
+use Rattle.answer.specs.Answer.{logFull}
 use Rattle.action.specs.Layout.{fields}
 use Rattle.game_rules.specs.Limits.{Limits}
 use Rattle.roll_text.specs.declared.Number.{Number}

@@ -9,10 +9,10 @@ use lib.Dec.{eqb, leb, ltb}
 use lib.ListN.{length, take, drop}
 use lib.Seq.{take-at}
 use borrow.Author.Tests.{eqb-true, eqb-false, leb-true, le-leb, le-ltb, ltb-false}
-use Rattle.square.specs.declared.Answer.{Answer}
-use Rattle.square.specs.Answer.{logFull, outOfRange, badRoll, refused, writeAnswer, writeBytes}
-use Rattle.square.specs.Numbers.{allAtMost}
-use Rattle.square.proofs.Numbers.{both-left, both-right}
+use Rattle.answer.specs.declared.Answer.{Answer}
+use Rattle.answer.specs.Answer.{logFull, outOfRange, badRoll, refused, writeAnswer, writeBytes}
+use Rattle.answer.specs.Numbers.{allAtMost}
+use Rattle.answer.proofs.Numbers.{both-left, both-right}
 use Rattle.board_builder.specs.declared.BoardBuilder.{BoardBuilder}
 use Rattle.board_builder.specs.BoardBuilder.{inRange}
 use Rattle.action.specs.Layout.{actionSize}

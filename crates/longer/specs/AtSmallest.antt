@@ -5,7 +5,7 @@ use mathlib.Core.Bool.{true, false}
 use mathlib.Core.List.{List, [], _∷_, _++_}
 use Prim.Native.Nat.{ℕ}
 use lib.ListN.{length, replicate}
-use Rattle.square.specs.Answer.{notGood, notListed, logFull, partTooShort, badRoll}
+use Rattle.answer.specs.Answer.{notGood, notListed, logFull, partTooShort, badRoll}
 use Rattle.board_builder.specs.BoardBuilder.{recordSize, emptyBoard}
 use Rattle.position.specs.Layout.{positionSize}
 use Rattle.game_rules.specs.Limits.{Limits, limits, actionsLength, positionsLength}

@@ -7,8 +7,8 @@ use mathlib.Core.Logic.{_↔_}
 use mathlib.Core.List.{List}
 use Prim.Native.Nat.{ℕ, _*_, _≤_}
 use lib.ListN.{length, take}
-use Rattle.square.specs.Answer.{refused, logFull, notGood}
-use Rattle.square.specs.Numbers.{allAtMost}
+use Rattle.answer.specs.Answer.{refused, logFull, notGood}
+use Rattle.answer.specs.Numbers.{allAtMost}
 use Rattle.board_builder.specs.declared.BoardBuilder.{BoardBuilder}
 use Rattle.board_builder.specs.BoardBuilder.{inRange, emptyBoard}
 use Rattle.action.specs.Layout.{actionSize}

@@ -2,7 +2,7 @@
 -- Assumes nothing.
 use mathlib.Core.Path.{sym, _∙_}
 use denote.Ref.{now}
-use Rattle.square.specs.Determined.{OneAnswer, OnePart}
+use Rattle.answer.specs.Determined.{OneAnswer, OnePart}
 use Rattle.menkhodur.proofs.menkhodur_version.Reads as menkhodur-version
 use Rattle.menkhodur.proofs.menkhodur_version.Kinds as menkhodur-version·k
 use Rattle.menkhodur.proofs.menkhodur_make_square.Reads as menkhodur-make-square

@@ -1,18 +1,18 @@
 // What the host links: each function hands on to a proved one of the crates below, with that one's contract (HOST-ABI.md; host/menkhodur.h).
+use answer::Answer;
+use answer::Placed;
 use board_builder::BoardBuilder;
 use board_builder::Stepped;
 use fen_text::Fen;
 use game_rules::Counts;
-use roll_text::Roll;
 use laws::Ruled;
 use pgn_text::PgnCount;
 use pgn_text::PgnMove;
-use square::Answer;
-use square::Placed;
+use roll_text::Roll;
 ghost use mathlib.Core.Path.{_≡_};
 ghost use lib.ListN.{length};
 ghost use Rattle.version.specs.Version.{version};
-ghost use Rattle.square.specs.Answer.{writeAnswer, writeBytes};
+ghost use Rattle.answer.specs.Answer.{writeAnswer, writeBytes};
 ghost use Rattle.square.specs.Square.{makeSquare};
 ghost use Rattle.castle_rights.specs.CastleRights.{addRights, removeRights, squareRights};
 ghost use Rattle.board_builder.specs.Steps.{setPiece, clearSquare, setSide, setRights, setEnPassant};

@@ -7,7 +7,7 @@ use mathlib.Core.List.{List, [], _∷_}
 use native.Mathlib.Omega.{arith}
 use lib.Dec.{eqb}
 use borrow.Author.Tests.{eq-eqb, eqb-true}
-use Rattle.square.specs.Numbers.{among}
+use Rattle.answer.specs.Numbers.{among}
 use Rattle.move_list.specs.MoveList.{count, firstOf}
 
 pub first-passes : (f : ℕ → Bool) (l : List ℕ) → 1 ≤ count f l → f (firstOf f l) ≡ true

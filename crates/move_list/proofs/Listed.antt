@@ -10,8 +10,8 @@ use lib.Dec.{eqb, leb}
 use lib.ListN.{length, getD, drop, drop-of-length-le}
 use lib.Seq.{drop-cons}
 use borrow.Author.Tests.{eq-eqb, ne-eqb, eqb-true}
-use Rattle.square.specs.Numbers.{allAtMost, among}
-use Rattle.square.proofs.Numbers.{both-right, most-head, most-tail}
+use Rattle.answer.specs.Numbers.{allAtMost, among}
+use Rattle.answer.proofs.Numbers.{both-right, most-head, most-tail}
 use Rattle.chess_move.specs.Number.{lastMove}
 use Rattle.move_list.specs.MoveList.{longestList, listInRange}
 

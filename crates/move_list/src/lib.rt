@@ -1,6 +1,6 @@
 // A lent list of moves, in the host's order: its range, and whether a move is in it.
 ghost use mathlib.Core.Path.{_≡_};
-ghost use Rattle.square.specs.Numbers.{allAtMost, among};
+ghost use Rattle.answer.specs.Numbers.{allAtMost, among};
 ghost use Rattle.move_list.specs.MoveList.{over, listInRange};
 
 // The most entries that a list may have.

@@ -2,7 +2,7 @@
 -- Assumes nothing.
 use mathlib.Core.Path.{sym, _∙_}
 use denote.Ref.{now}
-use Rattle.square.specs.Determined.{OneAnswer, OnePart}
+use Rattle.answer.specs.Determined.{OneAnswer, OnePart}
 use Rattle.namer.proofs.to_san.Reads as to-san
 use Rattle.namer.proofs.to_san.Kinds as to-san·k
 use Rattle.namer.proofs.to_san_standard.Reads as to-san-standard

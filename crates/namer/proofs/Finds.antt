@@ -7,10 +7,10 @@ use mathlib.Core.Option.{Option, none, some}
 use native.Mathlib.Omega.{arith}
 use lib.ListN.{length, take, drop}
 use lib.Seq.{take-at}
-use Rattle.square.specs.declared.Answer.{Answer}
-use Rattle.square.specs.Answer.{writeAnswer, writeBytes}
-use Rattle.square.proofs.Writes.{write-fits, write-length}
-use Rattle.namer.specs.Tries.{Found}
+use Rattle.answer.specs.declared.Answer.{Answer}
+use Rattle.answer.specs.Answer.{writeAnswer, writeBytes}
+use Rattle.answer.proofs.Writes.{write-fits, write-length}
+use Rattle.namer.specs.CodeTries.{Found}
 
 -- ---- nothing, or what was written
 

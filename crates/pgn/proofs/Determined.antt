@@ -3,7 +3,7 @@
 -- Assumes nothing.
 use mathlib.Core.Path.{sym, _∙_}
 use denote.Ref.{now}
-use Rattle.square.specs.Determined.{OneAnswer, OnePart}
+use Rattle.answer.specs.Determined.{OneAnswer, OnePart}
 use Rattle.pgn.proofs.check.Reads as check
 use Rattle.pgn.proofs.check.Kinds as check·k
 use Rattle.pgn.proofs.next.Reads as next

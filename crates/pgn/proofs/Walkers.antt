@@ -11,7 +11,7 @@ use lib.ListN.{length, drop, getD, replicate, length-drop, length-replicate}
 use borrow.Author.Tests.{lt-ltb, le-ltb, eqb-true, eqb-false}
 use Rattle.pgn_text.specs.declared.Token.{Token}
 use Rattle.pgn_text.specs.declared.Token.the-variants.{Passed, Move, Opening, Closing, Result, LeftOpen, Unknown}
-use Rattle.square.specs.Answer.{leftOpen, tooDeep, unknownToken}
+use Rattle.answer.specs.Answer.{leftOpen, tooDeep, unknownToken}
 use Rattle.pgn_text.specs.declared.Run.the-variants.{MoveBytes}
 use Rattle.pgn_text.specs.Bytes.{isWhite, startsMove, runLength}
 use Rattle.pgn_text.specs.Token.{token, tokenAt}
@@ -20,7 +20,7 @@ use Rattle.pgn_text.proofs.Tokens.{more, token-within}
 use Rattle.pgn_text.proofs.Walks.{walk-at, walk-end, beyond, beyond-skip}
 use Rattle.pgn.specs.declared.walk.Walked.{Walked}
 use Rattle.pgn.specs.declared.walk.Walked.the-variants.{On, Found, Ended}
-use Rattle.pgn.specs.Walkers.{outcome, told, atResult, Near, Came, Over, Sequenced, Varied, countOf, moveOf}
+use Rattle.pgn.specs.CodeWalkers.{outcome, told, atResult, Near, Came, Over, Sequenced, Varied, countOf, moveOf}
 
 -- the levels left, then the text left, as one number: a text is shorter than 2 ^ 64
 abbrev pub lexicographic : ℕ → ℕ → ℕ

@@ -1,2 +1,2 @@
 pub mod Reader
-pub mod Walkers
+pub mod CodeWalkers

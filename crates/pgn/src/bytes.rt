@@ -1,9 +1,10 @@
 // The bytes of move text, and how far a token runs on.
+use answer::both;
+use answer::either;
 use pgn_text::Run;
-use square::both;
-use square::either;
 ghost use mathlib.Core.Path.{_≡_};
-ghost use Rattle.pgn_text.specs.Bytes.{between, isWhite, isDigit, isLetter, startsMove, isSign, inMove, inRun, runLength, beginsWith};
+ghost use Rattle.answer.specs.Numbers.{between};
+ghost use Rattle.pgn_text.specs.Bytes.{isWhite, isDigit, isLetter, startsMove, isSign, inMove, inRun, runLength, beginsWith};
 
 fn between(low: u8, high: u8, b: u8) -> bool
     ensures { λ r. ⌜ r ≡ between low high b ⌝ }

@@ -8,14 +8,14 @@ use pgn_text::PgnCount;
 use pgn_text::PgnMove;
 pub use reader::Reader;
 pub use reader::first_move;
-use square::ACCEPTED;
-use square::TOO_DEEP;
-use square::UNKNOWN_TOKEN;
+use answer::ACCEPTED;
+use answer::TOO_DEEP;
+use answer::UNKNOWN_TOKEN;
 use walk::DEEPEST;
 use walk::Walked;
 ghost use mathlib.Core.Path.{_≡_};
 ghost use Rattle.pgn_text.specs.Walk.{check, next, part, endCount, noMove, moveAt};
-ghost use Rattle.pgn.specs.Walkers.{countOf, moveOf};
+ghost use Rattle.pgn.specs.CodeWalkers.{countOf, moveOf};
 
 fn end_count(counted: usize, number: u64, offset: usize) -> PgnCount
     ensures { λ r. ⌜ r ≡ endCount counted number offset ⌝ }
@@ -105,5 +105,5 @@ pub fn next(text: &[u8], offset: u64, level: u64) -> PgnMove
 pub fn part(text: &[u8], start: u64, size: u64) -> &[u8]
     ensures { λ r. ⌜ now r ≡ part (now (text .entry)) start size ⌝ }
 {
-    square::front(square::rest(text, start as usize), size as usize)
+    answer::front(answer::rest(text, start as usize), size as usize)
 }

@@ -1,4 +1,6 @@
 // What stands at a place of move text: decided by the byte there and what follows it.
+use answer::either;
+use answer::rest;
 use crate::bytes::begins_with;
 use crate::bytes::is_digit;
 use crate::bytes::is_white;
@@ -6,8 +8,6 @@ use crate::bytes::run_length;
 use crate::bytes::starts_move;
 use pgn_text::Run;
 use pgn_text::Token;
-use square::either;
-use square::rest;
 ghost use mathlib.Core.Path.{_≡_};
 ghost use Prim.Native.Nat.{_<_};
 ghost use lib.ListN.{length};

@@ -1,21 +1,21 @@
 // The walk: a variation holds a sequence, and a sequence may hold variations. Both either count the moves or stop at the first.
+use answer::ACCEPTED;
+use answer::LEFT_OPEN;
+use answer::TOO_DEEP;
+use answer::UNKNOWN_TOKEN;
+use answer::rest;
 use crate::bytes::is_white;
 use crate::bytes::run_length;
 use crate::bytes::starts_move;
 use crate::token::token_at;
 use pgn_text::Run;
 use pgn_text::Token;
-use square::ACCEPTED;
-use square::LEFT_OPEN;
-use square::TOO_DEEP;
-use square::UNKNOWN_TOKEN;
-use square::rest;
 ghost use mathlib.Core.Path.{_≡_};
 ghost use Prim.Native.Nat.{_≤_, _<_};
 ghost use lib.ListN.{length};
 ghost use Rattle.pgn_text.specs.Token.{tokenAt};
 ghost use Rattle.pgn_text.specs.Walk.{deepest};
-ghost use Rattle.pgn.specs.Walkers.{atResult, toldFrom, Near, Sequenced, Varied};
+ghost use Rattle.pgn.specs.CodeWalkers.{atResult, toldFrom, Near, Sequenced, Varied};
 
 pub(crate) const DEEPEST: u64 = 8;
 

@@ -1,7 +1,7 @@
 -- The rows, each computed.
 -- Assumes nothing.
 use mathlib.Core.Path.{refl}
-use Rattle.square.specs.Ascii.{ascii}
+use Rattle.answer.specs.Ascii.{ascii}
 use Rattle.pgn_text.specs.Bytes.{isWhite, isDigit, isLetter, startsMove, isSign, inMove, inRun, onward, runLength, beginsWith}
 use Rattle.pgn_text.specs.Token.{isResult, number, glyph, braceComment, lineComment, token}
 use Rattle.pgn_text.specs.Walk.{atEnd, met, walk, walkFrom, endCount, counted, noMove, moveAt, first, check, next}

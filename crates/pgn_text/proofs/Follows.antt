@@ -15,7 +15,7 @@ use Rattle.pgn_text.specs.declared.Token.the-variants.{Passed, Move, Ope
 use Rattle.pgn_text.specs.declared.Run.the-variants.{MoveBytes}
 use Rattle.pgn_text.specs.Bytes.{startsMove, inMove, inRun, runLength}
 use Rattle.pgn_text.specs.Token.{token}
-use Rattle.square.specs.Answer.{tooDeep, unknownToken}
+use Rattle.answer.specs.Answer.{tooDeep, unknownToken}
 use Rattle.pgn_text.specs.Walk.{Walk, found, ended, atEnd, met, walk, walkFrom, deepest}
 use Rattle.pgn_text.specs.Promises.{Alike, same-end, open-end, same-move, FoundFrom, MovesInTextOrder}
 use Rattle.pgn_text.proofs.Runs.{run-over, run-stops}

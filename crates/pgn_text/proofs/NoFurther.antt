@@ -10,8 +10,8 @@ use lib.Dec.{eqb, ltb}
 use lib.ListN.{length, take, drop, replicate, length-append, length-drop, length-take, take-append-drop}
 use lib.Seq.{length-take-le}
 use borrow.Author.Tests.{lt-ltb, le-ltb, eqb-true, eqb-false, ne-eqb}
-use Rattle.square.specs.Ascii.{ascii}
-use Rattle.square.specs.Answer.{tooDeep, unknownToken}
+use Rattle.answer.specs.Ascii.{ascii}
+use Rattle.answer.specs.Answer.{tooDeep, unknownToken}
 use Rattle.pgn_text.specs.declared.Run.{Run}
 use Rattle.pgn_text.specs.declared.Run.the-variants.{Digits, Periods, MoveBytes, InBraces, InLine}
 use Rattle.pgn_text.specs.declared.Token.{Token}

@@ -8,7 +8,7 @@ use native.Mathlib.Omega.{arith}
 use lib.Dec.{ltb}
 use lib.ListN.{length, drop, replicate}
 use borrow.Author.Tests.{lt-ltb, le-ltb, ne-eqb}
-use Rattle.square.specs.Answer.{tooDeep, unknownToken}
+use Rattle.answer.specs.Answer.{tooDeep, unknownToken}
 use Rattle.pgn_text.specs.declared.Token.{Token}
 use Rattle.pgn_text.specs.declared.Token.the-variants.{Passed, Move, Opening, Closing, Result, LeftOpen, Unknown}
 use Rattle.pgn_text.specs.declared.PgnMove.{PgnMove}

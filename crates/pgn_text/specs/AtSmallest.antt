@@ -3,7 +3,7 @@
 use Prim.Native.Nat.{ℕ}
 use Prim.Native.String.{String}
 use mathlib.Core.Path.{_≡_}
-use Rattle.square.specs.Ascii.{ascii}
+use Rattle.answer.specs.Ascii.{ascii}
 use Rattle.pgn_text.specs.Walk.{check, next, noMove, moveAt}
 
 -- a text that is accepted, with its number of moves

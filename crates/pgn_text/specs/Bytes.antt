@@ -3,12 +3,10 @@
 use Prim.Native.Nat.{ℕ, _+_}
 use mathlib.Core.Bool.{Bool, true, false, not, _&&_, _||_}
 use mathlib.Core.List.{List, [], _∷_}
-use lib.Dec.{eqb, leb}
+use lib.Dec.{eqb}
 use Rattle.pgn_text.specs.declared.Run.{Run}
 use Rattle.pgn_text.specs.declared.Run.the-variants.{Digits, Periods, MoveBytes, InBraces, InLine}
-
-abbrev pub between : ℕ → ℕ → ℕ → Bool
-between low high b = leb low b && leb b high
+use Rattle.answer.specs.Numbers.{between}
 
 -- space, tab, CR and LF
 unfoldable pub isWhite : ℕ → Bool

@@ -5,7 +5,7 @@ use mathlib.Core.Path.{_≡_}
 use mathlib.Core.Bool.{true, false}
 use mathlib.Core.List.{List, [], _∷_, _++_}
 use lib.ListN.{length, take, drop, getD}
-use Rattle.square.specs.Answer.{leftOpen, tooDeep, unknownToken}
+use Rattle.answer.specs.Answer.{leftOpen, tooDeep, unknownToken}
 use Rattle.pgn_text.specs.declared.Run.the-variants.{MoveBytes}
 use Rattle.pgn_text.specs.declared.PgnCount.{PgnCount}
 use Rattle.pgn_text.specs.declared.PgnMove.{PgnMove}

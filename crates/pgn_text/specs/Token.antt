@@ -5,7 +5,7 @@ use mathlib.Core.Bool.{Bool, true, false, cond, _||_}
 use mathlib.Core.List.{List}
 use lib.Dec.{eqb, ltb}
 use lib.ListN.{length, drop, getD}
-use Rattle.square.specs.Ascii.{ascii}
+use Rattle.answer.specs.Ascii.{ascii}
 use Rattle.pgn_text.specs.declared.Run.the-variants.{Digits, Periods, MoveBytes, InBraces, InLine}
 use Rattle.pgn_text.specs.declared.Token.{Token}
 use Rattle.pgn_text.specs.declared.Token.the-variants.{Passed, Move, Opening, Closing, Result, LeftOpen, Unknown}

@@ -6,7 +6,7 @@ use mathlib.Core.Bool.{cond}
 use mathlib.Core.List.{List, [], _∷_}
 use lib.Dec.{eqb, ltb}
 use lib.ListN.{length, take, drop, replicate}
-use Rattle.square.specs.Answer.{leftOpen, tooDeep, unknownToken}
+use Rattle.answer.specs.Answer.{leftOpen, tooDeep, unknownToken}
 use Rattle.pgn_text.specs.declared.Token.{Token}
 use Rattle.pgn_text.specs.declared.Token.the-variants.{Passed, Move, Opening, Closing, Result, LeftOpen, Unknown}
 use Rattle.pgn_text.specs.declared.PgnCount.{PgnCount}

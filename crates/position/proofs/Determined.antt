@@ -2,7 +2,7 @@
 -- Assumes nothing.
 use mathlib.Core.Path.{sym, _∙_}
 use denote.Ref.{now}
-use Rattle.square.specs.Determined.{OneAnswer, OnePart}
+use Rattle.answer.specs.Determined.{OneAnswer, OnePart}
 use Rattle.position.proofs.at.Reads as at
 use Rattle.position.proofs.at.Kinds as at·k
 use Rattle.position.proofs.equals_two_earlier.Reads as equals-two-earlier

@@ -11,8 +11,8 @@ use lib.Dec.{eqb}
 use lib.ListN.{length, drop, take, getD}
 use lib.Seq.{drop-cons}
 use borrow.Author.Tests.{eq-eqb, ne-eqb, eqb-true, eqb-false}
-use Rattle.square.specs.Numbers.{same}
-use Rattle.square.proofs.Same.{same-lengths}
+use Rattle.answer.specs.Numbers.{same}
+use Rattle.answer.proofs.Same.{same-lengths}
 use Rattle.chess_move.specs.Number.{ofBytes}
 use Rattle.position.specs.Layout.{lengthAt, movesAt, positionSize, movesFrom, positionOf}
 use Rattle.position.specs.Repeats.{equal}

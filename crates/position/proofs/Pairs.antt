@@ -8,9 +8,9 @@ use native.Mathlib.Omega.{arith}
 use lib.Dec.{leb}
 use lib.ListN.{length}
 use borrow.Author.Tests.{le-leb, leb-true}
-use Rattle.square.specs.Numbers.{same}
-use Rattle.square.proofs.Numbers.{both-left, both-right}
-use Rattle.square.proofs.Same.{same-refl, same-eq}
+use Rattle.answer.specs.Numbers.{same}
+use Rattle.answer.proofs.Numbers.{both-left, both-right}
+use Rattle.answer.proofs.Same.{same-refl, same-eq}
 use Rattle.position.specs.Layout.{Position, positionSize, positionAt, positionsFrom}
 use Rattle.position.specs.Repeats.{equal, times, equalsTwoEarlier}
 use Rattle.position.specs.Promises.{EqualIsAlike, AlikeIsEqual, FindsTwo, TwoAreFound}

@@ -7,7 +7,7 @@ use Prim.Native.Nat.{ℕ, zero, suc, _+_, _*_, _-_, _<_, _≤_}
 use native.Mathlib.Omega.{arith}
 use lib.Dec.{leb}
 use lib.ListN.{length}
-use Rattle.square.specs.Parts.{item}
+use Rattle.answer.specs.Parts.{item}
 use Rattle.position.specs.Layout.{positionSize, Position, positionOf, positionAt, positionsFrom}
 use borrow.Author.Tests.{le-leb, lt-leb}
 use Rattle.position.specs.Repeats.{equal, times, equalsTwoEarlier}

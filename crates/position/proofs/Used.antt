@@ -7,7 +7,7 @@ use native.Mathlib.Omega.{arith}
 use lib.Dec.{leb}
 use lib.ListN.{take, drop}
 use lib.Seq.{take-take}
-use Rattle.square.specs.Parts.{item}
+use Rattle.answer.specs.Parts.{item}
 use Rattle.position.specs.Layout.{Position, positionSize, positionOf, positionsFrom}
 use Rattle.position.specs.Repeats.{times}
 use Rattle.position.specs.Promises.{usedTo, LooksAtNothingPast}

@@ -5,7 +5,7 @@ use mathlib.Core.Path.{_≡_}
 use mathlib.Core.List.{List, [], _∷_}
 use Prim.Native.Nat.{ℕ, zero, suc, _+_, _*_}
 use lib.ListN.{length, getD, take}
-use Rattle.square.specs.Parts.{item}
+use Rattle.answer.specs.Parts.{item}
 use Rattle.board_builder.specs.BoardBuilder.{recordSize, sideAt}
 use Rattle.chess_move.specs.Number.{ofBytes}
 use Rattle.move_list.specs.MoveList.{longestList}

@@ -5,7 +5,7 @@ use mathlib.Core.List.{List, [], _∷_}
 use Prim.Native.Nat.{ℕ, _+_, _*_, _-_}
 use lib.Dec.{leb}
 use lib.ListN.{length}
-use Rattle.square.specs.Numbers.{same}
+use Rattle.answer.specs.Numbers.{same}
 use Rattle.position.specs.Layout.{Position, positionSize, positionAt, positionsFrom}
 
 unfoldable pub equal : Position → Position → Bool

@@ -7,7 +7,7 @@ ghost use mathlib.Core.List.{List, [], _∷_, _++_};
 ghost use Prim.Native.Nat.{ℕ, _+_, _*_, _-_, _<_, _≤_};
 ghost use lib.Dec.{leb};
 ghost use lib.ListN.{length};
-ghost use Rattle.square.specs.Parts.{item};
+ghost use Rattle.answer.specs.Parts.{item};
 ghost use Rattle.position.specs.Layout.{IsItem, positionSize, positionOf, positionAt, positionsFrom};
 ghost use Rattle.position.specs.Repeats.{equal, times, equalsTwoEarlier};
 ghost use Rattle.position.specs.Places.{placesOf, placesTold, equalPlaces};
@@ -49,11 +49,11 @@ fn same_position(p: &[u8], q: &[u8]) -> bool
     requires { ⌜ (length (now p) ≡ positionSize) × (length (now q) ≡ positionSize) ⌝ }
     ensures { λ r. ⌜ r ≡ equal (positionOf (now (p .entry))) (positionOf (now (q .entry))) ⌝ }
 {
-    if !square::same_bytes(&p[..RECORD_SIZE], &q[..RECORD_SIZE]) {
+    if !answer::same_bytes(&p[..RECORD_SIZE], &q[..RECORD_SIZE]) {
         return false;
     }
     let end = MOVES_AT + 2 * (p[LENGTH_AT] as usize);
-    square::same_bytes(&p[LENGTH_AT..end], &q[LENGTH_AT..end])
+    answer::same_bytes(&p[LENGTH_AT..end], &q[LENGTH_AT..end])
 }
 
 fn repeated(ps: &[u8], first: usize, last: usize) -> bool

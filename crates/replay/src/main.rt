@@ -24,6 +24,7 @@ mod part;
 mod text;
 
 use action::ACTION_SIZE;
+use answer::Answer;
 use board_builder::BLACK_RIGHTS_AT;
 use board_builder::BoardBuilder;
 use board_builder::EN_PASSANT_AT;
@@ -39,7 +40,6 @@ use input::Input;
 use laws::Ruled;
 use libc::STDOUT_FILENO;
 use position::POSITION_SIZE;
-use square::Answer;
 ghost use Prim.Native.Nat.{_≤_};
 ghost use lib.ListN.{length};
 
@@ -101,7 +101,7 @@ fn put_answer(a: Answer) {
 
 // What a writer wrote, if it did, and the line's end.
 fn put_written(a: Answer, out: &[u8]) {
-    if a.number == square::ACCEPTED {
+    if a.number == answer::ACCEPTED {
         let n = part::at_most(a.value, out.len());
         put(b" ");
         put(&out[..n]);
@@ -174,7 +174,7 @@ fn read_position(line: &[u8], k: usize, list: &mut [u16], run: Run) -> Given
     if !listed.is_read {
         return nothing_given();
     }
-    if fen.number != square::ACCEPTED {
+    if fen.number != answer::ACCEPTED {
         return nothing_given();
     }
     let board = fen.board;
@@ -214,7 +214,7 @@ fn give(line: &[u8], list: &mut [u16], run: Run) -> Run {
 fn put_fen(line: &[u8], run: Run) -> Run {
     let fen = fen_reader::read_fen(text::rest(line, 1));
     put_number(fen.number);
-    if fen.number != square::ACCEPTED {
+    if fen.number != answer::ACCEPTED {
         put(b" ");
         put_number(fen.offset);
         put(b"\n");
@@ -231,7 +231,7 @@ fn put_coordinates(line: &[u8], run: Run) -> Run {
     let read = chess_move::from_str(text::rest(line, 1));
     put_number(read.number);
     put(b" ");
-    if read.number != square::ACCEPTED {
+    if read.number != answer::ACCEPTED {
         put_number(read.offset);
         put(b"\n");
         return run;
@@ -425,10 +425,10 @@ fn poke(line: &[u8], run: Run) -> Run {
 
 // Sets a byte of the part that a word names. False: there is no such part or byte.
 fn set_in(part: &[u8], acts: &mut [u8], ps: &mut [u8], offset: u64, value: u8) -> bool {
-    if square::same_bytes(part, b"a") {
+    if answer::same_bytes(part, b"a") {
         return part::set(acts, offset, value);
     }
-    if square::same_bytes(part, b"p") {
+    if answer::same_bytes(part, b"p") {
         return part::set(ps, offset, value);
     }
     false

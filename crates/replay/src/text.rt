@@ -195,7 +195,7 @@ pub(crate) fn read_moves(word: &[u8], list: &mut [u16]) -> Count
 {
     let mut count: usize = 0;
     let mut at: usize = 0;
-    if square::same_bytes(word, b"-") {
+    if answer::same_bytes(word, b"-") {
         return Count {
             is_read: true,
             value: 0,

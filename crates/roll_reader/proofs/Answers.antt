@@ -10,7 +10,7 @@ use lib.Dec.{eqb, leb}
 use lib.ListN.{length, take, drop, getD, set}
 use lib.Seq.{take-suc, take-suc-set, take-all, take-take, getD-take}
 use borrow.Author.Tests.{lt-ltb, le-ltb, le-leb, lt-leb}
-use Rattle.square.specs.Answer.{badRoll, logFull, partTooShort}
+use Rattle.answer.specs.Answer.{badRoll, logFull, partTooShort}
 use Rattle.board_builder.specs.declared.BoardBuilder.{BoardBuilder}
 use Rattle.board_builder.specs.BoardBuilder.{board, boardOf}
 use Rattle.chess_move.specs.Number.{lastMove}

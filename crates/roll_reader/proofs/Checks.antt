@@ -5,8 +5,8 @@ use mathlib.Core.Bool.{true}
 use mathlib.Core.List.{List}
 use Prim.Native.Nat.{ℕ}
 use native.Mathlib.Omega.{arith}
-use Rattle.square.specs.declared.Answer.{Answer}
-use Rattle.square.specs.Answer.{accepted, refused}
+use Rattle.answer.specs.declared.Answer.{Answer}
+use Rattle.answer.specs.Answer.{accepted, refused}
 use Rattle.game_rules.specs.Limits.{limits, actionsLength}
 use Rattle.roll_text.specs.Roll.{refusal, Acts, halted, acts, withActions, readRoll}
 use Rattle.roll_text.specs.Calls.{isActs, judged}

@@ -2,7 +2,7 @@
 -- Assumes nothing.
 use mathlib.Core.Path.{sym, _∙_}
 use denote.Ref.{now}
-use Rattle.square.specs.Determined.{OneAnswer, OnePart}
+use Rattle.answer.specs.Determined.{OneAnswer, OnePart}
 use Rattle.roll_reader.proofs.read.Reads as read
 use Rattle.roll_reader.proofs.read.Kinds as read·k
 use Rattle.roll_reader.proofs.check.Reads as check

@@ -10,10 +10,10 @@ use lib.Dec.{leb}
 use lib.ListN.{length, take, drop, getD, take-append-drop, drop-of-length-le}
 use lib.Seq.{drop-cons, drop-drop}
 use borrow.Author.Tests.{le-leb, lt-leb, leb-true, leb-false}
-use Rattle.square.specs.Answer.{badRoll, outOfRange}
-use Rattle.square.specs.Numbers.{allAtMost}
-use Rattle.square.proofs.Numbers.{most-head, most-tail}
-use Rattle.square.proofs.Bounds.{bound-at}
+use Rattle.answer.specs.Answer.{badRoll, outOfRange}
+use Rattle.answer.specs.Numbers.{allAtMost}
+use Rattle.answer.proofs.Numbers.{most-head, most-tail}
+use Rattle.answer.proofs.Bounds.{bound-at}
 use Rattle.board_builder.specs.BoardBuilder.{numbersInRange}
 use Rattle.roll_text.specs.declared.Number.{Number}
 use Rattle.roll_text.specs.declared.Number.the-variants.{Got, Bad}

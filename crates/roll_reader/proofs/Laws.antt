@@ -6,8 +6,8 @@ use Prim.Native.Nat.{ℕ, zero, suc, _+_, _*_, _%_, _-_, _≤_, _<_}
 use native.Mathlib.Omega.{arith}
 use lib.ListN.{length, drop, getD, set, replicate, getD-replicate, List·getD-append}
 use Rattle.roll_text.specs.Roll.{largestNumbers}
-use Rattle.square.specs.Parts.{written}
-use Rattle.square.proofs.Parts.{set-written, written-next}
+use Rattle.answer.specs.Parts.{written}
+use Rattle.answer.proofs.Parts.{set-written, written-next}
 use Rattle.roll_text.specs.declared.Number.{Number}
 use Rattle.roll_text.specs.declared.Number.the-variants.{Got, Bad}
 use Rattle.roll_text.specs.Number.{reach, behind, readGroups}

@@ -9,7 +9,7 @@ use lib.Dec.{eqb}
 use lib.ListN.{length, drop, length-drop, drop-of-length-le}
 use lib.Seq.{drop-drop, drop-cons}
 use borrow.Author.Tests.{eqb-false}
-use Rattle.square.specs.Answer.{badRoll, logFull}
+use Rattle.answer.specs.Answer.{badRoll, logFull}
 use Rattle.chess_move.specs.Number.{lastMove}
 use Rattle.action.specs.Layout.{fields}
 use Rattle.roll_text.specs.declared.Number.{Number}

@@ -12,7 +12,7 @@ use Rattle.chess_move.specs.Number.{lastMove}
 use Rattle.roll_text.specs.declared.Entry.the-variants.{Move}
 use Rattle.roll_text.specs.Number.{behind, readGroups}
 use Rattle.roll_text.specs.Roll.{movedBy, coded, readEntry}
-use Rattle.roll_reader.specs.Short.{ShortMove}
+use Rattle.roll_reader.specs.CodeShort.{ShortMove}
 
 pub no-short : (s : List ℕ) (at left : ℕ) → ShortMove s at left (lastMove + 1)
 no-short s at left = record { there = λ h. absurd (omega arith) }

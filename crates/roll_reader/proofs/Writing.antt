@@ -8,9 +8,9 @@ use native.Mathlib.Omega.{arith}
 use lib.Dec.{ltb}
 use lib.ListN.{length, drop, length-append}
 use borrow.Author.Tests.{ltb-true, ltb-false}
-use Rattle.square.specs.Answer.{badRoll, overwrite}
-use Rattle.square.specs.Parts.{written}
-use Rattle.square.proofs.Parts.{written-none, written-behind, length-written}
+use Rattle.answer.specs.Answer.{badRoll, overwrite}
+use Rattle.answer.specs.Parts.{written}
+use Rattle.answer.proofs.Parts.{written-none, written-behind, length-written}
 use Rattle.roll_text.specs.Roll.{Acts, halted, acts, putAction, readActions}
 use Rattle.roll_text.specs.Calls.{actsOver, isActs}
 use Rattle.roll_reader.proofs.Reading.{end-turn, long-turn}

@@ -1,7 +1,7 @@
 -- What a look at a roll answers that hands out no action: the reader's number, or 0 with how many actions the roll has.
 -- Assumes nothing.
-use Rattle.square.specs.declared.Answer.{Answer}
-use Rattle.square.specs.Answer.{accepted, refused}
+use Rattle.answer.specs.declared.Answer.{Answer}
+use Rattle.answer.specs.Answer.{accepted, refused}
 use Rattle.roll_text.specs.Roll.{Rolled, refusal, rolled}
 
 unfoldable pub checked : Rolled → Answer

@@ -1,6 +1,13 @@
 // Reads a game roll (document 02, order 1).
 use action::ACTION_SIZE;
 use actions::NO_MOVE;
+use answer::Answer;
+use answer::BAD_ROLL;
+use answer::LOG_FULL;
+use answer::OUT_OF_RANGE;
+use answer::PART_TOO_SHORT;
+use answer::front;
+use answer::rest;
 use board_builder::BoardBuilder;
 use board_builder::RECORD_SIZE;
 use chess_move::LAST_MOVE;
@@ -10,25 +17,18 @@ use game_rules::MAX_MOVES;
 use roll_text::Entry;
 use roll_text::Number;
 use roll_text::Roll;
-use square::Answer;
-use square::BAD_ROLL;
-use square::front;
-use square::LOG_FULL;
-use square::OUT_OF_RANGE;
-use square::PART_TOO_SHORT;
-use square::rest;
 ghost use mathlib.Core.Path.{_≡_};
 ghost use mathlib.Core.Bool.{true};
 ghost use Prim.Native.Nat.{_+_, _*_, _≤_, _<_};
 ghost use lib.ListN.{length, take, drop, getD};
-ghost use Rattle.square.specs.Parts.{written};
+ghost use Rattle.answer.specs.Parts.{written};
 ghost use Rattle.board_builder.specs.BoardBuilder.{recordSize, boardOf};
 ghost use Rattle.action.specs.Layout.{fields};
 ghost use Rattle.game_rules.specs.Limits.{limits};
 ghost use Rattle.roll_text.specs.Number.{readGroups, readNumber};
 ghost use Rattle.roll_text.specs.Roll.{largestNumbers, readNumbers, refusal, isCode, readEntry, readActions, readRoll};
 ghost use Rattle.roll_reader.specs.Checked.{checked};
-ghost use Rattle.roll_reader.specs.Short.{ShortMove};
+ghost use Rattle.roll_reader.specs.CodeShort.{ShortMove};
 ghost use Rattle.roll_text.specs.Calls.{frontNumber, actsNumber, actsOver, isActs, rollAnswer, rollOver, judged};
 
 const MOVE_CODE: u64 = 2;
@@ -354,21 +354,21 @@ pub fn check(s: &[u8]) -> Answer
 {
     let wrong = judge_record(s);
     if wrong != 0 {
-        return square::refused(wrong);
+        return answer::refused(wrong);
     }
     let behind = rest(s, RECORD_SIZE);
     let count = read_number(behind);
     match count {
         Number::Got(n, size) => {
             if (MAX_ACTIONS as u64) < n {
-                return square::refused(LOG_FULL);
+                return answer::refused(LOG_FULL);
             }
             let bad = judge_actions(rest(behind, size), n as usize, MAX_MOVES);
             if bad != 0 {
-                return square::refused(bad);
+                return answer::refused(bad);
             }
-            square::accepted(n)
+            answer::accepted(n)
         }
-        Number::Bad => square::refused(BAD_ROLL),
+        Number::Bad => answer::refused(BAD_ROLL),
     }
 }

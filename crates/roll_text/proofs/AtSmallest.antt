@@ -1,8 +1,8 @@
 -- Numbers and refusals of a roll at their smallest, each row computed.
 -- Assumes nothing.
 use mathlib.Core.Path.{refl}
-use Rattle.square.specs.Answer.{writeAnswer}
-use Rattle.square.specs.Numbers.{allAtMost}
+use Rattle.answer.specs.Answer.{writeAnswer}
+use Rattle.answer.specs.Numbers.{allAtMost}
 use Rattle.board_builder.specs.BoardBuilder.{inRange, numbers}
 use Rattle.action.specs.Layout.{actionOf}
 use Rattle.actions.specs.Part.{movesIn, actionsHeld}

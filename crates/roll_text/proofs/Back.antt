@@ -8,10 +8,10 @@ use native.Mathlib.Omega.{arith}
 use lib.Dec.{leb}
 use lib.ListN.{length}
 use borrow.Author.Tests.{le-leb, leb-true}
-use Rattle.square.specs.Numbers.{allAtMost}
-use Rattle.square.proofs.Numbers.{most-head, most-tail, both-left, both-right}
+use Rattle.answer.specs.Numbers.{allAtMost}
+use Rattle.answer.proofs.Numbers.{most-head, most-tail, both-left, both-right}
 use Rattle.game_rules.specs.Limits.{Limits}
-use Rattle.actions.specs.Part.{oneIfMove}
+use Rattle.actions.specs.CodeCount.{oneIfMove}
 use Rattle.action.specs.Layout.{actionSize}
 use Rattle.roll_text.specs.Number.{numberText, readNumber}
 use Rattle.roll_text.specs.Roll.{front, acts, rolled, largestNumbers, withinBounds, numbersText, actionsText, rollText}

@@ -15,7 +15,8 @@ use Rattle.action.specs.declared.Action.the-variants.{MakeMove, OfferDraw, Acce
 use Rattle.action.specs.declared.Stored.{Stored}
 use Rattle.action.specs.declared.Stored.the-variants.{Holds, Nothing}
 use Rattle.action.specs.Layout.{actionSize, movesHere, standsAlone, actionOfFields, actionOf}
-use Rattle.actions.specs.Part.{actionAt, isHeld, actionsHeld, oneIfMove, movesIn}
+use Rattle.actions.specs.Part.{actionAt, isHeld, actionsHeld, movesIn}
+use Rattle.actions.specs.CodeCount.{oneIfMove}
 use Rattle.actions.proofs.Counting.{none-made, count-turn}
 use Rattle.roll_text.specs.Roll.{isCode, codeOf, kindAt, colourAt, moveNumberAt}
 

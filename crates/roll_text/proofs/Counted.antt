@@ -8,7 +8,8 @@ use native.Mathlib.Omega.{arith}
 use lib.ListN.{length, length-append}
 use Rattle.chess_move.specs.Number.{ofBytes}
 use Rattle.action.specs.Layout.{actionSize}
-use Rattle.actions.specs.Part.{actionsHeld, oneIfMove, movesIn}
+use Rattle.actions.specs.Part.{actionsHeld, movesIn}
+use Rattle.actions.specs.CodeCount.{oneIfMove}
 use Rattle.roll_text.specs.Number.{numberText}
 use Rattle.roll_text.specs.Roll.{actionText, actionsText, numbersText, rollText}
 use Rattle.roll_text.proofs.ByFields.{actionInRange, actionsInRange, movesAmong, held-in-range, as-many-moves}

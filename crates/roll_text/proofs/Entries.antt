@@ -8,10 +8,10 @@ use native.Mathlib.Omega.{arith}
 use lib.Dec.{eqb, leb}
 use lib.ListN.{length, drop}
 use borrow.Author.Tests.{le-leb, lt-leb, leb-true, leb-false, eq-eqb, ne-eqb, eqb-true, eqb-false}
-use Rattle.square.specs.Answer.{logFull, badRoll}
+use Rattle.answer.specs.Answer.{logFull, badRoll}
 use Rattle.chess_move.specs.Number.{lastMove}
 use Rattle.action.specs.Layout.{fields}
-use Rattle.actions.specs.Part.{oneIfMove}
+use Rattle.actions.specs.CodeCount.{oneIfMove}
 use Rattle.roll_text.specs.declared.Number.the-variants.{Got}
 use Rattle.roll_text.specs.declared.Entry.the-variants.{Move, Plain, Stop}
 use Rattle.roll_text.specs.Number.{mostGroups, reach, numberText, readNumber}

@@ -9,13 +9,14 @@ use lib.Dec.{eqb, leb}
 use lib.ListN.{length, drop}
 use lib.Seq.{drop-drop}
 use borrow.Author.Tests.{le-leb, leb-true, ne-eqb, eqb-true, eqb-false}
-use Rattle.square.specs.Numbers.{allAtMost}
-use Rattle.square.specs.Answer.{outOfRange, logFull, badRoll}
-use Rattle.square.proofs.Numbers.{most-cons, most-drop}
+use Rattle.answer.specs.Numbers.{allAtMost}
+use Rattle.answer.specs.Answer.{outOfRange, logFull, badRoll}
+use Rattle.answer.proofs.Numbers.{most-cons, most-drop}
 use Rattle.chess_move.specs.Number.{lastMove}
 use Rattle.action.specs.Layout.{actionSize, fields}
 use Rattle.game_rules.specs.Limits.{Limits}
-use Rattle.actions.specs.Part.{oneIfMove, movesIn, actionsHeld}
+use Rattle.actions.specs.Part.{movesIn, actionsHeld}
+use Rattle.actions.specs.CodeCount.{oneIfMove}
 use Rattle.roll_text.specs.declared.Number.{Number}
 use Rattle.roll_text.specs.declared.Number.the-variants.{Got, Bad}
 use Rattle.roll_text.specs.declared.Entry.{Entry}

@@ -6,8 +6,8 @@ use mathlib.Core.List.{List, _∷_, _++_}
 use Prim.Native.Nat.{ℕ, zero, suc, _+_, _≤_, _<_}
 use native.Mathlib.Omega.{arith}
 use lib.ListN.{length, take, drop, getD, replicate, length-append, length-replicate}
-use Rattle.square.specs.declared.Answer.{Answer}
-use Rattle.square.specs.Numbers.{allAtMost}
+use Rattle.answer.specs.declared.Answer.{Answer}
+use Rattle.answer.specs.Numbers.{allAtMost}
 use Rattle.board_builder.specs.declared.BoardBuilder.{BoardBuilder}
 use Rattle.board_builder.specs.BoardBuilder.{inRange, emptyBoard, initialBoard}
 use Rattle.action.specs.Layout.{actionOf}

@@ -8,9 +8,9 @@ use native.Mathlib.Omega.{arith}
 use lib.Dec.{eqb, leb}
 use lib.ListN.{length}
 use borrow.Author.Tests.{leb-true, eqb-true}
-use Rattle.square.specs.Parts.{item}
-use Rattle.square.specs.Numbers.{same}
-use Rattle.square.proofs.Numbers.{both-left, both-right}
+use Rattle.answer.specs.Parts.{item}
+use Rattle.answer.specs.Numbers.{same}
+use Rattle.answer.proofs.Numbers.{both-left, both-right}
 use Rattle.board_builder.specs.BoardBuilder.{numbersInRange}
 use Rattle.actions.specs.Part.{isHeld, actionsHeld}
 use Rattle.position.specs.Layout.{Position, positionSize, positionAt, positionOf}

@@ -7,8 +7,8 @@ use Prim.Native.Nat.{ℕ, _≤_}
 use native.Mathlib.Omega.{arith}
 use lib.Dec.{leb}
 use borrow.Author.Tests.{leb-true}
-use Rattle.square.specs.Numbers.{allAtMost}
-use Rattle.square.proofs.Numbers.{both-left, both-right, most-head, most-tail}
+use Rattle.answer.specs.Numbers.{allAtMost}
+use Rattle.answer.proofs.Numbers.{both-left, both-right, most-head, most-tail}
 use Rattle.board_builder.specs.BoardBuilder.{numbersInRange}
 use Rattle.roll_text.specs.Number.{numberText}
 use Rattle.roll_text.specs.Roll.{largestNumbers, withinBounds, numbersText}

@@ -7,7 +7,7 @@ use Prim.Native.Nat.{ℕ, zero, suc, _-_, _/_, _%_}
 use lib.Dec.{eqb, leb, ltb}
 use lib.ListN.{drop}
 use borrow.Author.Tests.{eq-eqb}
-use Rattle.square.specs.Answer.{outOfRange, logFull, badRoll}
+use Rattle.answer.specs.Answer.{outOfRange, logFull, badRoll}
 use Rattle.chess_move.specs.Number.{lastMove}
 use Rattle.action.specs.Layout.{fields}
 use Rattle.game_rules.specs.Limits.{Limits, actionsLength}

@@ -9,10 +9,10 @@ use lib.Dec.{eqb, ltb}
 use lib.ListN.{length, drop, length-append, length-drop}
 use lib.Seq.{take-at, drop-at}
 use borrow.Author.Tests.{ltb-false}
-use Rattle.square.specs.declared.Answer.{Answer}
-use Rattle.square.specs.Answer.{partTooShort, overwrite}
-use Rattle.square.specs.Numbers.{allAtMost}
-use Rattle.square.proofs.Numbers.{both-right}
+use Rattle.answer.specs.declared.Answer.{Answer}
+use Rattle.answer.specs.Answer.{partTooShort, overwrite}
+use Rattle.answer.specs.Numbers.{allAtMost}
+use Rattle.answer.proofs.Numbers.{both-right}
 use Rattle.board_builder.specs.BoardBuilder.{recordSize, inRange, numbersInRange, boardOf}
 use Rattle.board_builder.proofs.Numbers.{record-of-numbers}
 use Rattle.action.specs.Layout.{actionSize}

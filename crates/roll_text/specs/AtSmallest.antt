@@ -5,7 +5,7 @@ use Prim.Native.Nat.{ℕ}
 use mathlib.Core.Path.{_≡_}
 use mathlib.Core.List.{List, [], _∷_, _++_}
 use lib.ListN.{replicate}
-use Rattle.square.specs.Answer.{outOfRange, outputTooShort, logFull, partTooShort, badRoll, writeAnswer}
+use Rattle.answer.specs.Answer.{outOfRange, outputTooShort, logFull, partTooShort, badRoll, writeAnswer}
 use Rattle.board_builder.specs.declared.BoardBuilder.{BoardBuilder}
 use Rattle.board_builder.specs.BoardBuilder.{board, recordSize, squares, emptyBoard}
 use Rattle.game_rules.specs.Limits.{Limits}

@@ -5,7 +5,7 @@ use mathlib.Core.Bool.{Bool, true, false, cond}
 use mathlib.Core.List.{List}
 use lib.Dec.{ltb}
 use lib.ListN.{length}
-use Rattle.square.specs.Answer.{outOfRange, logFull, partTooShort, badRoll, overwrite}
+use Rattle.answer.specs.Answer.{outOfRange, logFull, partTooShort, badRoll, overwrite}
 use Rattle.board_builder.specs.declared.BoardBuilder.{BoardBuilder}
 use Rattle.board_builder.specs.BoardBuilder.{boardOf, emptyBoard, inRange, numbers}
 use Rattle.actions.specs.Part.{movesIn, actionsHeld}

@@ -6,7 +6,7 @@ use mathlib.Core.Bool.{Bool, true, false, cond, _&&_}
 use mathlib.Core.List.{List, [], _∷_, _++_}
 use lib.Dec.{eqb, leb}
 use lib.ListN.{drop, getD, replicate}
-use Rattle.square.specs.Answer.{outOfRange, logFull, badRoll}
+use Rattle.answer.specs.Answer.{outOfRange, logFull, badRoll}
 use Rattle.board_builder.specs.BoardBuilder.{squares}
 use Rattle.chess_move.specs.Number.{lastMove, ofBytes}
 use Rattle.action.specs.Layout.{actionSize, fields}

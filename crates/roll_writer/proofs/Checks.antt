@@ -6,7 +6,7 @@ use mathlib.Core.List.{List}
 use Prim.Native.Nat.{ℕ, _≤_, _<_}
 use lib.ListN.{length}
 use borrow.Author.Tests.{lt-ltb, le-ltb}
-use Rattle.square.specs.Answer.{outOfRange, logFull, partTooShort, badRoll}
+use Rattle.answer.specs.Answer.{outOfRange, logFull, partTooShort, badRoll}
 use Rattle.board_builder.specs.declared.BoardBuilder.{BoardBuilder}
 use Rattle.board_builder.specs.BoardBuilder.{inRange}
 use Rattle.actions.specs.Part.{movesIn, actionsHeld}

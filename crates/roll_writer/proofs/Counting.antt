@@ -7,8 +7,8 @@ use native.Mathlib.Omega.{arith}
 use lib.ListN.{length, drop, set, length-append}
 use lib.Seq.{drop-drop}
 use borrow.Author.Tests.{eq-eqb, ne-eqb}
-use Rattle.square.specs.Parts.{written}
-use Rattle.square.proofs.Parts.{written-none, set-written, written-next, written-behind, length-written}
+use Rattle.answer.specs.Parts.{written}
+use Rattle.answer.proofs.Parts.{written-none, set-written, written-next, written-behind, length-written}
 use Rattle.roll_text.specs.Number.{numberText}
 use Rattle.roll_text.proofs.Numbers.{groups-last, groups-more}
 use Rattle.roll_text.specs.Roll.{codeOf, kindAt, colourAt, moveNumberAt, actionText, actionsText}

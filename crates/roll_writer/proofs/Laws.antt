@@ -8,8 +8,8 @@ use mathlib.Core.List.{List, [], _∷_}
 use Prim.Native.Nat.{ℕ, zero, suc, _+_, _/_, _%_, _-_, _≤_, _<_}
 use native.Mathlib.Omega.{arith}
 use lib.ListN.{length, set}
-use Rattle.square.specs.Parts.{written}
-use Rattle.square.proofs.Parts.{set-written, written-behind}
+use Rattle.answer.specs.Parts.{written}
+use Rattle.answer.proofs.Parts.{set-written, written-behind}
 use Rattle.roll_text.specs.Number.{reach, groups, numberText}
 use Rattle.roll_text.proofs.Numbers.{groups-last, groups-more}
 

@@ -9,9 +9,9 @@ use lib.Dec.{eqb, leb, ltb}
 use lib.ListN.{length, take, drop, getD, length-append, length-drop}
 use lib.Seq.{getD-drop}
 use borrow.Author.Tests.{eqb-true, eqb-false, eq-eqb, ne-eqb, le-leb, lt-leb, le-ltb, ltb-true, ltb-false}
-use Rattle.square.specs.declared.Answer.{Answer}
-use Rattle.square.specs.Answer.{accepted, refused}
-use Rattle.square.proofs.Writes.{Written, write-refused}
+use Rattle.answer.specs.declared.Answer.{Answer}
+use Rattle.answer.specs.Answer.{accepted, refused}
+use Rattle.answer.proofs.Writes.{Written, write-refused}
 use Rattle.chess_move.specs.Number.{lastMove, ofBytes}
 use Rattle.action.specs.Layout.{actionSize, movesHere, actionOf}
 use Rattle.actions.specs.Part.{isHeld, moveAt, movesIn, actionsHeld}
@@ -22,7 +22,7 @@ use Rattle.roll_text.specs.Calls.{fieldsAt}
 use Rattle.roll_text.proofs.Numbers.{groups-more}
 use Rattle.roll_text.proofs.ByFields.{actionInRange, held-fields, fields-here}
 use Rattle.roll_text.proofs.Entries.{plain-here, code-range}
-use Rattle.roll_writer.specs.Sizes.{moveSize, plainSize, sizeAt, actionsSize, measured}
+use Rattle.roll_writer.specs.CodeSizes.{moveSize, plainSize, sizeAt, actionsSize, measured}
 use Rattle.roll_writer.proofs.Laws.{one-byte, two-bytes, three-bytes}
 use Rattle.roll_writer.proofs.Counting.{text-of-move, text-of-plain, length-turn, text-end, whole}
 

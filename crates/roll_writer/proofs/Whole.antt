@@ -8,9 +8,9 @@ use native.Mathlib.Omega.{arith}
 use lib.Dec.{ltb}
 use lib.ListN.{length, length-append}
 use borrow.Author.Tests.{ltb-false, le-leb}
-use Rattle.square.specs.Answer.{outOfRange, partTooShort, logFull, writeBytes}
-use Rattle.square.specs.Parts.{written}
-use Rattle.square.proofs.Parts.{written-behind, length-written}
+use Rattle.answer.specs.Answer.{outOfRange, partTooShort, logFull, writeBytes}
+use Rattle.answer.specs.Parts.{written}
+use Rattle.answer.proofs.Parts.{written-behind, length-written}
 use Rattle.board_builder.specs.declared.BoardBuilder.{BoardBuilder}
 use Rattle.board_builder.specs.BoardBuilder.{squares, recordSize, inRange, numbers}
 use Rattle.board_builder.proofs.Ranges.{in-range}

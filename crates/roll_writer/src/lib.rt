@@ -1,6 +1,15 @@
 // Writes a game roll (document 02, order 1).
 use action::ACTION_SIZE;
 use action::Stored;
+use answer::ACCEPTED;
+use answer::Answer;
+use answer::BAD_ROLL;
+use answer::LOG_FULL;
+use answer::OUTPUT_TOO_SHORT;
+use answer::OUT_OF_RANGE;
+use answer::PART_TOO_SHORT;
+use answer::front;
+use answer::rest;
 use board_builder::BoardBuilder;
 use board_builder::RECORD_SIZE;
 use chess_move::LAST_MOVE;
@@ -8,29 +17,20 @@ use game_rules::ACTIONS_LENGTH;
 use game_rules::MAX_ACTIONS;
 use game_rules::MAX_MOVES;
 use roll_text::Fields;
-use square::ACCEPTED;
-use square::Answer;
-use square::BAD_ROLL;
-use square::LOG_FULL;
-use square::OUTPUT_TOO_SHORT;
-use square::OUT_OF_RANGE;
-use square::PART_TOO_SHORT;
-use square::front;
-use square::rest;
 ghost use mathlib.Core.Path.{_≡_};
 ghost use mathlib.Core.Bool.{true};
 ghost use Prim.Native.Nat.{_+_, _*_, _≤_, _<_};
 ghost use lib.Dec.{ltb};
 ghost use lib.ListN.{length, drop};
-ghost use Rattle.square.specs.Answer.{writeAnswer, writeBytes};
-ghost use Rattle.square.specs.Parts.{written};
+ghost use Rattle.answer.specs.Answer.{writeAnswer, writeBytes};
+ghost use Rattle.answer.specs.Parts.{written};
 ghost use Rattle.chess_move.specs.Number.{ofBytes};
 ghost use Rattle.actions.specs.Part.{movesIn};
 ghost use Rattle.game_rules.specs.Limits.{limits};
 ghost use Rattle.roll_text.specs.Number.{reach, groups, numberText};
 ghost use Rattle.roll_text.specs.Roll.{codeOf, actionText, actionsText};
 ghost use Rattle.roll_text.specs.Calls.{fieldsAt, writeCheck, gameText};
-ghost use Rattle.roll_writer.specs.Sizes.{Short, moveSize, plainSize, sizeAt, actionsSize, measured};
+ghost use Rattle.roll_writer.specs.CodeSizes.{Short, moveSize, plainSize, sizeAt, actionsSize, measured};
 
 const MOST_GROUPS: usize = 5;
 
@@ -212,23 +212,23 @@ fn measure(b: BoardBuilder, acts: &[u8], n: u64) -> Answer
     ensures { λ r. ⌜ r ≡ measured (writeCheck limits b (now (acts .entry)) n) (gameText b (now (acts .entry)) n) ⌝ }
 {
     if acts.len() < ACTIONS_LENGTH {
-        return square::refused(PART_TOO_SHORT);
+        return answer::refused(PART_TOO_SHORT);
     }
     if !b.in_range() {
-        return square::refused(OUT_OF_RANGE);
+        return answer::refused(OUT_OF_RANGE);
     }
     if (MAX_ACTIONS as u64) < n {
-        return square::refused(LOG_FULL);
+        return answer::refused(LOG_FULL);
     }
     let count = n as usize;
     if too_many_moves(acts, count) {
-        return square::refused(LOG_FULL);
+        return answer::refused(LOG_FULL);
     }
     let size = actions_size(acts, count);
     if size == 0 {
-        return square::refused(BAD_ROLL);
+        return answer::refused(BAD_ROLL);
     }
-    square::accepted((RECORD_SIZE + number_length(n) + (size - 1)) as u64)
+    answer::accepted((RECORD_SIZE + number_length(n) + (size - 1)) as u64)
 }
 
 fn put(b: BoardBuilder, acts: &[u8], n: usize, out: &mut [u8])

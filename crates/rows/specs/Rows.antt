@@ -2,7 +2,7 @@
 -- of document 02 says which part is wrong; from its orders 2 and 3 come the offsets.
 -- Assumes nothing.
 use mathlib.Core.List.{[], _∷_}
-use Rattle.square.specs.Answer.{invalidSquare, invalidUciMove, tooFewTokens, badPlacement}
+use Rattle.answer.specs.Answer.{invalidSquare, invalidUciMove, tooFewTokens, badPlacement}
 use Rattle.chess_move.specs.AtSmallest.{Moves, NoMove}
 use Rattle.fen_text.specs.Rows.{Writes, Refused}
 use Rattle.san_text.specs.Slips.{Reads, Refuses, Named, knight, knights, rook, pawn}

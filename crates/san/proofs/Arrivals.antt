@@ -10,7 +10,7 @@ use borrow.Author.Tests.{eq-eqb, eqb-true}
 use Rattle.chess_move.specs.Number.{sourceOf, destOf, promotionOf}
 use Rattle.san_text.specs.declared.San.{San}
 use Rattle.san_text.specs.Resolve.{kindAt, agrees, fits}
-use Rattle.san.specs.Fitting.{sourceFits}
+use Rattle.san.specs.CodeFitting.{sourceFits}
 
 -- what `m / 64` is of an entry that arrives as the text says
 abbrev pub arrival : San → ℕ

@@ -20,8 +20,8 @@ use Rattle.san_text.specs.Name.{changesFiles, takesOf}
 use Rattle.san_text.specs.Form.{castled, resolved}
 use Rattle.san_text.specs.Standard.{standardCaptures, standardCastles}
 use Rattle.san_text.specs.Forms.{formOf}
-use Rattle.san.specs.Fitting.{boardWith}
-use Rattle.san.specs.Gathered.{numberIf, kindFits, passing, passed}
+use Rattle.san.specs.CodeFitting.{boardWith}
+use Rattle.san.specs.CodeGathered.{numberIf, kindFits, passing, passed}
 
 -- ---- the rules, over what they look at: the form, `x` and the mark in the text; whether the destination is empty, the man a pawn, its file kept; and
 -- whether the text has a file

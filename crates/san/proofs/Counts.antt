@@ -12,7 +12,7 @@ use lib.Seq.{drop-cons}
 use borrow.Author.Tests.{ne-eqb, eqb-true}
 use Rattle.move_list.specs.MoveList.{count, firstOf}
 use Rattle.san.specs.declared.resolve.Fitting.{Fitting}
-use Rattle.san.specs.Fitting.{added}
+use Rattle.san.specs.CodeFitting.{added}
 
 -- `f` is the count and the first of the entries before place i
 pub record CountedTo (g : ℕ → Bool) (l : List ℕ) (i : ℕ) (f : Fitting) : Type 0 where

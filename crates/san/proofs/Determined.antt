@@ -1,7 +1,7 @@
 -- Each public function's contract, as the toolchain reads it off the source, permits one answer, and one content of each slice that is lent to be written.
 -- Assumes nothing.
 use mathlib.Core.Path.{sym, _∙_}
-use Rattle.square.specs.Determined.{OneAnswer}
+use Rattle.answer.specs.Determined.{OneAnswer}
 use Rattle.san.proofs.from_san.Reads as from-san
 use Rattle.san.proofs.from_san.Kinds as from-san·k
 use Rattle.san.proofs.resolve.castling_move.Reads as castling-move

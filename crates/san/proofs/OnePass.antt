@@ -10,13 +10,13 @@ use lib.Bits.{bitOr}
 use lib.Dec.{eqb, leb}
 use lib.ListN.{length, getD, take, drop, drop-of-length-le, take-append-drop}
 use lib.Seq.{drop-cons}
-use Rattle.square.specs.Numbers.{allAtMost, largest}
-use Rattle.square.proofs.Maxima.{max-assoc}
-use Rattle.square.proofs.Numbers.{most-cons}
-use Rattle.square.proofs.Bounds.{gather}
+use Rattle.answer.specs.Numbers.{allAtMost, largest}
+use Rattle.answer.proofs.Maxima.{max-assoc}
+use Rattle.answer.proofs.Numbers.{most-cons}
+use Rattle.answer.proofs.Bounds.{gather}
 use Rattle.chess_move.specs.Number.{lastMove}
 use Rattle.san.specs.declared.gathering.Gathered.{Gathered}
-use Rattle.san.specs.Gathered.{numberIf, kept, sources, total, lowest, gatherTwo, Gathers}
+use Rattle.san.specs.CodeGathered.{numberIf, kept, sources, total, lowest, gatherTwo, Gathers}
 
 -- ---- one source more or none
 

@@ -11,7 +11,7 @@ use Rattle.chess_move.specs.Number.{lastMove}
 use Rattle.san_text.specs.declared.San.{San}
 use Rattle.san_text.specs.Place.{given}
 use Rattle.san_text.specs.Resolve.{agrees}
-use Rattle.san.specs.Gathered.{numberIf, maskOf, wantOf, picked}
+use Rattle.san.specs.CodeGathered.{numberIf, maskOf, wantOf, picked}
 
 -- ---- the fixed bits
 

@@ -8,10 +8,10 @@ use native.Mathlib.Omega.{arith}
 use lib.Dec.{eqb, leb}
 use lib.ListN.{length}
 use borrow.Author.Tests.{leb-true, leb-false}
-use Rattle.square.specs.Numbers.{allAtMost, largest}
-use Rattle.square.proofs.Numbers.{most-head, most-tail}
+use Rattle.answer.specs.Numbers.{allAtMost, largest}
+use Rattle.answer.proofs.Numbers.{most-head, most-tail}
 use Rattle.move_list.specs.MoveList.{count, firstOf}
-use Rattle.san.specs.Gathered.{numberIf, total, lowest, passing, passed}
+use Rattle.san.specs.CodeGathered.{numberIf, total, lowest, passing, passed}
 
 -- the sum without the largest
 abbrev pub others : List ℕ → ℕ

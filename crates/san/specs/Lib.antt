@@ -1,2 +1,2 @@
-pub mod Fitting
-pub mod Gathered
+pub mod CodeFitting
+pub mod CodeGathered

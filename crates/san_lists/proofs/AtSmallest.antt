@@ -3,9 +3,9 @@
 use Prim.Native.Nat.{ℕ}
 use mathlib.Core.Path.{_≡_, refl}
 use native.Mathlib.Omega.{arith}
-use Rattle.square.specs.Answer.{writeAnswer, writeBytes}
-use Rattle.square.specs.Ascii.{ascii}
-use Rattle.square.specs.Numbers.{allAtMost, same, among}
+use Rattle.answer.specs.Answer.{writeAnswer, writeBytes}
+use Rattle.answer.specs.Ascii.{ascii}
+use Rattle.answer.specs.Numbers.{allAtMost, same, among}
 use Rattle.square.specs.Piece.{kindOf}
 use Rattle.board_builder.specs.BoardBuilder.{inRange}
 use Rattle.move_list.specs.MoveList.{listInRange, count, firstOf}

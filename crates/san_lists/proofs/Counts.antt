@@ -9,8 +9,8 @@ use native.Mathlib.Omega.{arith}
 use lib.Dec.{eqb, leb, eqb·suc-zero}
 use lib.ListN.{length}
 use borrow.Author.Tests.{eq-eqb, eqb-true, leb-true, le-leb}
-use Rattle.square.specs.Numbers.{allAtMost, among}
-use Rattle.square.proofs.Numbers.{both-left, both-right}
+use Rattle.answer.specs.Numbers.{allAtMost, among}
+use Rattle.answer.proofs.Numbers.{both-left, both-right}
 use Rattle.chess_move.specs.Number.{lastMove}
 use Rattle.move_list.specs.MoveList.{longestList, listInRange, count, firstOf}
 use Rattle.move_list.proofs.Counting.{count-listed}

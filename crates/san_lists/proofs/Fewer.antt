@@ -9,9 +9,9 @@ use mathlib.Core.Logic.{_⊎_, inl, inr}
 use native.Mathlib.Omega.{arith}
 use lib.Dec.{eqb}
 use borrow.Author.Tests.{eq-eqb, eqb-true}
-use Rattle.square.specs.declared.Answer.{Answer}
-use Rattle.square.specs.Answer.{accepted, refused, invalidSanMove, badList, outOfRange}
-use Rattle.square.specs.Numbers.{among}
+use Rattle.answer.specs.declared.Answer.{Answer}
+use Rattle.answer.specs.Answer.{accepted, refused, invalidSanMove, badList, outOfRange}
+use Rattle.answer.specs.Numbers.{among}
 use Rattle.board_builder.specs.declared.BoardBuilder.{BoardBuilder}
 use Rattle.board_builder.specs.BoardBuilder.{inRange}
 use Rattle.move_list.specs.MoveList.{listInRange, count, firstOf}

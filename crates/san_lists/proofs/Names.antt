@@ -10,9 +10,9 @@ use mathlib.Core.Option.{Option, none, some}
 use native.Mathlib.Omega.{arith}
 use lib.Dec.{eqb, leb}
 use lib.ListN.{length, take}
-use Rattle.square.specs.Answer.{accepted, outOfRange, badList, notListed, noName, writeAnswer}
-use Rattle.square.specs.Numbers.{among}
-use Rattle.square.proofs.Writes.{accepted-writes-its-text, check-passed}
+use Rattle.answer.specs.Answer.{accepted, outOfRange, badList, notListed, noName, writeAnswer}
+use Rattle.answer.specs.Numbers.{among}
+use Rattle.answer.proofs.Writes.{accepted-writes-its-text, check-passed}
 use Rattle.board_builder.specs.declared.BoardBuilder.{BoardBuilder}
 use Rattle.board_builder.specs.BoardBuilder.{inRange}
 use Rattle.move_list.specs.MoveList.{listInRange}

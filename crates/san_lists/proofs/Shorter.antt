@@ -11,9 +11,9 @@ use native.Mathlib.Omega.{arith}
 use lib.Dec.{eqb, leb}
 use lib.ListN.{length, length-append}
 use borrow.Author.Tests.{le-leb, leb-true}
-use Rattle.square.specs.Answer.{writeAnswer}
-use Rattle.square.specs.Numbers.{among}
-use Rattle.square.proofs.Writes.{check-passed}
+use Rattle.answer.specs.Answer.{writeAnswer}
+use Rattle.answer.specs.Numbers.{among}
+use Rattle.answer.proofs.Writes.{check-passed}
 use Rattle.board_builder.specs.declared.BoardBuilder.{BoardBuilder}
 use Rattle.chess_move.specs.Number.{sourceOf}
 use Rattle.san_text.specs.Text.{kingSideText, queenSideText}

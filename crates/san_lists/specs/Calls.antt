@@ -3,7 +3,7 @@
 -- Assumes nothing.
 use Prim.Native.Nat.{ℕ}
 use mathlib.Core.List.{List}
-use Rattle.square.specs.Answer.{writeAnswer, writeBytes}
+use Rattle.answer.specs.Answer.{writeAnswer, writeBytes}
 use Rattle.board_builder.specs.declared.BoardBuilder.{BoardBuilder}
 use Rattle.san_text.specs.Form.{Form, readAnswer}
 use Rattle.san_text.specs.Name.{nameText, nameCheck}

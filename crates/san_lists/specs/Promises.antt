@@ -7,8 +7,8 @@ use mathlib.Core.Bool.{true}
 use mathlib.Core.List.{List}
 use mathlib.Core.Logic.{_⊎_}
 use lib.ListN.{length, take}
-use Rattle.square.specs.Answer.{accepted, refused, invalidSanMove, noName}
-use Rattle.square.specs.Numbers.{among}
+use Rattle.answer.specs.Answer.{accepted, refused, invalidSanMove, noName}
+use Rattle.answer.specs.Numbers.{among}
 use Rattle.board_builder.specs.declared.BoardBuilder.{BoardBuilder}
 use Rattle.move_list.specs.MoveList.{listInRange}
 use Rattle.san_text.specs.Text.{kingSideText, queenSideText}

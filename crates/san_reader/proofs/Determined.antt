@@ -1,7 +1,7 @@
 -- Each public function's contract, as the toolchain reads it off the source, permits one answer, and one content of each slice that is lent to be written.
 -- Assumes nothing.
 use mathlib.Core.Path.{sym, _∙_}
-use Rattle.square.specs.Determined.{OneAnswer}
+use Rattle.answer.specs.Determined.{OneAnswer}
 use Rattle.san_reader.proofs.short.read_short.Reads as read-short
 use Rattle.san_reader.proofs.short.read_short.Kinds as read-short·k
 use Rattle.san_reader.proofs.text.read_text.Reads as read-text

@@ -8,7 +8,7 @@ use native.Mathlib.Omega.{arith}
 use lib.Dec.{eqb, eqb→eq}
 use lib.ListN.{getD}
 use borrow.Author.Tests.{ne-eqb}
-use Rattle.square.proofs.Below.{below}
+use Rattle.answer.proofs.Below.{below}
 use Rattle.san_text.specs.Text.{promotionKind, pieceKind}
 
 abbrev pub kinds : List ℕ

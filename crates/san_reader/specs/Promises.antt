@@ -7,7 +7,7 @@ use Rattle.board_builder.specs.declared.BoardBuilder.{BoardBuilder}
 use Rattle.san_text.specs.Text.{readText}
 use Rattle.san_text.specs.Paper.{fromSan}
 use Rattle.san_text.specs.Standard.{readStandard, fromSanStandard}
-use Rattle.san_reader.specs.Short.{shortText, Told}
+use Rattle.san_reader.specs.CodeShort.{shortText, Told}
 
 abbrev pub ShortTells : Type 0
 ShortTells = (text : List ℕ) → Told text (shortText text)

@@ -7,7 +7,7 @@ ghost use mathlib.Core.Path.{_≡_};
 ghost use Prim.Native.Nat.{_≤_};
 ghost use lib.ListN.{length};
 ghost use Rattle.san_text.specs.Place.{filePlace, rankPlace, squareAt};
-ghost use Rattle.san_reader.specs.Short.{noShort, shortTwo, shortThree, pawnTakes, shortFour, shortOf, shortText};
+ghost use Rattle.san_reader.specs.CodeShort.{noShort, shortTwo, shortThree, pawnTakes, shortFour, shortOf, shortText};
 
 // What such a text says. Its square counts from 1; 0 says nothing about the text.
 pub struct Short {

@@ -1,9 +1,9 @@
 -- The rows of the standard's form, computed.
 -- Assumes nothing.
 use mathlib.Core.Path.{refl}
-use Rattle.square.specs.Answer.{writeAnswer, writeBytes}
-use Rattle.square.specs.Ascii.{ascii}
-use Rattle.square.specs.Numbers.{allAtMost, same, among}
+use Rattle.answer.specs.Answer.{writeAnswer, writeBytes}
+use Rattle.answer.specs.Ascii.{ascii}
+use Rattle.answer.specs.Numbers.{allAtMost, same, among}
 use Rattle.square.specs.Piece.{kindOf}
 use Rattle.board_builder.specs.BoardBuilder.{inRange}
 use Rattle.move_list.specs.MoveList.{listInRange, count, firstOf}

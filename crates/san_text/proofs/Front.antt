@@ -7,7 +7,7 @@ use mathlib.Core.List.{List, [], _∷_, _++_, append-assoc}
 use native.Mathlib.Omega.{arith}
 use lib.Dec.{eqb}
 use borrow.Author.Tests.{ne-eqb}
-use Rattle.square.specs.Numbers.{same}
+use Rattle.answer.specs.Numbers.{same}
 use Rattle.chess_move.specs.Number.{sourceOf, destOf, promotionOf}
 use Rattle.san_text.specs.declared.San.{San}
 use Rattle.san_text.specs.Place.{filePlace, rankPlace, squareAt, fileByte, rankByte}

@@ -9,10 +9,10 @@ use mathlib.Core.Logic.{_⊎_, inl, inr}
 use native.Mathlib.Omega.{arith}
 use lib.Dec.{lit≤}
 use lib.ListN.{length, take, replicate}
-use Rattle.square.specs.declared.Answer.{Answer}
-use Rattle.square.specs.Answer.{accepted, writeAnswer}
-use Rattle.square.specs.Numbers.{allAtMost, same, among}
-use Rattle.square.proofs.Below.{fails, below}
+use Rattle.answer.specs.declared.Answer.{Answer}
+use Rattle.answer.specs.Answer.{accepted, writeAnswer}
+use Rattle.answer.specs.Numbers.{allAtMost, same, among}
+use Rattle.answer.proofs.Below.{fails, below}
 use Rattle.board_builder.specs.declared.BoardBuilder.{BoardBuilder}
 use Rattle.board_builder.specs.BoardBuilder.{inRange, emptyBoard}
 use Rattle.board_builder.specs.Steps.{withPiece}

@@ -9,8 +9,8 @@ use mathlib.Core.Option.{Option, none, some}
 use native.Mathlib.Omega.{arith}
 use lib.Dec.{eqb}
 use borrow.Author.Tests.{eq-eqb, eqb-true}
-use Rattle.square.specs.Answer.{accepted, refused, invalidSanMove}
-use Rattle.square.specs.Numbers.{among}
+use Rattle.answer.specs.Answer.{accepted, refused, invalidSanMove}
+use Rattle.answer.specs.Numbers.{among}
 use Rattle.board_builder.specs.declared.BoardBuilder.{BoardBuilder}
 use Rattle.chess_move.specs.Number.{sourceOf}
 use Rattle.chess_move.proofs.Numbers.{source-of-number}

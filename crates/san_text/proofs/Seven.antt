@@ -8,11 +8,11 @@ use mathlib.Core.List.{List}
 use mathlib.Core.Option.{Option, none, some}
 use native.Mathlib.Omega.{arith}
 use lib.ListN.{length}
-use Rattle.square.specs.Answer.{outOfRange, badList, notListed, outputTooShort, accepted, writeAnswer}
-use Rattle.square.proofs.Writes.{check-passed}
-use Rattle.square.proofs.ItsText as its-text
-use Rattle.square.proofs.ItsText.{writers-keep-its-text, room-enough}
-use Rattle.square.specs.Numbers.{among}
+use Rattle.answer.specs.Answer.{outOfRange, badList, notListed, outputTooShort, accepted, writeAnswer}
+use Rattle.answer.proofs.Writes.{check-passed}
+use Rattle.answer.proofs.ItsText as its-text
+use Rattle.answer.proofs.ItsText.{writers-keep-its-text, room-enough}
+use Rattle.answer.specs.Numbers.{among}
 use Rattle.board_builder.specs.declared.BoardBuilder.{BoardBuilder}
 use Rattle.board_builder.specs.BoardBuilder.{inRange}
 use Rattle.move_list.specs.MoveList.{listInRange}

@@ -7,10 +7,10 @@ use mathlib.Core.List.{List}
 use native.Mathlib.Omega.{arith}
 use lib.Dec.{eqb}
 use borrow.Author.Tests.{eq-eqb, ne-eqb, eqb-true}
-use Rattle.square.specs.declared.Answer.{Answer}
-use Rattle.square.specs.Answer.{accepted, refused, invalidSanMove}
-use Rattle.square.specs.Numbers.{among}
-use Rattle.square.proofs.Numbers.{both-left, both-right}
+use Rattle.answer.specs.declared.Answer.{Answer}
+use Rattle.answer.specs.Answer.{accepted, refused, invalidSanMove}
+use Rattle.answer.specs.Numbers.{among}
+use Rattle.answer.proofs.Numbers.{both-left, both-right}
 use Rattle.chess_move.specs.Number.{sourceOf, destOf, promotionOf}
 use Rattle.chess_move.proofs.Numbers.{same-number, same-square}
 use Rattle.move_list.specs.MoveList.{count, firstOf}

@@ -10,8 +10,8 @@ use mathlib.Core.Option.{Option, none, some}
 use native.Mathlib.Omega.{arith}
 use lib.Dec.{eqb, leb}
 use lib.ListN.{length}
-use Rattle.square.specs.Answer.{outOfRange, badList, notListed, noName, accepted, writeAnswer}
-use Rattle.square.specs.Numbers.{among}
+use Rattle.answer.specs.Answer.{outOfRange, badList, notListed, noName, accepted, writeAnswer}
+use Rattle.answer.specs.Numbers.{among}
 use Rattle.board_builder.specs.declared.BoardBuilder.{BoardBuilder}
 use Rattle.board_builder.specs.BoardBuilder.{inRange}
 use Rattle.board_builder.proofs.Ranges.{in-range}

@@ -4,8 +4,8 @@ use Prim.Native.Nat.{ℕ}
 use mathlib.Core.Bool.{Bool, cond}
 use mathlib.Core.List.{List}
 use mathlib.Core.Option.{Option}
-use Rattle.square.specs.declared.Answer.{Answer}
-use Rattle.square.specs.Answer.{refused, outOfRange, badList, invalidSanMove}
+use Rattle.answer.specs.declared.Answer.{Answer}
+use Rattle.answer.specs.Answer.{refused, outOfRange, badList, invalidSanMove}
 use Rattle.board_builder.specs.declared.BoardBuilder.{BoardBuilder}
 use Rattle.board_builder.specs.BoardBuilder.{inRange}
 use Rattle.move_list.specs.MoveList.{listInRange}

@@ -5,8 +5,8 @@ use Prim.Native.Nat.{ℕ}
 use mathlib.Core.Bool.{Bool, true, _&&_}
 use mathlib.Core.List.{List, _∷_, _++_}
 use mathlib.Core.Option.{Option}
-use Rattle.square.specs.declared.Answer.{Answer}
-use Rattle.square.specs.Answer.{writeAnswer, writeBytes}
+use Rattle.answer.specs.declared.Answer.{Answer}
+use Rattle.answer.specs.Answer.{writeAnswer, writeBytes}
 use Rattle.board_builder.specs.declared.BoardBuilder.{BoardBuilder}
 use Rattle.chess_move.specs.Number.{destOf, promotionOf}
 use Rattle.san_text.specs.Place.{fileByte, rankByte}

@@ -6,10 +6,10 @@ use mathlib.Core.Bool.{true}
 use mathlib.Core.List.{List}
 use mathlib.Core.Logic.{_⊎_}
 use lib.ListN.{length, take}
-use Rattle.square.specs.declared.Answer.{Answer}
-use Rattle.square.specs.Answer.{accepted, noName, outputTooShort, refused}
-use Rattle.square.specs.Promises.{ItsText, Invented}
-use Rattle.square.specs.Numbers.{among}
+use Rattle.answer.specs.declared.Answer.{Answer}
+use Rattle.answer.specs.Answer.{accepted, noName, outputTooShort, refused}
+use Rattle.answer.specs.Promises.{ItsText, Invented}
+use Rattle.answer.specs.Numbers.{among}
 use Rattle.board_builder.specs.declared.BoardBuilder.{BoardBuilder}
 use Rattle.board_builder.specs.BoardBuilder.{inRange}
 use Rattle.chess_move.specs.Number.{sourceOf, destOf}

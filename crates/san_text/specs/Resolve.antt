@@ -5,10 +5,10 @@ use mathlib.Core.Bool.{Bool, cond, not, _&&_, _||_}
 use mathlib.Core.List.{List}
 use lib.Dec.{eqb}
 use lib.ListN.{getD}
-use Rattle.square.specs.declared.Answer.{Answer}
-use Rattle.square.specs.Answer.{accepted, refused, invalidSanMove}
+use Rattle.answer.specs.declared.Answer.{Answer}
+use Rattle.answer.specs.Answer.{accepted, refused, invalidSanMove}
 use Rattle.square.specs.Piece.{kindOf}
-use Rattle.square.specs.Numbers.{among}
+use Rattle.answer.specs.Numbers.{among}
 use Rattle.chess_move.specs.Number.{sourceOf, destOf, promotionOf, numberOf}
 use Rattle.move_list.specs.MoveList.{count, firstOf}
 use Rattle.san_text.specs.declared.San.{San}

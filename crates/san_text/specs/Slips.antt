@@ -5,8 +5,8 @@ use Prim.Native.String.{String}
 use mathlib.Core.Path.{_≡_}
 use mathlib.Core.List.{List, [], _∷_}
 use lib.ListN.{length, replicate, take}
-use Rattle.square.specs.Answer.{accepted, refused, invalidSanMove, noName}
-use Rattle.square.specs.Ascii.{ascii}
+use Rattle.answer.specs.Answer.{accepted, refused, invalidSanMove, noName}
+use Rattle.answer.specs.Ascii.{ascii}
 use Rattle.board_builder.specs.declared.BoardBuilder.{BoardBuilder}
 use Rattle.board_builder.specs.BoardBuilder.{emptyBoard}
 use Rattle.board_builder.specs.Steps.{withPiece}

@@ -2,7 +2,7 @@
 -- Assumes nothing.
 use mathlib.Core.Path.{sym, _∙_}
 use denote.Ref.{now}
-use Rattle.square.specs.Determined.{OneAnswer, OnePart}
+use Rattle.answer.specs.Determined.{OneAnswer, OnePart}
 use Rattle.san_writer.proofs.write_san.Reads as write-san
 use Rattle.san_writer.proofs.write_san.Kinds as write-san·k
 use Rattle.san_writer.proofs.write_in.Reads as write-in

@@ -6,12 +6,12 @@ use Prim.Native.Nat.{ℕ, suc, _≤_, _<_}
 use native.Mathlib.Omega.{arith}
 use lib.ListN.{length, getD}
 use lib.Dec.{eqb, eqb→eq}
-use Rattle.square.specs.declared.Placed.{Placed}
+use Rattle.answer.specs.declared.Placed.{Placed}
 use Rattle.square.specs.declared.Pair.{Pair}
 use Rattle.square.specs.declared.Pair.the-variants.{Square, BadFile, BadRank, Missing}
 use Rattle.square.specs.Square.{readSquare, squareNamed, squareText, told}
 use Rattle.square.specs.Promises.{SquareReadsBack, ToldApart}
-use Rattle.square.proofs.Below.{below}
+use Rattle.answer.proofs.Below.{below}
 
 -- a square as one number, one more than its own, so that sixty-four can be computed
 abbrev code : Pair → ℕ

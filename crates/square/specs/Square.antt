@@ -1,14 +1,15 @@
 -- Squares and colours, as document 01, "Port order" 1, numbers them: a square is a rank of 0 to 7 times 8 plus a file of 0 to 7, A1 = 0.
 -- Assumes nothing.
 use Prim.Native.Nat.{ℕ, _+_, _*_, _-_, _/_, _%_}
-use mathlib.Core.Bool.{Bool, cond, _&&_}
+use mathlib.Core.Bool.{cond, _&&_}
 use mathlib.Core.List.{List, [], _∷_}
-use lib.Dec.{leb, ltb}
-use Rattle.square.specs.declared.Answer.{Answer}
-use Rattle.square.specs.declared.Placed.{Placed}
+use lib.Dec.{ltb}
+use Rattle.answer.specs.declared.Answer.{Answer}
+use Rattle.answer.specs.declared.Placed.{Placed}
+use Rattle.answer.specs.Numbers.{between}
 use Rattle.square.specs.declared.Pair.{Pair}
 use Rattle.square.specs.declared.Pair.the-variants.{Square, BadFile, BadRank, Missing}
-use Rattle.square.specs.Answer.{readAs, faultAt, inRangeOr5, outOfRange, invalidSquare, invalidUciMove}
+use Rattle.answer.specs.Answer.{readAs, faultAt, inRangeOr5, outOfRange, invalidSquare, invalidUciMove}
 
 abbrev pub squareOf : ℕ → ℕ → ℕ
 squareOf rank file = rank * 8 + file
@@ -25,10 +26,6 @@ fileOf square = inRangeOr5 (ltb square 64) (square % 8)
 -- white's back rank is the first, black's the eighth
 abbrev pub backRank : ℕ → Answer
 backRank colour = inRangeOr5 (ltb colour 2) (colour * 7)
-
--- a byte from low to high
-abbrev pub between : ℕ → ℕ → ℕ → Bool
-between low high b = leb low b && leb b high
 
 -- the square that a letter a to h and a digit 1 to 8 name; else the file is wrong, or the rank alone
 abbrev pub squareNamed : ℕ → ℕ → Pair

@@ -10,12 +10,12 @@ use lib.Dec.{eqb, leb}
 use lib.ListN.{length, take, drop, getD, length-drop}
 use lib.Seq.{getD-drop, take-all}
 use borrow.Author.Tests.{ne-eqb, le-leb}
-use Rattle.square.specs.Numbers.{allAtMost, among}
-use Rattle.square.proofs.Numbers.{both-left}
-use Rattle.square.proofs.Bounds.{gather, bound-at, bound-parts, bound-overlap}
+use Rattle.answer.specs.Numbers.{allAtMost, among}
+use Rattle.answer.proofs.Numbers.{both-left}
+use Rattle.answer.proofs.Bounds.{gather, bound-at, bound-parts, bound-overlap}
 use Rattle.chess_move.specs.Number.{lastMove, ofBytes}
 use Rattle.position.specs.Layout.{movesAt, movesFrom}
-use Rattle.stored_position.specs.ByParts.{listFits, listFitsWith}
+use Rattle.stored_position.specs.CodeParts.{listFits, listFitsWith}
 use Rattle.stored_position.proofs.Listing.{movesLeft, moveHere, one-less, lists-end}
 
 -- from where on a list that is shorter than a block uses no byte

@@ -7,8 +7,8 @@ use native.Mathlib.Numerals.{add-one}
 use native.Mathlib.Omega.{arith}
 use lib.ListN.{length, set, take, getD, length-append, length-replicate}
 use lib.Seq.{take-suc, length-take-le}
-use Rattle.square.specs.Parts.{written}
-use Rattle.square.proofs.Parts.{written-next}
+use Rattle.answer.specs.Parts.{written}
+use Rattle.answer.proofs.Parts.{written-next}
 use Rattle.board_builder.specs.BoardBuilder.{recordSize}
 use Rattle.chess_move.specs.Number.{lowByte, highByte}
 use Rattle.move_list.specs.MoveList.{longestList}

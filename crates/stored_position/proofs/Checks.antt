@@ -9,9 +9,9 @@ use lib.Dec.{eqb, leb}
 use lib.ListN.{length, getD, length-append}
 use lib.Seq.{take-at, getD-append-add}
 use borrow.Author.Tests.{eq-eqb, le-leb, lt-leb, eqb-true, leb-true}
-use Rattle.square.specs.Answer.{outOfRange, badList}
-use Rattle.square.proofs.Numbers.{both-left}
-use Rattle.square.specs.Numbers.{allAtMost}
+use Rattle.answer.specs.Answer.{outOfRange, badList}
+use Rattle.answer.proofs.Numbers.{both-left}
+use Rattle.answer.specs.Numbers.{allAtMost}
 use Rattle.board_builder.specs.declared.BoardBuilder.{BoardBuilder}
 use Rattle.board_builder.specs.BoardBuilder.{squares, recordSize, numbers, boardOf, inRange, numbersInRange}
 use Rattle.chess_move.specs.Number.{lastMove}

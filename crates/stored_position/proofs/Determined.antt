@@ -2,7 +2,7 @@
 -- Assumes nothing.
 use mathlib.Core.Path.{sym, _∙_}
 use denote.Ref.{now}
-use Rattle.square.specs.Determined.{OneAnswer, OnePart}
+use Rattle.answer.specs.Determined.{OneAnswer, OnePart}
 use Rattle.stored_position.proofs.check.Reads as check
 use Rattle.stored_position.proofs.check.Kinds as check·k
 use Rattle.stored_position.proofs.to_bytes.Reads as to-bytes

@@ -9,16 +9,16 @@ use lib.Dec.{eqb, leb, eqb·suc-zero, leb·suc-zero}
 use lib.ListN.{length, take, drop, getD, replicate, length-take, length-drop, take-append-drop}
 use lib.Seq.{drop-cons, drop-drop}
 use borrow.Author.Tests.{eq-eqb, ne-eqb, eqb-true, eqb-false, le-leb, leb-true, leb-false}
-use Rattle.square.specs.Numbers.{allAtMost, same, among}
-use Rattle.square.proofs.Numbers.{both-left, both-right}
-use Rattle.square.proofs.Same.{same-lengths}
+use Rattle.answer.specs.Numbers.{allAtMost, same, among}
+use Rattle.answer.proofs.Numbers.{both-left, both-right}
+use Rattle.answer.proofs.Same.{same-lengths}
 use Rattle.board_builder.specs.BoardBuilder.{recordSize, numbersInRange}
 use Rattle.chess_move.specs.Number.{lastMove}
 use Rattle.move_list.specs.MoveList.{longestList, listInRange}
 use Rattle.position.specs.Layout.{checkAt, lengthAt, movesAt, positionSize, movesFrom, positionOf}
 use Rattle.position.proofs.Moves.{AllBytes, length-moves, take-two}
 use Rattle.stored_position.specs.Bytes.{moveBytes, positionBytes, positionCheck, isPosition, listsMove, isPositionWith}
-use Rattle.stored_position.specs.ByParts.{frontFits, listFits, listFitsWith, recordFits, restFits, restFitsWith}
+use Rattle.stored_position.specs.CodeParts.{frontFits, listFits, listFitsWith, recordFits, restFits, restFitsWith}
 use Rattle.stored_position.proofs.Bytes.{length-position}
 use Rattle.stored_position.proofs.Checks.{position-fits, bad-board, bad-check, by-list}
 

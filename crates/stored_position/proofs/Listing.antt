@@ -7,7 +7,7 @@ use Prim.Native.Nat.{ℕ, suc, _+_, _*_, _-_, _<_, _≤_}
 use native.Mathlib.Omega.{arith}
 use lib.ListN.{length, getD}
 use borrow.Author.Tests.{eq-eqb, ne-eqb}
-use Rattle.square.specs.Numbers.{among}
+use Rattle.answer.specs.Numbers.{among}
 use Rattle.chess_move.specs.Number.{ofBytes}
 use Rattle.position.specs.Layout.{movesAt, lengthAt, positionSize, movesFrom, positionOf}
 use Rattle.stored_position.specs.Bytes.{listsMove}

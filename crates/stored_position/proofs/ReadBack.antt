@@ -8,10 +8,10 @@ use lib.Dec.{eqb}
 use lib.ListN.{length, take, drop, getD, replicate}
 use lib.Seq.{take-at, drop-at, getD-drop, drop-drop}
 use borrow.Author.Tests.{eqb-true}
-use Rattle.square.specs.Numbers.{same}
-use Rattle.square.proofs.Numbers.{both-left, both-right}
-use Rattle.square.proofs.Same.{same-eq, same-refl}
-use Rattle.square.proofs.Writes.{accepted-writes-its-text, check-passed}
+use Rattle.answer.specs.Numbers.{same}
+use Rattle.answer.proofs.Numbers.{both-left, both-right}
+use Rattle.answer.proofs.Same.{same-eq, same-refl}
+use Rattle.answer.proofs.Writes.{accepted-writes-its-text, check-passed}
 use Rattle.board_builder.specs.BoardBuilder.{recordSize}
 use Rattle.chess_move.specs.Number.{lowByte, highByte, ofBytes}
 use Rattle.move_list.specs.MoveList.{longestList}

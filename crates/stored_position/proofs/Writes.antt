@@ -5,10 +5,10 @@ use mathlib.Core.List.{List, [], _∷_, _++_, append-assoc}
 use Prim.Native.Nat.{ℕ, _+_, _*_, _-_, _<_, _≤_}
 use native.Mathlib.Omega.{arith}
 use lib.ListN.{length, replicate, length-append, length-replicate}
-use Rattle.square.specs.Answer.{accepted, refused, tooShort}
-use Rattle.square.specs.Parts.{written}
-use Rattle.square.proofs.Parts.{written-behind}
-use Rattle.square.proofs.Writes.{Written, write-refused, write-short, write-fits}
+use Rattle.answer.specs.Answer.{accepted, refused, tooShort}
+use Rattle.answer.specs.Parts.{written}
+use Rattle.answer.proofs.Parts.{written-behind}
+use Rattle.answer.proofs.Writes.{Written, write-refused, write-short, write-fits}
 use Rattle.board_builder.specs.declared.BoardBuilder.{BoardBuilder}
 use Rattle.board_builder.specs.BoardBuilder.{squares, sideAt, recordSize, numbers}
 use Rattle.move_list.specs.MoveList.{longestList}

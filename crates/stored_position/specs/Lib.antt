@@ -1,3 +1,3 @@
 pub mod Bytes
-pub mod ByParts
+pub mod CodeParts
 pub mod Promises

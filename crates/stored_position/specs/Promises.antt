@@ -5,7 +5,7 @@ use mathlib.Core.Bool.{true}
 use mathlib.Core.List.{List}
 use Prim.Native.Nat.{ℕ}
 use lib.ListN.{length, take}
-use Rattle.square.specs.Answer.{writeAnswer, writeBytes}
+use Rattle.answer.specs.Answer.{writeAnswer, writeBytes}
 use Rattle.position.specs.Layout.{Position, positionSize, positionOf}
 use Rattle.stored_position.specs.Bytes.{positionBytes, positionCheck, isPosition}
 

@@ -1,4 +1,9 @@
 // The bytes of a position in the log: written, and checked again.
+use answer::ACCEPTED;
+use answer::Answer;
+use answer::BAD_LIST;
+use answer::OUTPUT_TOO_SHORT;
+use answer::OUT_OF_RANGE;
 use board_builder::BoardBuilder;
 use board_builder::RECORD_SIZE;
 use board_builder::SIDE_AT;
@@ -7,23 +12,18 @@ use position::CHECK_AT;
 use position::LENGTH_AT;
 use position::MOVES_AT;
 use position::POSITION_SIZE;
-use square::ACCEPTED;
-use square::Answer;
-use square::BAD_LIST;
-use square::OUT_OF_RANGE;
-use square::OUTPUT_TOO_SHORT;
 ghost use mathlib.Core.Path.{_≡_};
 ghost use Prim.Native.Nat.{_+_, _*_, _-_, _≤_, _<_};
 ghost use lib.ListN.{length, replicate};
-ghost use Rattle.square.specs.Answer.{writeAnswer, writeBytes};
-ghost use Rattle.square.specs.Numbers.{allAtMost, among};
-ghost use Rattle.square.specs.Parts.{written};
+ghost use Rattle.answer.specs.Answer.{writeAnswer, writeBytes};
+ghost use Rattle.answer.specs.Numbers.{allAtMost, among};
+ghost use Rattle.answer.specs.Parts.{written};
 ghost use Rattle.board_builder.specs.BoardBuilder.{recordSize, numbers};
 ghost use Rattle.move_list.specs.MoveList.{longestList};
 ghost use Rattle.chess_move.specs.Number.{lastMove, ofBytes};
 ghost use Rattle.position.specs.Layout.{movesAt, positionSize, movesFrom};
 ghost use Rattle.stored_position.specs.Bytes.{moveBytes, positionBytes, positionCheck, positionGiven, isPosition, listsMove};
-ghost use Rattle.stored_position.specs.ByParts.{frontFits, listFits, listFitsWith, recordFits, restFits, restFitsWith};
+ghost use Rattle.stored_position.specs.CodeParts.{frontFits, listFits, listFitsWith, recordFits, restFits, restFitsWith};
 
 // Entries that are looked at together, whether used or not, where the list is shorter, as nearly every list is: a length that is known to the compiler
 // turns the loops into straight code, and no branch depends on the list's length. The large block is for the few lists that the small one does not hold.
@@ -121,7 +121,7 @@ pub fn to_bytes(b: BoardBuilder, in_check: u8, list: &[u16], out: &mut [u8]) -> 
 {
     let number = check(b, in_check, list);
     if number != ACCEPTED {
-        return square::refused(number);
+        return answer::refused(number);
     }
     if out.len() < POSITION_SIZE {
         return Answer {
@@ -130,7 +130,7 @@ pub fn to_bytes(b: BoardBuilder, in_check: u8, list: &[u16], out: &mut [u8]) -> 
         };
     }
     write_position(b, in_check, list, out);
-    square::accepted(POSITION_SIZE as u64)
+    answer::accepted(POSITION_SIZE as u64)
 }
 
 // Whether the first so many entries are moves: with no branch, so that they are taken many at a time.
@@ -157,7 +157,7 @@ fn has_move(s: &[u8], entries: usize, m: u16) -> bool
     let mut i: usize = 0;
     while i < entries {
         let at = MOVES_AT + 2 * i;
-        found = square::either(found, s[at] as u16 + 256 * (s[at + 1] as u16) == m);
+        found = answer::either(found, s[at] as u16 + 256 * (s[at + 1] as u16) == m);
         i += 1;
     }
     found
@@ -170,11 +170,11 @@ fn is_short_list(s: &[u8], entries: usize, block: usize) -> bool
     ensures { λ r. ⌜ r ≡ listFits (now (s .entry)) entries ⌝ }
 {
     let end = MOVES_AT + 2 * entries;
-    if !square::all_at_most(&s[end..end + 2 * block], 0) {
+    if !answer::all_at_most(&s[end..end + 2 * block], 0) {
         return false;
     }
     let behind = MOVES_AT + 2 * (block - 1);
-    if !square::all_at_most(&s[behind..], 0) {
+    if !answer::all_at_most(&s[behind..], 0) {
         return false;
     }
     moves_in_range(s, block)
@@ -199,7 +199,7 @@ fn is_list(s: &[u8], entries: usize) -> bool
         return false;
     }
     let end = MOVES_AT + 2 * entries;
-    square::all_at_most(&s[end..], 0)
+    answer::all_at_most(&s[end..], 0)
 }
 
 fn is_list_with(s: &[u8], entries: usize, m: u16) -> bool

@@ -66,7 +66,7 @@ impl Action {
 /// The library has no move generator: an empty list is what ends a game.
 ///
 /// Two positions of a log are equal if their boards are and their lists are in the same order too. Whoever sorts must sort every list of a
-/// game alike, the start's too: else a position that came before is not known again, and a claim by equal positions does not stand.
+/// game alike, the start's too: otherwise a position that came before is not recognised, and a claim by equal positions does not stand.
 ///
 /// ```
 /// use menkhodur::{Board, GameResult, Log, Position};

@@ -1,3 +1,4 @@
+-- `from_bytes` of lib.rt meets its contract: r ≡ actionOf (now (bytes .entry)).
 use borrow.Author.Needs.{needs}
 use mathlib.Core.Path.{_∙_, sym}
 use native.Mathlib.Omega.{arith}

@@ -1,3 +1,4 @@
+-- `move_here` of lib.rt meets its contract: r ≡ movesHere colour number.
 use borrow.Author.Needs.{needs}
 use borrow.Author.Tests.{le-leb, lt-leb, eq-eqb, ne-eqb}
 use Rattle.action.proofs.move_here.Statement.{statement}

@@ -1,3 +1,4 @@
+-- `stands_alone` of lib.rt meets its contract: r ≡ standsAlone most colour number action.
 use borrow.Author.Tests.{le-leb, lt-leb, eq-eqb, ne-eqb}
 use Rattle.action.proofs.stands_alone.Statement.{statement}
 use Rattle.action.proofs.stands_alone.Tie as tie

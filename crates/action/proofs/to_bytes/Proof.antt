@@ -1,3 +1,5 @@
+-- `to_bytes` of lib.rt meets its contract: r ≡ writeAnswer (actionCheck action) (actionBytes action) (length (now (out .entry))); now (out .exit) ≡
+-- writeBytes (actionCheck action) (actionBytes action) (now (out .entry)).
 use borrow.Author.Needs.{needs}
 use Rattle.action.specs.Layout.{actionBytes, actionCheck}
 use Rattle.action.proofs.to_bytes.Statement.{statement}

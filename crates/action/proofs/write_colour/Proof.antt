@@ -1,3 +1,5 @@
+-- `write_colour` of lib.rt meets its contract: r ≡ writeAnswer (colourCheck colour) (fields kind colour 0) (length (now (out .entry))); now (out .exit) ≡
+-- writeBytes (colourCheck colour) (fields kind colour 0) (now (out .entry)).
 use borrow.Author.Needs.{needs}
 use borrow.Author.Tests.{le-leb}
 use mathlib.Core.Path.{_≡_}

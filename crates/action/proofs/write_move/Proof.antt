@@ -1,9 +1,11 @@
+-- `write_move` of lib.rt meets its contract: r ≡ writeAnswer (numberAnswer m .number) (fields 1 0 (numberAnswer m .value)) (length (now (out .entry))); now
+-- (out .exit) ≡ writeBytes (numberAnswer m .number) (fields 1 0 (numberAnswer m .value)) (now (out .entry)).
 use borrow.Author.Needs.{needs}
-use Rattle.square.specs.declared.Answer.{Answer}
+use Rattle.answer.specs.declared.Answer.{Answer}
 use mathlib.Core.Path.{_≡_, _∙_, ap}
 use native.Mathlib.Omega.{arith}
 use Prim.Native.Nat.{_≤_}
-use Rattle.square.proofs.Writes.{write-refused}
+use Rattle.answer.proofs.Writes.{write-refused}
 use Rattle.chess_move.specs.Number.{lastMove, numberAnswer}
 use Rattle.chess_move.proofs.Numbers.{parts-of-number}
 use Rattle.action.specs.Layout.{fields}

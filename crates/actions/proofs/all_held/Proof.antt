@@ -1,3 +1,4 @@
+-- `all_held` of lib.rt meets its contract: r ≡ actionsHeld (now (acts .entry)) n.
 use native.Mathlib.Omega.{arith}
 use borrow.Author.Needs.{needs}
 use mathlib.Core.Path.{_≡_, ap, sym, _∙_}

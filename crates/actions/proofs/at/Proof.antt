@@ -1,9 +1,10 @@
+-- `at` of lib.rt meets its contract: now r ≡ item actionSize (now (acts .entry)) i.
 use borrow.Author.Needs.{needs}
 use native.Mathlib.Omega.{arith}
 use mathlib.Core.Path.{_≡_, sym, ap}
 use Prim.Native.Nat.{ℕ, _+_, _*_, _-_}
 use lib.ListN.{take, drop}
-use Rattle.square.proofs.Parts.{item-past, item-cut}
+use Rattle.answer.proofs.Parts.{item-past, item-cut}
 use Rattle.action.specs.Layout.{actionSize}
 use Rattle.actions.proofs.at.Statement.{statement}
 use Rattle.actions.proofs.at.Tie as tie

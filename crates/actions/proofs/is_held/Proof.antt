@@ -1,3 +1,4 @@
+-- `is_held` of lib.rt meets its contract: r ≡ isHeld (actionOf (now (bytes .entry))).
 use borrow.Author.Needs.{needs}
 use mathlib.Core.Path.{_≡_, ap, sym, _∙_}
 use Rattle.actions.specs.Part.{isHeld}

@@ -1,3 +1,4 @@
+-- `last` of lib.rt meets its contract: r ≡ lastAction (now (acts .entry)) n.
 use borrow.Author.Needs.{needs}
 use mathlib.Core.Path.{sym, ap, _∙_}
 use Rattle.action.specs.Layout.{actionOf}

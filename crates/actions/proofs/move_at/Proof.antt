@@ -1,3 +1,4 @@
+-- `move_at` of lib.rt meets its contract: r ≡ moveAt (now (acts .entry)) i.
 use borrow.Author.Needs.{needs}
 use mathlib.Core.Path.{ap, sym, _∙_}
 use Rattle.action.specs.Layout.{actionOf}

@@ -1,3 +1,4 @@
+-- `move_made` of lib.rt meets its contract: r ≡ moveHeld (Holds action).
 use borrow.Author.Needs.{needs}
 use Rattle.actions.proofs.move_made.Statement.{statement}
 use Rattle.actions.proofs.move_made.Tie as tie

@@ -1,3 +1,4 @@
+-- `moves_in` of lib.rt meets its contract: r ≡ movesIn (now (acts .entry)) n.
 use borrow.Author.Needs.{needs}
 use mathlib.Core.Path.{_≡_, sym, ap₂, _∙_}
 use native.Mathlib.Omega.{arith}

@@ -1,6 +1,7 @@
+-- `number_of` of lib.rt meets its contract: r ≡ numberAnswer m .value.
 use borrow.Author.Needs.{needs}
 use mathlib.Core.Path.{ap}
-use Rattle.square.specs.declared.Answer.{Answer}
+use Rattle.answer.specs.declared.Answer.{Answer}
 use Rattle.actions.proofs.number_of.Statement.{statement}
 use Rattle.actions.proofs.number_of.Tie as tie
 

@@ -1,3 +1,4 @@
+-- `one_if_move` of lib.rt meets its contract: r ≡ oneIfMove kind colour number.
 use native.Mathlib.Omega.{arith}
 use borrow.Author.Tests.{eq-eqb, ne-eqb, le-leb, lt-leb}
 use Rattle.chess_move.specs.Number.{lastMove}

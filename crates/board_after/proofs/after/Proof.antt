@@ -1,3 +1,4 @@
+-- `after` of lib.rt meets its contract: r ≡ afterParts b source dest promotion.
 use borrow.Author.Needs.{needs}
 use Rattle.board_after.specs.After.{afterParts}
 use Rattle.board_after.proofs.after.Statement.{statement}

@@ -1,3 +1,4 @@
+-- `board_after` of lib.rt meets its contract: r ≡ afterAnswer b m.
 use borrow.Author.Needs.{needs}
 use borrow.Author.Tests.{le-leb, lt-leb, not-true, not-false}
 use mathlib.Core.Path.{ap, sym, _∙_}

@@ -1,3 +1,4 @@
+-- `castles` of lib.rt meets its contract: r ≡ castles man source dest.
 use borrow.Author.Needs.{needs}
 use mathlib.Core.Path.{ap, ap₂, _∙_}
 use mathlib.Core.Bool.{Bool, _&&_}
@@ -10,7 +11,7 @@ use Rattle.board_after.proofs.castles.Tie as tie
 use Rattle.board_after.proofs.castles.Reads as reads
 use Rattle.board_after.proofs.castles.Lts as lts
 use Rattle.board_after.proofs.two_apart.Reads as two-apart-reads
-use Rattle.square.proofs.both.Reads as both-reads
+use Rattle.answer.proofs.both.Reads as both-reads
 use Rattle.square.proofs.kind_of.Reads as kind-of-reads
 
 -- src/lib.rt:58:9

@@ -1,3 +1,4 @@
+-- `follows` of lib.rt meets its contract: r ≡ same (now (q .entry)) (recordAfter (now (p .entry)) m).
 use borrow.Author.Needs.{needs}
 use mathlib.Core.Path.{sym, _∙_}
 use native.Mathlib.Omega.{arith}

@@ -1,3 +1,4 @@
+-- `leads_to` of lib.rt meets its contract: r ≡ leadsTo (now (p .entry)) m (now (q .entry)).
 use mathlib.Core.Path.{_∙_}
 use native.Mathlib.Omega.{arith}
 use lib.ListN.{take, length-take}

@@ -1,8 +1,9 @@
+-- `leads_to_board` of lib.rt meets its contract: r ≡ leadsToBoard (now (p .entry)) m next.
 use borrow.Author.Needs.{needs}
 use mathlib.Core.Path.{ap, _∙_}
 use mathlib.Core.Bool.{Bool}
 use Prim.Native.Nat.{ℕ, _/_, _%_}
-use Rattle.square.specs.Numbers.{same}
+use Rattle.answer.specs.Numbers.{same}
 use Rattle.board_builder.specs.declared.BoardBuilder.{BoardBuilder}
 use Rattle.board_builder.specs.BoardBuilder.{numbers}
 use Rattle.board_after.specs.After.{afterParts, recordAfter}

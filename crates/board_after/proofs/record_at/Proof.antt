@@ -1,3 +1,4 @@
+-- `record_at` of lib.rt meets its contract: r ≡ boardOf (take recordSize (now (p .entry))).
 use borrow.Author.Needs.{needs}
 use native.Mathlib.Omega.{arith}
 use mathlib.Core.Path.{_∙_}

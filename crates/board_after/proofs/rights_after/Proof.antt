@@ -1,3 +1,4 @@
+-- `rights_after` of lib.rt meets its contract: r ≡ rightsAfter color rights source dest.
 use borrow.Author.Needs.{needs}
 use mathlib.Core.Path.{ap, _∙_}
 use Prim.Native.Nat.{ℕ}

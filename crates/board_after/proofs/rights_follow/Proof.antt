@@ -1,10 +1,11 @@
+-- `rights_follow` of lib.rt meets its contract: r ≡ (eqb left (rightsAfter 0 white source dest) && eqb right (rightsAfter 1 black source dest)).
 use borrow.Author.Needs.{needs}
 use mathlib.Core.Path.{ap, ap₂, sym, _∙_}
 use mathlib.Core.Bool.{Bool, _&&_}
 use Prim.Native.Nat.{ℕ}
 use lib.Dec.{eqb}
 use borrow.Author.Tests.{eq-eqb, ne-eqb, eqb-true}
-use Rattle.square.proofs.Numbers.{both-left, both-right}
+use Rattle.answer.proofs.Numbers.{both-left, both-right}
 use Rattle.board_after.specs.After.{rightsAfter}
 use Rattle.board_after.proofs.Rights.{none-left}
 use Rattle.board_after.proofs.rights_follow.Statement.{statement}
@@ -12,7 +13,7 @@ use Rattle.board_after.proofs.rights_follow.Tie as tie
 use Rattle.board_after.proofs.rights_follow.Reads as reads
 use Rattle.board_after.proofs.rights_follow.Lts as lts
 use Rattle.board_after.proofs.rights_after.Reads as rights-after-reads
-use Rattle.square.proofs.both.Reads as both-reads
+use Rattle.answer.proofs.both.Reads as both-reads
 
 -- src/lib.rt:339:8
 both-requires : tie.Need-both-requires

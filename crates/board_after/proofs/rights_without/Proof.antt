@@ -1,3 +1,4 @@
+-- `rights_without` of lib.rt meets its contract: r ≡ rightsWithout color rights square.
 use borrow.Author.Needs.{needs}
 use native.Mathlib.Omega.{arith}
 use Rattle.board_after.specs.After.{rightsWithout}

@@ -1,3 +1,4 @@
+-- `same_record` of lib.rt meets its contract: r ≡ same (numbers a) (numbers b).
 use borrow.Author.Needs.{needs}
 use mathlib.Core.Path.{_≡_, sym, _∙_}
 use lib.ListN.{length}

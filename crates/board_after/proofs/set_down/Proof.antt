@@ -1,3 +1,4 @@
+-- `set_down` of lib.rt meets its contract: r ≡ setDown man promotion.
 use borrow.Author.Needs.{needs}
 use borrow.Author.Tests.{eq-eqb, ne-eqb}
 use mathlib.Core.Path.{ap, sym, _∙_}

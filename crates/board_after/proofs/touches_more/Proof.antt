@@ -1,15 +1,16 @@
+-- `touches_more` of lib.rt meets its contract: r ≡ touchesMore (now (squares .entry)) man source dest.
 use borrow.Author.Needs.{needs}
 use mathlib.Core.Path.{ap, ap₂, _∙_}
 use mathlib.Core.Bool.{Bool, _||_}
 use lib.Dec.{eqb}
-use Rattle.board_after.specs.Differ.{touchesMore}
+use Rattle.board_after.specs.CodeDiffer.{touchesMore}
 use Rattle.board_after.proofs.touches_more.Statement.{statement}
 use Rattle.board_after.proofs.touches_more.Tie as tie
 use Rattle.board_after.proofs.touches_more.Reads as reads
 use Rattle.board_after.proofs.touches_more.Lts as lts
 use Rattle.board_after.proofs.castles.Reads as castles-reads
 use Rattle.board_after.proofs.takes_in_passing.Reads as takes-in-passing-reads
-use Rattle.square.proofs.either.Reads as either-reads
+use Rattle.answer.proofs.either.Reads as either-reads
 
 -- src/lib.rt:278:9
 takes-in-passing-requires : tie.Need-takes-in-passing-requires

@@ -1,10 +1,11 @@
+-- `codes_in_range` of lib.rt meets its contract: r ≡ allAtMost 12 pieces.
 use borrow.Author.Needs.{needs}
 use mathlib.Core.Path.{_≡_, _∙_, sym, ap}
 use native.Mathlib.Omega.{arith}
 use Prim.Native.Nat.{ℕ, _+_, _*_, _-_, _≤_, max, zero-le}
 use lib.ListN.{length, take, drop}
-use Rattle.square.specs.Numbers.{largest}
-use Rattle.square.proofs.Maxima.{max-none, largest-end, largest-part, largest-at-most}
+use Rattle.answer.specs.Numbers.{largest}
+use Rattle.answer.proofs.Maxima.{max-none, largest-end, largest-part, largest-at-most}
 use lib.Dec.{leb}
 use Rattle.board_builder.proofs.codes_in_range.Statement.{statement}
 use Rattle.board_builder.proofs.codes_in_range.Tie as tie

@@ -1,3 +1,4 @@
+-- `largest_of_rank` of lib.rt meets its contract: r ≡ largest (take 8 (drop (rank * 8) (now (pieces .entry)))).
 use borrow.Author.Needs.{needs}
 use mathlib.Core.Path.{_≡_, _∙_, sym, ap}
 use mathlib.Core.List.{List}
@@ -5,8 +6,8 @@ use native.Mathlib.Omega.{arith}
 use Prim.Native.Nat.{ℕ, _+_, _*_, _-_, _≤_, _<_, max, zero-le}
 use lib.ListN.{length, take, drop, getD, length-take, length-drop}
 use lib.Seq.{getD-take, getD-drop}
-use Rattle.square.specs.Numbers.{largest}
-use Rattle.square.proofs.Maxima.{max-none, largest-turn, largest-end}
+use Rattle.answer.specs.Numbers.{largest}
+use Rattle.answer.proofs.Maxima.{max-none, largest-turn, largest-end}
 use Rattle.board_builder.proofs.largest_of_rank.Statement.{statement}
 use Rattle.board_builder.proofs.largest_of_rank.Tie as tie
 

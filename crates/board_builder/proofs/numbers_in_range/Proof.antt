@@ -1,3 +1,4 @@
+-- `numbers_in_range` of lib.rt meets its contract: r ≡ numbersInRange (now (numbers .entry)).
 use borrow.Author.Needs.{needs}
 use native.Mathlib.Omega.{arith}
 use mathlib.Core.Path.{_≡_, _∙_, sym}

@@ -1,7 +1,8 @@
+-- `add` of lib.rt meets its contract: r ≡ addRights rights add.
 use borrow.Author.Needs.{needs}
 use borrow.Author.Tests.{lt-ltb, le-ltb}
 use mathlib.Core.Path.{_∙_, ap}
-use Rattle.square.specs.Answer.{accepted}
+use Rattle.answer.specs.Answer.{accepted}
 use Rattle.castle_rights.proofs.Bits.{or-adds}
 use Rattle.castle_rights.proofs.add.Statement.{statement}
 use Rattle.castle_rights.proofs.add.Tie as tie

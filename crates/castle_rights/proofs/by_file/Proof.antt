@@ -1,3 +1,4 @@
+-- `by_file` of lib.rt meets its contract: r ≡ byFile file.
 use borrow.Author.Tests.{ne-eqb}
 use mathlib.Core.Path.{sym, ap}
 use Rattle.castle_rights.specs.CastleRights.{byFile}

@@ -1,3 +1,4 @@
+-- `from_index` of lib.rt meets its contract: r ≡ fromIndex i.
 use borrow.Author.Needs.{needs}
 use borrow.Author.Tests.{lt-ltb, le-ltb}
 use mathlib.Core.Path.{_∙_}

@@ -1,3 +1,4 @@
+-- `has_queenside` of lib.rt meets its contract: r ≡ hasQueen rights.
 use borrow.Author.Needs.{needs}
 use borrow.Author.Tests.{lt-ltb, le-ltb}
 use mathlib.Core.Path.{_∙_}

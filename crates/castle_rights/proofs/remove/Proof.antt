@@ -1,7 +1,8 @@
+-- `remove` of lib.rt meets its contract: r ≡ removeRights rights remove.
 use borrow.Author.Needs.{needs}
 use borrow.Author.Tests.{lt-ltb, le-ltb}
 use mathlib.Core.Path.{_∙_, ap}
-use Rattle.square.specs.Answer.{accepted}
+use Rattle.answer.specs.Answer.{accepted}
 use Rattle.castle_rights.proofs.Bits.{and-not-removes}
 use Rattle.castle_rights.proofs.remove.Statement.{statement}
 use Rattle.castle_rights.proofs.remove.Tie as tie

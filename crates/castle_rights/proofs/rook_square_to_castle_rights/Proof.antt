@@ -1,3 +1,4 @@
+-- `rook_square_to_castle_rights` of lib.rt meets its contract: r ≡ rookRights square.
 use borrow.Author.Needs.{needs}
 use borrow.Author.Tests.{lt-ltb, le-ltb, ne-eqb}
 use mathlib.Core.Path.{_∙_}

@@ -1,9 +1,10 @@
+-- `square_to_castle_rights` of lib.rt meets its contract: r ≡ squareRights color square.
 use borrow.Author.Needs.{needs}
 use Prim.Native.Nat.{_*_, _/_}
 use borrow.Author.Tests.{lt-ltb, le-ltb, eq-eqb, ne-eqb}
 use mathlib.Core.Path.{_≡_, _∙_, ap}
 use native.Mathlib.Omega.{arith}
-use Rattle.square.specs.Answer.{accepted}
+use Rattle.answer.specs.Answer.{accepted}
 use Rattle.castle_rights.proofs.square_to_castle_rights.Statement.{statement}
 use Rattle.castle_rights.proofs.square_to_castle_rights.Tie as tie
 

@@ -1,8 +1,10 @@
+-- `to_string` of lib.rt meets its contract: r ≡ writeAnswer (lettersCheck rights color) (lettersText rights color) (length (now (out .entry))); now (out
+-- .exit) ≡ writeBytes (lettersCheck rights color) (lettersText rights color) (now (out .entry)).
 use borrow.Author.Needs.{needs}
 use borrow.Author.Tests.{lt-ltb, le-ltb, eq-eqb, ne-eqb}
 use mathlib.Core.Path.{_≡_, _∙_}
 use native.Mathlib.Omega.{arith}
-use Rattle.square.proofs.Writes.{write-refused}
+use Rattle.answer.proofs.Writes.{write-refused}
 use Rattle.castle_rights.specs.CastleRights.{lettersOf, lettersText, lettersCheck}
 use Rattle.castle_rights.proofs.to_string.Statement.{statement}
 use Rattle.castle_rights.proofs.to_string.Tie as tie

@@ -1,3 +1,5 @@
+-- `write_letters` of lib.rt meets its contract: r ≡ writeAnswer 0 (lettersOf king queen rights) (length (now (out .entry))); now (out .exit) ≡ writeBytes 0
+-- (lettersOf king queen rights) (now (out .entry)).
 use borrow.Author.Needs.{needs}
 use mathlib.Core.Path.{_≡_, ap}
 use mathlib.Core.List.{[], _∷_}

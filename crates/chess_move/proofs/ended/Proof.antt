@@ -1,3 +1,4 @@
+-- `ended` of lib.rt meets its contract: r ≡ ended (now (text .entry)) source dest.
 use borrow.Author.Needs.{needs}
 use mathlib.Core.Path.{sym, _∙_}
 use native.Mathlib.Omega.{arith}
@@ -9,8 +10,8 @@ use Rattle.chess_move.proofs.ended.Tie as tie
 use Rattle.chess_move.proofs.ended.Reads as reads
 use Rattle.chess_move.proofs.ended.Lts as lts
 use Rattle.chess_move.proofs.promotion_named.Reads as promotion-named-reads
-use Rattle.square.proofs.fault_at.Reads as fault-at-reads
-use Rattle.square.proofs.read_as.Reads as read-as-reads
+use Rattle.answer.proofs.fault_at.Reads as fault-at-reads
+use Rattle.answer.proofs.read_as.Reads as read-as-reads
 
 -- src/lib.rt:70:48
 mul-read-as : tie.Need-mul-read-as

@@ -1,3 +1,4 @@
+-- `from_str` of lib.rt meets its contract: r ≡ readMove (now (text .entry)).
 use borrow.Author.Needs.{needs}
 use mathlib.Core.Path.{sym, ap, _∙_}
 use Rattle.square.specs.Square.{readSquare}
@@ -9,7 +10,7 @@ use Rattle.chess_move.proofs.from_str.Reads as reads
 use Rattle.chess_move.proofs.from_str.Lts as lts
 use Rattle.chess_move.proofs.with_dest.Reads as with-dest-reads
 use Rattle.square.proofs.from_str.Reads as from-str-reads
-use Rattle.square.proofs.rest.Reads as rest-reads
+use Rattle.answer.proofs.rest.Reads as rest-reads
 use Rattle.square.proofs.told.Reads as told-reads
 
 -- src/lib.rt:94:9

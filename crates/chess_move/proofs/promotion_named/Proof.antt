@@ -1,3 +1,4 @@
+-- `promotion_named` of lib.rt meets its contract: r ≡ promotionNamed b.
 use borrow.Author.Tests.{ne-eqb}
 use Rattle.chess_move.specs.Coordinate.{promotionNamed}
 use Rattle.chess_move.proofs.promotion_named.Statement.{statement}

@@ -1,8 +1,10 @@
+-- `to_string` of lib.rt meets its contract: r ≡ writeAnswer (moveCheck n) (moveText n) (length (now (out .entry))); now (out .exit) ≡ writeBytes (moveCheck
+-- n) (moveText n) (now (out .entry)).
 use borrow.Author.Needs.{needs}
 use borrow.Author.Tests.{le-leb, lt-leb}
 use mathlib.Core.Path.{_≡_, _∙_}
 use native.Mathlib.Omega.{arith}
-use Rattle.square.proofs.Writes.{write-refused}
+use Rattle.answer.proofs.Writes.{write-refused}
 use Rattle.chess_move.specs.Coordinate.{moveText, moveCheck}
 use Rattle.chess_move.proofs.Ways.{text-four, text-five}
 use Rattle.chess_move.proofs.to_string.Statement.{statement}

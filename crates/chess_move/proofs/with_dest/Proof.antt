@@ -1,3 +1,4 @@
+-- `with_dest` of lib.rt meets its contract: r ≡ withDest (now (text .entry)) source dest.
 use borrow.Author.Needs.{needs}
 use Rattle.chess_move.specs.Coordinate.{withDest}
 use Rattle.chess_move.proofs.with_dest.Statement.{statement}

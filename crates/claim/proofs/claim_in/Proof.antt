@@ -1,3 +1,4 @@
+-- `claim_in` of lib.rt meets its contract: s ≡ claimIn (now (ps .entry)) m r.
 use borrow.Author.Needs.{needs}
 use mathlib.Core.Path.{sym, _∙_}
 use native.Mathlib.Omega.{arith}

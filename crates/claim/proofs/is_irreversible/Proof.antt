@@ -1,3 +1,4 @@
+-- `is_irreversible` of lib.rt meets its contract: r ≡ irreversible (positionOf (now (p .entry))) m.
 use borrow.Author.Needs.{needs}
 use mathlib.Core.Path.{ap, sym, _∙_}
 use mathlib.Core.Bool.{not}

@@ -1,3 +1,4 @@
+-- `is_known` of lib.rt meets its contract: t ≡ runKnown r.
 use borrow.Author.Tests.{eq-eqb, ne-eqb}
 use Rattle.claim.proofs.is_known.Statement.{statement}
 use Rattle.claim.proofs.is_known.Tie as tie

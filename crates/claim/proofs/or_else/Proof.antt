@@ -1,3 +1,4 @@
+-- `or_else` of lib.rt meets its contract: r ≡ orElse known earlier.
 use borrow.Author.Tests.{eq-eqb, ne-eqb}
 use Rattle.claim.proofs.or_else.Statement.{statement}
 use Rattle.claim.proofs.or_else.Tie as tie

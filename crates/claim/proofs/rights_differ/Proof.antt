@@ -1,3 +1,4 @@
+-- `rights_differ` of lib.rt meets its contract: r ≡ rightsDiffer (positionOf (now (p .entry))) (positionOf (now (q .entry))).
 use borrow.Author.Needs.{needs}
 use mathlib.Core.Path.{ap₂, sym, _∙_}
 use mathlib.Core.Bool.{not}

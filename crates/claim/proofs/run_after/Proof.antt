@@ -1,3 +1,4 @@
+-- `run_after` of lib.rt meets its contract: s ≡ runAfter (positionOf (now (p .entry))) m (positionOf (now (q .entry))) next r.
 use borrow.Author.Needs.{needs}
 use Rattle.claim.specs.Claim.{runAfter}
 use Rattle.claim.proofs.run_after.Statement.{statement}

@@ -1,3 +1,4 @@
+-- `run_at` of lib.rt meets its contract: r ≡ runAt (now (acts .entry)) (now (ps .entry)) n.
 use borrow.Author.Needs.{needs}
 use mathlib.Core.Path.{_≡_, ap, sym, _∙_}
 use mathlib.Core.Bool.{true}
@@ -6,7 +7,7 @@ use Prim.Native.Nat.{ℕ, _+_, _-_}
 use Rattle.actions.specs.Part.{movesIn}
 use Rattle.actions.proofs.Counting.{one-more, no-more}
 use Rattle.claim.specs.Claim.{runAt}
-use Rattle.claim.specs.Back.{runBefore, runKnown}
+use Rattle.claim.specs.CodeBack.{runBefore, runKnown}
 use Rattle.claim.proofs.Back.{back-start, back-known, back-end, back-turn, run-by-none}
 use Rattle.claim.proofs.run_at.Statement.{statement}
 use Rattle.claim.proofs.run_at.Tie as tie

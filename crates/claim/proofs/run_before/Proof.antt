@@ -1,5 +1,6 @@
+-- `run_before` of lib.rt meets its contract: s ≡ runBefore r earlier.
 use borrow.Author.Needs.{needs}
-use Rattle.claim.specs.Back.{runBefore}
+use Rattle.claim.specs.CodeBack.{runBefore}
 use Rattle.claim.proofs.run_before.Statement.{statement}
 use Rattle.claim.proofs.run_before.Tie as tie
 

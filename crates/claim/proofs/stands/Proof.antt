@@ -1,3 +1,4 @@
+-- `stands` of lib.rt meets its contract: r ≡ claimAt (now (acts .entry)) (now (ps .entry)) n m.
 use borrow.Author.Needs.{needs}
 use mathlib.Core.Path.{ap, sym, _∙_}
 use native.Mathlib.Omega.{arith}

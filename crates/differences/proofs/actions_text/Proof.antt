@@ -1,3 +1,4 @@
+-- `actions_text` of lib.rt meets its contract: now r ≡ drop (length (numberText count)) (drop recordSize (now (roll .entry))).
 use borrow.Author.Needs.{needs}
 use Rattle.differences.proofs.Written.{behind-one, behind-two}
 use Rattle.differences.proofs.actions_text.Statement.{statement}

@@ -1,8 +1,10 @@
+-- `differences` of lib.rt meets its contract: r ≡ differencesAnswer limits (now (first .entry)) (now (second .entry)) (length (now (out .entry))); now (out
+-- .exit) ≡ differencesRoom limits (now (first .entry)) (now (second .entry)) (now (out .entry)).
 use borrow.Author.Needs.{needs}
 use mathlib.Core.Path.{refl, sym, _∙_}
 use native.Mathlib.Omega.{arith}
 use lib.ListN.{replicate}
-use Rattle.square.proofs.Pushes.{whole-count, whole-within}
+use Rattle.answer.proofs.Pushes.{whole-count, whole-within}
 use Rattle.differences.proofs.Whole.{number-told, known, few, starts-asked, action-asked, both-put}
 use Rattle.differences.proofs.Whole.{whole-answer, same-answer, first-refused, second-refused}
 use Rattle.differences.proofs.differences.Statement.{statement}

@@ -1,3 +1,4 @@
+-- `entry_number` of lib.rt meets its contract: r ≡ entryNumber (now (text .entry)).
 use borrow.Author.Needs.{needs}
 use Rattle.differences.proofs.Bytes.{number-plain, number-one, number-two, number-three}
 use Rattle.differences.proofs.entry_number.Statement.{statement}

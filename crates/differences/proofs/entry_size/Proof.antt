@@ -1,3 +1,4 @@
+-- `entry_size` of lib.rt meets its contract: (r ≡ entrySize (now (text .entry))) × (r ≤ 4).
 use borrow.Author.Needs.{needs}
 use native.Mathlib.Omega.{arith}
 use Rattle.differences.proofs.Bytes.{size-plain, size-one, size-two, size-three}

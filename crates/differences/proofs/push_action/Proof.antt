@@ -1,3 +1,4 @@
+-- `push_action` of lib.rt meets its contract: PutIn (now (bytes .entry)) n (lineText (difference (actionKey i) x y)) (now (bytes .exit)) r.
 use borrow.Author.Needs.{needs}
 use Rattle.differences.proofs.Pushing.{word-fits, index-fits, numbers-fit, whole-action}
 use Rattle.differences.proofs.push_action.Statement.{statement}

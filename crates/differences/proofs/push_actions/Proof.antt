@@ -1,9 +1,11 @@
+-- `push_actions` of lib.rt meets its contract: PutIn (now (bytes .entry)) n (actionLine counted (now (first .entry)) other (now (second .entry))) (now
+-- (bytes .exit)) r.
 use borrow.Author.Needs.{needs}
 use Prim.Native.Nat.{_-_}
 use mathlib.Core.Path.{ap, sym, _∙_}
 use native.Mathlib.Omega.{arith}
 use lib.ListN.{length}
-use Rattle.differences.specs.Entries.{entrySize, entryNumber}
+use Rattle.differences.specs.CodeEntries.{entrySize, entryNumber}
 use Rattle.differences.proofs.Acts.{searched-none, searched-more, searched-same, differ-here, second-ended, first-ended, both-ended, here-fits, here-put}
 use Rattle.differences.proofs.Acts.{Searched}
 use Rattle.differences.proofs.push_actions.Statement.{statement}

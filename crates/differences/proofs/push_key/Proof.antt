@@ -1,6 +1,7 @@
+-- `push_key` of lib.rt meets its contract: PutIn (now (bytes .entry)) n (startKey i) (now (bytes .exit)) r.
 use borrow.Author.Needs.{needs}
 use mathlib.Core.Path.{sym}
-use Rattle.square.proofs.Pushes.{put-as}
+use Rattle.answer.proofs.Pushes.{put-as}
 use Rattle.differences.proofs.Keys.{key-square, key-side, key-white, key-black, key-file, fits-as}
 use Rattle.differences.proofs.push_key.Statement.{statement}
 use Rattle.differences.proofs.push_key.Tie as tie

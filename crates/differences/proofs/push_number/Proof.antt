@@ -1,10 +1,11 @@
+-- `push_number` of lib.rt meets its contract: PutIn (now (bytes .entry)) n (decimal number) (now (bytes .exit)) r.
 use borrow.Author.Needs.{needs}
 use mathlib.Core.Path.{refl}
 use native.Mathlib.Omega.{arith}
 use Prim.Native.Nat.{_<_}
 use lib.ListN.{length}
 use Rattle.decimal.specs.Decimal.{decimal}
-use Rattle.square.proofs.Puts.{put-text}
+use Rattle.answer.proofs.Puts.{put-text}
 use Rattle.differences.proofs.push_number.Statement.{statement}
 use Rattle.differences.proofs.push_number.Tie as tie
 

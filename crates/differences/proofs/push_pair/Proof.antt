@@ -1,3 +1,4 @@
+-- `push_pair` of lib.rt meets its contract: PutIn (now (bytes .entry)) n (pairText x y) (now (bytes .exit)) r.
 use borrow.Author.Needs.{needs}
 use native.Mathlib.Omega.{arith}
 use Prim.Native.Nat.{_<_}

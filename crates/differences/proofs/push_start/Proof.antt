@@ -1,6 +1,7 @@
+-- `push_start` of lib.rt meets its contract: PutIn (now (bytes .entry)) n (linesText (ifDiffers (startKey i) x y)) (now (bytes .exit)) r.
 use borrow.Author.Needs.{needs}
 use mathlib.Core.Path.{sym}
-use Rattle.square.proofs.Pushes.{put-as}
+use Rattle.answer.proofs.Pushes.{put-as}
 use Rattle.differences_text.specs.Differences.{startKey}
 use Rattle.differences.proofs.Keys.{fits-as}
 use Rattle.differences.proofs.Pushing.{one-line, nothing-put, key-fits, pair-fits, whole-line}

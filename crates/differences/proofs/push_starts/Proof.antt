@@ -1,3 +1,4 @@
+-- `push_starts` of lib.rt meets its contract: PutIn (now (bytes .entry)) 0 (startLines (now (first .entry)) (now (second .entry))) (now (bytes .exit)) r.
 use Prim.Native.Nat.{_-_}
 use lib.ListN.{length}
 use Rattle.board_builder.specs.BoardBuilder.{recordSize}

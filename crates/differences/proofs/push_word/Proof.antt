@@ -1,9 +1,10 @@
+-- `push_word` of lib.rt meets its contract: PutIn (now (bytes .entry)) n (now (word .entry)) (now (bytes .exit)) r.
 use borrow.Author.Needs.{needs}
 use mathlib.Core.Path.{refl}
 use native.Mathlib.Omega.{arith}
 use Prim.Native.Nat.{_<_}
 use lib.ListN.{length}
-use Rattle.square.proofs.Puts.{put-text}
+use Rattle.answer.proofs.Puts.{put-text}
 use Rattle.differences.proofs.push_word.Statement.{statement}
 use Rattle.differences.proofs.push_word.Tie as tie
 

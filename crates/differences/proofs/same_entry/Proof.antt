@@ -1,3 +1,4 @@
+-- `same_entry` of lib.rt meets its contract: (r ≡ sameEntry (now (text .entry)) (now (other .entry))) × (r ≤ 4).
 use borrow.Author.Needs.{needs}
 use native.Mathlib.Omega.{arith}
 use Rattle.differences.proofs.Bytes.{other-code, same-plain, other-low, same-one, other-middle, same-two, other-high, same-three}

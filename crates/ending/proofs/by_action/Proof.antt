@@ -1,3 +1,4 @@
+-- `by_action` of lib.rt meets its contract: r ≡ resultOfAction (Holds action).
 use borrow.Author.Needs.{needs}
 use Rattle.ending.proofs.by_action.Statement.{statement}
 use Rattle.ending.proofs.by_action.Tie as tie

@@ -1,3 +1,4 @@
+-- `by_last_action` of lib.rt meets its contract: r ≡ resultOfAction (lastAction (now (acts .entry)) n).
 use borrow.Author.Needs.{needs}
 use mathlib.Core.Path.{ap, sym, _∙_}
 use native.Mathlib.Omega.{arith}

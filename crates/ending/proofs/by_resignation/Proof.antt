@@ -1,3 +1,4 @@
+-- `by_resignation` of lib.rt meets its contract: r ≡ cond (eqb colour 0) whiteResigns blackResigns.
 use borrow.Author.Tests.{eq-eqb, ne-eqb}
 use Rattle.ending.proofs.by_resignation.Statement.{statement}
 use Rattle.ending.proofs.by_resignation.Tie as tie

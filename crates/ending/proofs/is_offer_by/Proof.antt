@@ -1,3 +1,4 @@
+-- `is_offer_by` of lib.rt meets its contract: r ≡ isOfferBy colour earlier.
 use borrow.Author.Needs.{needs}
 use Rattle.ending.proofs.is_offer_by.Statement.{statement}
 use Rattle.ending.proofs.is_offer_by.Tie as tie

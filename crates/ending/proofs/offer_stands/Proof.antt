@@ -1,3 +1,4 @@
+-- `offer_stands` of lib.rt meets its contract: r ≡ offerAt (now (acts .entry)) (now (ps .entry)) n m.
 use borrow.Author.Needs.{needs}
 use mathlib.Core.Path.{_≡_, ap, ap₂, sym, _∙_}
 use mathlib.Core.List.{List}

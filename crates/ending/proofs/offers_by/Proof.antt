@@ -1,3 +1,4 @@
+-- `offers_by` of lib.rt meets its contract: r ≡ isOfferBy colour (Holds action).
 use borrow.Author.Needs.{needs}
 use Rattle.ending.proofs.offers_by.Statement.{statement}
 use Rattle.ending.proofs.offers_by.Tie as tie

@@ -1,3 +1,4 @@
+-- `other_side` of lib.rt meets its contract: r ≡ 1 - side.
 use native.Mathlib.Omega.{arith}
 use Rattle.ending.proofs.other_side.Statement.{statement}
 use Rattle.ending.proofs.other_side.Tie as tie

@@ -1,3 +1,4 @@
+-- `result` of lib.rt meets its contract: r ≡ resultAt (now (acts .entry)) (now (ps .entry)) n m.
 use borrow.Author.Needs.{needs}
 use mathlib.Core.Path.{ap, ap₂, sym, _∙_}
 use mathlib.Core.List.{List}

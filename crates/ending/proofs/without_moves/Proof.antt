@@ -1,3 +1,4 @@
+-- `without_moves` of lib.rt meets its contract: r ≡ resultWithoutMoves side check.
 use mathlib.Core.Path.{_≡_}
 use native.Mathlib.Omega.{arith}
 use borrow.Author.Tests.{eq-eqb, ne-eqb}

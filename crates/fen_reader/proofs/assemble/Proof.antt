@@ -1,3 +1,4 @@
+-- `assemble` of lib.rt meets its contract: r ≡ sided at pieces (sideOf (now (side .entry))) (now (castling .entry)) (now (ep .entry)).
 use borrow.Author.Needs.{needs}
 use mathlib.Core.Path.{ap, _∙_}
 use Prim.Native.Nat.{ℕ}

@@ -1,9 +1,10 @@
+-- `no_placement` of lib.rt meets its contract: r ≡ readFen (now (text .entry)).
 use borrow.Author.Needs.{needs}
 use mathlib.Core.Path.{sym, ap, _∙_}
 use native.Mathlib.Omega.{arith}
 use Prim.Native.Nat.{_≤_, _<_}
 use lib.ListN.{length}
-use Rattle.square.specs.Answer.{badPlacement}
+use Rattle.answer.specs.Answer.{badPlacement}
 use Rattle.fen_text.specs.Token.{tokens}
 use Rattle.fen_text.specs.Placement.{firstBad}
 use Rattle.fen_text.specs.Read.{refusedAt}

@@ -1,3 +1,4 @@
+-- `read_fen` of lib.rt meets its contract: r ≡ readFen (now (text .entry)).
 use borrow.Author.Needs.{needs}
 use mathlib.Core.Path.{_≡_, refl, sym, _∙_}
 use mathlib.Core.Bool.{true}
@@ -6,7 +7,7 @@ use native.Mathlib.Omega.{arith}
 use lib.ListN.{length, take}
 use borrow.Author.Tests.{le-ltb, lt-ltb}
 use Rattle.fen_text.specs.Placement.{start, placeAll}
-use Rattle.fen_reader.specs.Class.{refused}
+use Rattle.fen_reader.specs.CodeClass.{noClass}
 use Rattle.fen_reader.proofs.Placing.{good-placement}
 use Rattle.fen_reader.proofs.Reading.{one-token, two-tokens, three-tokens, four-tokens}
 use Rattle.fen_reader.proofs.read_fen.Statement.{statement}
@@ -18,7 +19,7 @@ place-requires c κs = search needs
 no-placement-requires : tie.Need-no-placement-requires
 no-placement-requires c κs = record { place = c .before .before .place .ensures .place; bad =
     let at-place = c .before .before .place in
-    at-place .ensures .good ∙ le-ltb (at-place .result .seen) refused (c .if1 .taken) }
+    at-place .ensures .good ∙ le-ltb (at-place .result .seen) noClass (c .if1 .taken) }
 
 returns : tie.Need-returns
 returns c = search needs
@@ -119,7 +120,7 @@ returns-5 c =
     let s = a .text .now in
     let w = at-place .result in
     let inside : w .end ≤ length s = omega (arith, at-if2 .left) in
-    let good : placeAll start (take (w .end) s) .good ≡ true = at-place .ensures .good ∙ lt-ltb (w .seen) refused (at-if1 .left) in
+    let good : placeAll start (take (w .end) s) .good ≡ true = at-place .ensures .good ∙ lt-ltb (w .seen) noClass (at-if1 .left) in
     c .assemble .ensures
     ∙ sym (good-placement s (w .end) (w .pieces) _ _ _ inside good (at-place .ensures .pieces))
     ∙ sym

@@ -1,3 +1,4 @@
+-- `refused_at` of lib.rt meets its contract: r ≡ refusedAt number offset.
 use borrow.Author.Needs.{needs}
 use Rattle.fen_reader.proofs.refused_at.Statement.{statement}
 use Rattle.fen_reader.proofs.refused_at.Tie as tie

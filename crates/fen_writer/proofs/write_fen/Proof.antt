@@ -1,13 +1,15 @@
+-- `write_fen` of lib.rt meets its contract: r ≡ writeAnswer (fenCheck board) (fenText board) (length (now (out .entry))); now (out .exit) ≡ writeBytes
+-- (fenCheck board) (fenText board) (now (out .entry)).
 use borrow.Author.Needs.{needs}
 use mathlib.Core.Path.{_≡_, refl, sym, _∙_}
 use mathlib.Core.Bool.{true, false}
 use native.Mathlib.Omega.{arith}
 use borrow.Author.Tests.{not-true, not-false}
-use Rattle.square.proofs.Writes.{write-refused}
-use Rattle.square.proofs.Pushes.{push-whole}
+use Rattle.answer.proofs.Writes.{write-refused}
+use Rattle.answer.proofs.Pushes.{push-whole}
 use Rattle.board_builder.specs.BoardBuilder.{inRange}
 use Rattle.fen_text.specs.Write.{fenText, fenCheck}
-use Rattle.square.proofs.Pushes.{whole-count, whole-within}
+use Rattle.answer.proofs.Pushes.{whole-count, whole-within}
 use Rattle.fen_writer.proofs.write_fen.Statement.{statement}
 use Rattle.fen_writer.proofs.write_fen.Tie as tie
 

@@ -1,10 +1,12 @@
+-- `accept_draw` of lib.rt meets its contract: r ≡ countsAfter (callAnswer limits (now (acts .entry)) (now (ps .entry)) n m acceptDraw) n m acceptDraw; now
+-- (acts .exit) ≡ actionsAfter (callAnswer limits (now (acts .entry)) (now (ps .entry)) n m acceptDraw) (now (acts .entry)) n acceptDraw.
 use borrow.Author.Needs.{needs}
 use mathlib.Core.Path.{refl, ap, _∙_}
 use Prim.Native.Nat.{ℕ}
 use Rattle.action.specs.declared.Action.the-variants.{AcceptDraw}
 use Rattle.game_rules.specs.Rules.{acceptDraw}
 use Rattle.game_rules.specs.Calls.{countsAfter, actionsAfter}
-use Rattle.game.specs.Answers.{otherCounts, otherActions}
+use Rattle.game.specs.CodeAnswers.{otherCounts, otherActions}
 use Rattle.game_rules.specs.Rules.{acceptDraw}
 use Rattle.game_rules.specs.Calls.{countsAfter, actionsAfter}
 use Rattle.game.proofs.Answers.{other-is}

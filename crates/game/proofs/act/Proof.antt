@@ -1,8 +1,10 @@
+-- `act` of lib.rt meets its contract: r ≡ otherCounts (otherAnswer (now (acts .entry)) (now (ps .entry)) n m action) n m; now (acts .exit) ≡ otherActions
+-- (otherAnswer (now (acts .entry)) (now (ps .entry)) n m action) (now (acts .entry)) n action.
 use borrow.Author.Needs.{needs}
 use native.Mathlib.Omega.{arith}
 use mathlib.Core.Path.{sym, _∙_}
 use Rattle.game_rules.specs.Calls.{counts}
-use Rattle.game.specs.Answers.{otherAnswer}
+use Rattle.game.specs.CodeAnswers.{otherAnswer}
 use Rattle.game_rules.specs.Rules.{result}
 use Rattle.game.proofs.Answers.{other-found}
 use Rattle.game.proofs.Ways as ways

@@ -1,7 +1,8 @@
+-- `can_declare_draw` of lib.rt meets its contract: r ≡ claimAnswer limits (now (acts .entry)) (now (ps .entry)) n m.
 use borrow.Author.Needs.{needs}
 use mathlib.Core.Path.{sym, _∙_}
 use mathlib.Core.Bool.{true, false}
-use Rattle.square.specs.Answer.{accepted}
+use Rattle.answer.specs.Answer.{accepted}
 use Rattle.game_rules.specs.Limits.{limits}
 use Rattle.game_rules.specs.Rules.{result}
 use Rattle.game_rules.specs.Calls.{logCheck, claimAnswer}

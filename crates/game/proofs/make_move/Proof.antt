@@ -1,9 +1,14 @@
+-- `make_move` of lib.rt meets its contract: r ≡ countsAfter (callAnswer limits (now (acts .entry)) (now (ps .entry)) n m (makeMove x (positionGiven next
+-- in_check (now (list .entry))))) n m (makeMove x (positionGiven next in_check (now (list .entry)))); now (acts .exit) ≡ actionsAfter (callAnswer limits
+-- (now (acts .entry)) (now (ps .entry)) n m (makeMove x (positionGiven next in_check (now (list .entry))))) (now (acts .entry)) n (makeMove x
+-- (positionGiven next in_check (now (list .entry)))); now (ps .exit) ≡ positionsAfter (callAnswer limits (now (acts .entry)) (now (ps .entry)) n m
+-- (makeMove x (positionGiven next in_check (now (list .entry))))) (now (ps .entry)) m (makeMove x (positionGiven next in_check (now (list .entry)))).
 use borrow.Author.Needs.{needs}
 use native.Mathlib.Omega.{arith}
 use mathlib.Core.Path.{ap, sym, _∙_}
 use Prim.Native.Nat.{_*_}
-use Rattle.square.specs.declared.Answer.{Answer}
-use Rattle.square.specs.Parts.{written}
+use Rattle.answer.specs.declared.Answer.{Answer}
+use Rattle.answer.specs.Parts.{written}
 use Rattle.action.specs.Layout.{actionSize, actionBytes, actionCheck}
 use Rattle.action.specs.declared.Action.the-variants.{MakeMove}
 use Rattle.chess_move.proofs.Numbers.{number-of-parts}

@@ -1,3 +1,5 @@
+-- `move_answer` of lib.rt meets its contract: r ≡ callAnswer limits (now (acts .entry)) (now (ps .entry)) n m (makeMove x (positionGiven next in_check (now
+-- (list .entry)))).
 use borrow.Author.Needs.{needs}
 use borrow.Author.Needs.{needs, length-unmapped}
 use mathlib.Core.Path.{_≡_, ap, sym, _∙_}
@@ -18,7 +20,7 @@ use Rattle.game.proofs.move_answer.Lts as lts
 use Rattle.board_after.proofs.leads_to_board.Reads as leads-to-board-reads
 use Rattle.game.proofs.open_check.Reads as open-check-reads
 use Rattle.position.proofs.at.Reads as at-reads
-use Rattle.square.proofs.byte_at.Reads as byte-at-reads
+use Rattle.answer.proofs.byte_at.Reads as byte-at-reads
 use Rattle.stored_position.proofs.check.Reads as check-reads
 use Rattle.stored_position.proofs.lists.Reads as lists-reads
 

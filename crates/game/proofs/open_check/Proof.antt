@@ -1,3 +1,4 @@
+-- `open_check` of lib.rt meets its contract: r ≡ openCheck (now (acts .entry)) (now (ps .entry)) n m.
 use borrow.Author.Needs.{needs}
 use native.Mathlib.Omega.{arith}
 use Rattle.game_rules.specs.Rules.{result}

@@ -1,6 +1,7 @@
+-- `other_answer` of lib.rt meets its contract: r ≡ otherAnswer (now (acts .entry)) (now (ps .entry)) n m action.
 use borrow.Author.Needs.{needs}
 use Rattle.game_rules.specs.Rules.{firstRefusal}
-use Rattle.game.specs.Answers.{otherAnswer}
+use Rattle.game.specs.CodeAnswers.{otherAnswer}
 use Rattle.game_rules.specs.Rules.{result}
 use Rattle.game.proofs.Ways as ways
 use Rattle.game.proofs.Ways as ways

@@ -1,9 +1,10 @@
+-- `put_action` of lib.rt meets its contract: now (acts .exit) ≡ written (now (acts .entry)) (actionSize * n) (actionBytes action).
 use borrow.Author.Needs.{needs}
 use native.Mathlib.Omega.{arith}
 use Prim.Native.Nat.{_*_}
 use Rattle.action.specs.Layout.{actionSize, actionBytes, actionCheck}
 use Rattle.action.proofs.ReadBack.{length-bytes}
-use Rattle.square.proofs.Puts.{put-written}
+use Rattle.answer.proofs.Puts.{put-written}
 use Rattle.game.proofs.Ways as ways
 use Rattle.game.proofs.put_action.Statement.{statement}
 use Rattle.game.proofs.put_action.Tie as tie

@@ -1,10 +1,12 @@
+-- `put_position` of lib.rt meets its contract: now (ps .exit) ≡ written (now (ps .entry)) (positionSize * k) (positionBytes (positionGiven b in_check (now
+-- (list .entry)))).
 use borrow.Author.Needs.{needs}
 use native.Mathlib.Omega.{arith}
 use Prim.Native.Nat.{_*_}
 use Rattle.position.specs.Layout.{Position, positionSize}
 use Rattle.stored_position.specs.Bytes.{positionBytes, positionCheck, positionGiven}
 use Rattle.stored_position.proofs.ReadBack.{one-size}
-use Rattle.square.proofs.Puts.{put-written}
+use Rattle.answer.proofs.Puts.{put-written}
 use Rattle.game.proofs.Ways as ways
 use Rattle.game.proofs.put_position.Statement.{statement}
 use Rattle.game.proofs.put_position.Tie as tie

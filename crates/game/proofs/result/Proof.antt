@@ -1,5 +1,6 @@
+-- `result` of lib.rt meets its contract: r ≡ resultAnswer limits (now (acts .entry)) (now (ps .entry)) n m.
 use borrow.Author.Needs.{needs}
-use Rattle.square.specs.Answer.{accepted}
+use Rattle.answer.specs.Answer.{accepted}
 use Rattle.game_rules.specs.Limits.{limits}
 use Rattle.game_rules.specs.Rules.{result}
 use Rattle.game_rules.specs.Good.{historyOf}

@@ -1,3 +1,6 @@
+-- `start` of lib.rt meets its contract: r ≡ counts (startAnswer limits (now (acts .entry)) (now (ps .entry)) (positionGiven b in_check (now (list
+-- .entry)))) 0 0; now (ps .exit) ≡ positionsBegun (startAnswer limits (now (acts .entry)) (now (ps .entry)) (positionGiven b in_check (now (list .entry))))
+-- (now (ps .entry)) (positionGiven b in_check (now (list .entry))).
 use borrow.Author.Needs.{needs}
 use mathlib.Core.Path.{sym, _∙_}
 use Rattle.position.specs.Layout.{Position}

@@ -1,3 +1,4 @@
+-- `start_answer` of lib.rt meets its contract: r ≡ startAnswer limits (now (acts .entry)) (now (ps .entry)) (positionGiven b in_check (now (list .entry))).
 use borrow.Author.Needs.{needs}
 use Rattle.position.specs.Layout.{Position}
 use Rattle.stored_position.specs.Bytes.{positionGiven}

@@ -1,3 +1,4 @@
+-- `check` of lib.rt meets its contract: r ≡ logCheck limits (now (acts .entry)) (now (ps .entry)) n m.
 use mathlib.Core.Path.{sym, _∙_}
 use borrow.Author.Tests.{le-leb, lt-leb}
 use Rattle.game_rules.specs.Rules.{firstRefusal}

@@ -1,3 +1,4 @@
+-- `is_good` of lib.rt meets its contract: r ≡ isGood limits (now (acts .entry)) (now (ps .entry)) n m.
 use borrow.Author.Needs.{needs}
 use mathlib.Core.Path.{_≡_, refl, ap, sym, _∙_}
 use mathlib.Core.Bool.{true}
@@ -5,10 +6,10 @@ use mathlib.Core.Logic.{⊎-elim}
 use native.Mathlib.Omega.{arith}
 use borrow.Author.Tests.{eq-eqb, ne-eqb, not-true, not-false}
 use Prim.Native.Nat.{_-_}
-use Rattle.square.specs.Parts.{item}
+use Rattle.answer.specs.Parts.{item}
 use Rattle.position.specs.Layout.{positionSize}
 use Rattle.stored_position.specs.Bytes.{isPosition}
-use Rattle.stored_position.specs.ByParts.{recordFits}
+use Rattle.stored_position.specs.CodeParts.{recordFits}
 use Rattle.good_log.proofs.Pass.{Given, Reaching, pass-start, pass-end, leave-out, leave-on, leads-on, stay-out, stay-on, no-start}
 use Rattle.good_log.proofs.is_good.Statement.{statement}
 use Rattle.good_log.proofs.is_good.Tie as tie

@@ -1,3 +1,4 @@
+-- `move_leads` of lib.rt meets its contract: r ≡ moveLeads (now (p .entry)) m (now (q .entry)).
 use borrow.Author.Needs.{needs}
 use mathlib.Core.Path.{sym, _∙_}
 use borrow.Author.Tests.{not-true, not-false}

@@ -1,11 +1,12 @@
+-- `move_may_stand` of lib.rt meets its contract: r ≡ moveMayStand (now (ps .entry)) m k x.
 use borrow.Author.Needs.{needs}
 use mathlib.Core.Path.{ap, ap₂, sym, _∙_}
 use mathlib.Core.List.{List}
 use Prim.Native.Nat.{ℕ}
 use native.Mathlib.Numerals.{add-one}
 use borrow.Author.Tests.{le-ltb, lt-ltb}
-use Rattle.stored_position.specs.ByParts.{recordFits}
-use Rattle.good_log.specs.Steps.{moveLeads}
+use Rattle.stored_position.specs.CodeParts.{recordFits}
+use Rattle.good_log.specs.CodeSteps.{moveLeads}
 use Rattle.good_log.proofs.move_may_stand.Statement.{statement}
 use Rattle.good_log.proofs.move_may_stand.Tie as tie
 use Rattle.good_log.proofs.move_may_stand.Reads as reads

@@ -1,6 +1,7 @@
+-- `other_check` of lib.rt meets its contract: r ≡ otherCheck (now (acts .entry)) (now (ps .entry)) n m action.
 use borrow.Author.Needs.{needs}
 use mathlib.Core.Path.{ap, _∙_}
-use Rattle.square.specs.Answer.{noOffer, noClaim}
+use Rattle.answer.specs.Answer.{noOffer, noClaim}
 use mathlib.Core.Bool.{Bool}
 use Rattle.game_rules.specs.Rules.{unless}
 use Rattle.good_log.proofs.other_check.Statement.{statement}

@@ -1,3 +1,4 @@
+-- `other_fits` of lib.rt meets its contract: r ≡ otherFits (now (acts .entry)) (now (ps .entry)) i k stored.
 use borrow.Author.Needs.{needs}
 use mathlib.Core.Path.{ap}
 use Prim.Native.Nat.{ℕ}

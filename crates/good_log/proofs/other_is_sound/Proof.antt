@@ -1,8 +1,9 @@
+-- `other_is_sound` of lib.rt meets its contract: r ≡ otherSound (now (acts .entry)) (now (ps .entry)) i k.
 use borrow.Author.Needs.{needs}
 use mathlib.Core.Path.{ap, sym, _∙_}
 use native.Mathlib.Numerals.{add-one}
 use borrow.Author.Tests.{eq-eqb, ne-eqb}
-use Rattle.good_log.specs.Steps.{otherFits}
+use Rattle.good_log.specs.CodeSteps.{otherFits}
 use Rattle.good_log.proofs.other_is_sound.Statement.{statement}
 use Rattle.good_log.proofs.other_is_sound.Tie as tie
 

@@ -1,3 +1,4 @@
+-- `other_may_stand` of lib.rt meets its contract: r ≡ otherMayStand (now (acts .entry)) (now (ps .entry)) n i k.
 use borrow.Author.Needs.{needs}
 use mathlib.Core.Path.{ap, sym, _∙_}
 use Prim.Native.Nat.{ℕ, suc}

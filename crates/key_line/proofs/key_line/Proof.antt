@@ -1,3 +1,5 @@
+-- `key_line` of lib.rt meets its contract: r ≡ writeAnswer 0 (keyLine (now (line .entry))) (length (now (out .entry))); now (out .exit) ≡ writeBytes 0
+-- (keyLine (now (line .entry))) (now (out .entry)).
 use borrow.Author.Needs.{needs}
 use native.Mathlib.Omega.{arith}
 use mathlib.Core.Path.{_≡_, refl, sym, ap, _∙_}
@@ -5,12 +7,12 @@ use mathlib.Core.List.{List, []}
 use Prim.Native.Nat.{ℕ, _+_}
 use lib.ListN.{length, take, replicate}
 use lib.Seq.{length-take-le}
-use Rattle.square.specs.Answer.{writeAnswer, writeBytes}
-use Rattle.square.proofs.Parts.{length-written}
-use Rattle.square.proofs.Written.{used-written}
+use Rattle.answer.specs.Answer.{writeAnswer, writeBytes}
+use Rattle.answer.proofs.Parts.{length-written}
+use Rattle.answer.proofs.Written.{used-written}
 use Rattle.key_line.specs.declared.Lined.{Lined}
 use Rattle.key_line.specs.KeyLine.{keyLine}
-use Rattle.square.specs.Parts.{written}
+use Rattle.answer.specs.Parts.{written}
 use Rattle.key_line.proofs.key_line.Statement.{statement}
 use Rattle.key_line.proofs.key_line.Tie as tie
 

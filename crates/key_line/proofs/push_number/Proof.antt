@@ -1,8 +1,9 @@
+-- `push_number` of lib.rt meets its contract: Put 44 (now (bytes .entry)) n (decimal number) (now (bytes .exit)) r.
 use borrow.Author.Needs.{needs}
 use native.Mathlib.Omega.{arith}
 use Prim.Native.Nat.{_<_}
 use Rattle.decimal.specs.Decimal.{decimal}
-use Rattle.square.proofs.Puts.{put-text}
+use Rattle.answer.proofs.Puts.{put-text}
 use Rattle.key_line.proofs.Refusals.{few-digits}
 use Rattle.key_line.proofs.push_number.Statement.{statement}
 use Rattle.key_line.proofs.push_number.Tie as tie

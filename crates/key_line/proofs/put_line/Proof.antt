@@ -1,3 +1,5 @@
+-- `put_line` of lib.rt meets its contract: r ≡ linedAt at (now (line .entry)); now (out .exit) ≡ written (now (out .entry)) at (keyLine (now (line
+-- .entry))); length (keyLine (now (line .entry))) ≤ longestLine.
 use borrow.Author.Needs.{needs}
 use native.Mathlib.Omega.{arith}
 use Prim.Native.Nat.{_<_}

@@ -1,8 +1,10 @@
+-- `write_refusal` of lib.rt meets its contract: r ≡ writeAnswer 0 (refusalLine number offset) (length (now (out .entry))); now (out .exit) ≡ writeBytes 0
+-- (refusalLine number offset) (now (out .entry)).
 use borrow.Author.Needs.{needs}
 use native.Mathlib.Omega.{arith}
 use Prim.Native.Nat.{_<_}
 use mathlib.Core.List.{[]}
-use Rattle.square.proofs.Pushes.{push-whole, whole-count, whole-within}
+use Rattle.answer.proofs.Pushes.{push-whole, whole-count, whole-within}
 use Rattle.key_line.proofs.Refusals.{space-within, newline-within, whole-line}
 use Rattle.key_line.proofs.write_refusal.Statement.{statement}
 use Rattle.key_line.proofs.write_refusal.Tie as tie

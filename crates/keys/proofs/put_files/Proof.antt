@@ -1,3 +1,4 @@
+-- `put_files` of main.rt meets its contract: r .ready ≤ length (now (out .entry)).
 use borrow.Author.Needs.{needs}
 use Prim.Native.Nat.{_-_, _≤_}
 use lib.ListN.{length}

@@ -1,3 +1,4 @@
+-- `put_keys` of main.rt is safe and ends.
 use native.Mathlib.Omega.{arith}
 use borrow.Author.Needs.{needs}
 use Rattle.keys.proofs.put_keys.Statement.{statement}

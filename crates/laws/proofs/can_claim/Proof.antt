@@ -1,8 +1,9 @@
+-- `can_claim` of lib.rt meets its contract: r ≡ lawsAnswer limits (now (acts .entry)) (now (ps .entry)) n m.
 use borrow.Author.Needs.{needs}
 use mathlib.Core.Path.{sym, ap, _∙_}
 use mathlib.Core.Bool.{Bool, cond}
 use Prim.Native.Nat.{ℕ}
-use Rattle.square.specs.Answer.{accepted}
+use Rattle.answer.specs.Answer.{accepted}
 use Rattle.laws.proofs.Shown.{laws-refused, laws-over, laws-told}
 use Rattle.laws.proofs.can_claim.Statement.{statement}
 use Rattle.laws.proofs.can_claim.Tie as tie

@@ -1,3 +1,4 @@
+-- `reason` of lib.rt meets its contract: r ≡ cond going (cond (leb claimCount count) 1 0 + cond (leb 2 equals) 2 0) 0.
 use borrow.Author.Needs.{needs}
 use mathlib.Core.Path.{ap₂}
 use native.Mathlib.Omega.{arith}

@@ -1,3 +1,4 @@
+-- `rule` of lib.rt meets its contract: r ≡ ruledOn (historyOf (now (acts .entry)) (now (ps .entry)) n).
 use borrow.Author.Needs.{needs}
 use mathlib.Core.Path.{ap}
 use Prim.Native.Nat.{ℕ}

@@ -1,3 +1,4 @@
+-- `ruling` of lib.rt meets its contract: r ≡ rulingAnswer limits (now (acts .entry)) (now (ps .entry)) n m.
 use borrow.Author.Needs.{needs}
 use mathlib.Core.Path.{sym, _∙_}
 use Rattle.laws.proofs.Shown.{ruling-refused, ruling-given}

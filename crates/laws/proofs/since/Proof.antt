@@ -6,7 +6,7 @@ use native.Mathlib.Omega.{arith}
 use Prim.Native.Nat.{_+_, _-_}
 use Rattle.actions.specs.Part.{movesIn}
 use Rattle.actions.proofs.Counting.{one-more, no-more}
-use Rattle.laws.specs.Since.{lawsSince}
+use Rattle.laws.specs.CodeSince.{lawsSince}
 use Rattle.laws.proofs.Back.{since-start, since-by-none, since-found, since-passed}
 use Rattle.laws.proofs.since.Statement.{statement}
 use Rattle.laws.proofs.since.Tie as tie

@@ -1,3 +1,4 @@
+-- `stands` of lib.rt meets its contract: r ≡ lawsClaimStands (historyOf (now (acts .entry)) (now (ps .entry)) n).
 use borrow.Author.Needs.{needs}
 use mathlib.Core.Path.{_∙_}
 use Rattle.laws.proofs.Shown.{stands-by-count, stands-by-run}

@@ -1,3 +1,4 @@
+-- `main` of main.rt is safe and ends.
 use borrow.Author.Needs.{needs}
 use Prim.Native.Nat.{_-_, _≤_}
 use Rattle.leaves.proofs.main.Statement.{statement}

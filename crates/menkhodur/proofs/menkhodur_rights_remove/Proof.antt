@@ -1,3 +1,4 @@
+-- `menkhodur_rights_remove` of lib.rt meets its contract: r ≡ removeRights rights removed.
 use borrow.Author.Needs.{needs}
 use Rattle.menkhodur.proofs.menkhodur_rights_remove.Statement.{statement}
 use Rattle.menkhodur.proofs.menkhodur_rights_remove.Tie as tie

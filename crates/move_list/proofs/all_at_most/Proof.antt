@@ -1,3 +1,4 @@
+-- `all_at_most` of lib.rt meets its contract: r ≡ allAtMost most (now (moves .entry)).
 use borrow.Author.Needs.{needs}
 use mathlib.Core.Path.{_≡_, refl, sym, ap, _∙_}
 use mathlib.Core.Bool.{_&&_}
@@ -6,9 +7,9 @@ use Prim.Native.Nat.{ℕ, _+_, _-_, _≤_, zero-le}
 use lib.Bits.{bitOr}
 use lib.Dec.{eqb}
 use lib.ListN.{length, drop}
-use Rattle.square.specs.Numbers.{allAtMost}
-use Rattle.square.proofs.Numbers.{most-end}
-use Rattle.square.proofs.Bounds.{gather-turn, gather-end}
+use Rattle.answer.specs.Numbers.{allAtMost}
+use Rattle.answer.proofs.Numbers.{most-end}
+use Rattle.answer.proofs.Bounds.{gather-turn, gather-end}
 use Rattle.move_list.proofs.all_at_most.Statement.{statement}
 use Rattle.move_list.proofs.all_at_most.Tie as tie
 

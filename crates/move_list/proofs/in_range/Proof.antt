@@ -1,3 +1,4 @@
+-- `in_range` of lib.rt meets its contract: r ≡ listInRange (now (moves .entry)).
 use borrow.Author.Needs.{needs}
 use borrow.Author.Tests.{le-leb, lt-leb}
 use mathlib.Core.Path.{_∙_, sym}

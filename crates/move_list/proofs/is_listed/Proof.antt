@@ -1,9 +1,10 @@
+-- `is_listed` of lib.rt meets its contract: r ≡ among m (now (moves .entry)).
 use borrow.Author.Needs.{needs}
 use mathlib.Core.Path.{_≡_, _∙_, sym, refl}
 use native.Mathlib.Omega.{arith}
 use Prim.Native.Nat.{_-_, _≤_, zero-le}
 use lib.ListN.{length, drop}
-use Rattle.square.specs.Numbers.{among}
+use Rattle.answer.specs.Numbers.{among}
 use Rattle.move_list.proofs.Listed.{listed-turn, listed-stop, listed-end}
 use Rattle.move_list.proofs.is_listed.Statement.{statement}
 use Rattle.move_list.proofs.is_listed.Tie as tie

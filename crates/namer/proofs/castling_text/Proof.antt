@@ -1,3 +1,4 @@
+-- `castling_text` of lib.rt meets its contract: Found (castlingName side m) (now (bytes .exit)) r.
 use borrow.Author.Needs.{needs}
 use borrow.Author.Tests.{eq-eqb, ne-eqb}
 use lib.Dec.{lit≤}

@@ -1,5 +1,6 @@
+-- `first_check` of lib.rt meets its contract: r ≡ firstCheck board list listed.
 use borrow.Author.Tests.{not-true, not-false}
-use Rattle.namer.specs.Tries.{firstCheck}
+use Rattle.namer.specs.CodeTries.{firstCheck}
 use Rattle.namer.proofs.first_check.Statement.{statement}
 use Rattle.namer.proofs.first_check.Tie as tie
 

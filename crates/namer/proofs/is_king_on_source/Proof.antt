@@ -1,3 +1,4 @@
+-- `is_king_on_source` of lib.rt meets its contract: r ≡ isKing (now (pieces .entry)) m.
 use borrow.Author.Needs.{needs}
 use Rattle.namer.proofs.is_king_on_source.Statement.{statement}
 use Rattle.namer.proofs.is_king_on_source.Tie as tie

@@ -1,3 +1,4 @@
+-- `king_name` of lib.rt meets its contract: Found (kingName (boardWith side (now (pieces .entry))) m) (now (bytes .exit)) r.
 use borrow.Author.Needs.{needs}
 use mathlib.Core.Path.{sym, _∙_}
 use Rattle.namer.proofs.Finds.{found-none}

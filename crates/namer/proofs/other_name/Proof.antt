@@ -1,3 +1,5 @@
+-- `other_name` of lib.rt meets its contract: Found (otherNames standard (boardWith side (now (pieces .entry))) (now (moves .entry)) m (changesFiles (now
+-- (pieces .entry)) m)) (now (bytes .exit)) r.
 use borrow.Author.Needs.{needs}
 use mathlib.Core.Path.{sym, _∙_}
 use Rattle.namer.proofs.other_name.Statement.{statement}

@@ -1,3 +1,4 @@
+-- `check` of lib.rt meets its contract: r ≡ check (now (text .entry)).
 use borrow.Author.Needs.{needs}
 use mathlib.Core.Path.{ap, _∙_}
 use mathlib.Core.List.{[]}
@@ -5,7 +6,7 @@ use Prim.Native.Nat.{zero-le}
 use lib.ListN.{length}
 use borrow.Author.Tests.{le-ltb}
 use Rattle.pgn_text.specs.Walk.{check, walk, walkFrom}
-use Rattle.pgn.specs.Walkers.{countOf}
+use Rattle.pgn.specs.CodeWalkers.{countOf}
 use Rattle.pgn.proofs.Walkers.{counted-of}
 use Rattle.pgn.proofs.check.Statement.{statement}
 use Rattle.pgn.proofs.check.Tie as tie

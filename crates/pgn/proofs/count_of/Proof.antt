@@ -1,6 +1,7 @@
+-- `count_of` of lib.rt meets its contract: r ≡ countOf w.
 use borrow.Author.Needs.{needs}
 use mathlib.Core.Path.{sym, ap, _∙_}
-use Rattle.pgn.specs.Walkers.{countOf}
+use Rattle.pgn.specs.CodeWalkers.{countOf}
 use Rattle.pgn.proofs.count_of.Statement.{statement}
 use Rattle.pgn.proofs.count_of.Tie as tie
 

@@ -1,3 +1,4 @@
+-- `end_count` of lib.rt meets its contract: r ≡ endCount counted number offset.
 use borrow.Author.Tests.{eq-eqb, ne-eqb}
 use Rattle.pgn_text.specs.Walk.{endCount}
 use Rattle.pgn.proofs.end_count.Statement.{statement}

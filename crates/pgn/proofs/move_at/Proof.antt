@@ -1,3 +1,4 @@
+-- `move_at` of lib.rt meets its contract: r ≡ moveAt start length level.
 use mathlib.Core.Path.{refl}
 use Rattle.pgn_text.specs.Walk.{moveAt}
 use Rattle.pgn.proofs.move_at.Statement.{statement}

@@ -1,6 +1,7 @@
+-- `move_of` of lib.rt meets its contract: r ≡ moveOf w.
 use borrow.Author.Needs.{needs}
 use mathlib.Core.Path.{sym, ap, _∙_}
-use Rattle.pgn.specs.Walkers.{moveOf}
+use Rattle.pgn.specs.CodeWalkers.{moveOf}
 use Rattle.pgn.proofs.move_of.Statement.{statement}
 use Rattle.pgn.proofs.move_of.Tie as tie
 

@@ -1,10 +1,11 @@
+-- `next` of lib.rt meets its contract: r ≡ next (now (text .entry)) offset level.
 use borrow.Author.Needs.{needs}
 use mathlib.Core.Path.{sym, ap, _∙_}
 use native.Mathlib.Omega.{arith}
 use lib.ListN.{drop, replicate, length-replicate}
 use borrow.Author.Tests.{lt-ltb, le-ltb}
 use Rattle.pgn_text.specs.Walk.{next, first, walk, walkFrom}
-use Rattle.pgn.specs.Walkers.{moveOf}
+use Rattle.pgn.specs.CodeWalkers.{moveOf}
 use Rattle.pgn.proofs.Walkers.{first-of, near-told}
 use Rattle.pgn.proofs.next.Statement.{statement}
 use Rattle.pgn.proofs.next.Tie as tie

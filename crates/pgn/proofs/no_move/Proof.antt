@@ -1,3 +1,4 @@
+-- `no_move` of lib.rt meets its contract: r ≡ noMove number offset.
 use mathlib.Core.Path.{refl}
 use Rattle.pgn_text.specs.Walk.{noMove}
 use Rattle.pgn.proofs.no_move.Statement.{statement}

@@ -1,3 +1,4 @@
+-- `part` of lib.rt meets its contract: now r ≡ part (now (text .entry)) start size.
 use borrow.Author.Needs.{needs}
 use mathlib.Core.Path.{ap, _∙_}
 use lib.ListN.{take}

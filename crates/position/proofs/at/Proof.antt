@@ -1,7 +1,8 @@
+-- `at` of lib.rt meets its contract: now r ≡ item positionSize (now (ps .entry)) k.
 use borrow.Author.Needs.{needs}
 use native.Mathlib.Omega.{arith}
 use mathlib.Core.Path.{sym}
-use Rattle.square.proofs.Parts.{item-past, item-cut}
+use Rattle.answer.proofs.Parts.{item-past, item-cut}
 use Rattle.position.specs.Layout.{positionSize}
 use Rattle.position.proofs.at.Statement.{statement}
 use Rattle.position.proofs.at.Tie as tie

@@ -1,3 +1,4 @@
+-- `equal_places` of lib.rt meets its contract: r ≡ equalPlaces (now (ps .entry)) first last.
 use mathlib.Core.Path.{sym}
 use native.Mathlib.Omega.{arith}
 use Rattle.position.proofs.PlacesOf.{places-not-there, places-there, no-places}

@@ -1,3 +1,4 @@
+-- `equals_two_earlier` of lib.rt meets its contract: r ≡ equalsTwoEarlier (now (ps .entry)) first last.
 use mathlib.Core.Path.{sym, _∙_}
 use native.Mathlib.Omega.{arith}
 use Rattle.position.proofs.Repeats.{not-there, there, none-earlier}

@@ -1,3 +1,5 @@
+-- `places_from` of lib.rt meets its contract: r ≡ placesTold (placesOf (positionAt (now (ps .entry)) last) last (positionsFrom (now (ps .entry)) first
+-- (last - first))).
 use mathlib.Core.Path.{_≡_, refl}
 use Prim.Native.Nat.{_≤_, _-_}
 use native.Mathlib.Omega.{arith}

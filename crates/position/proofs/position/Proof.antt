@@ -1,7 +1,8 @@
+-- `position` of lib.rt meets its contract: IsItem positionSize (now (ps .entry)) k (now r).
 use Rattle.position.specs.Layout.{positionSize}
 use Prim.Native.Nat.{_+_, _*_, _-_}
 use mathlib.Core.Path.{_≡_}
-use Rattle.square.proofs.Parts.{length-item}
+use Rattle.answer.proofs.Parts.{length-item}
 use native.Mathlib.Omega.{arith}
 use borrow.Author.Needs.{needs}
 use Rattle.position.proofs.position.Statement.{statement}

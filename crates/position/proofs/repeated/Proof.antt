@@ -1,3 +1,4 @@
+-- `repeated` of lib.rt meets its contract: r ≡ leb 2 (times (positionAt (now (ps .entry)) last) (positionsFrom (now (ps .entry)) first (last - first))).
 use mathlib.Core.Path.{_≡_, refl, sym, _∙_}
 use mathlib.Core.Bool.{false}
 use mathlib.Core.Logic.{⊎-elim}

@@ -1,3 +1,4 @@
+-- `same_position` of lib.rt meets its contract: r ≡ equal (positionOf (now (p .entry))) (positionOf (now (q .entry))).
 use mathlib.Core.Path.{sym, _∙_}
 use native.Mathlib.Omega.{arith}
 use borrow.Author.Needs.{needs}

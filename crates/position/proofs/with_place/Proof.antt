@@ -1,3 +1,4 @@
+-- `with_place` of lib.rt meets its contract: ((l : List ℕ) → found ≡ placesTold l → r ≡ placesTold (l ++ cond «is_equal» (i ∷ []) [])).
 use borrow.Author.Tests.{not-true, not-false}
 use native.Mathlib.Omega.{arith}
 use Rattle.position.proofs.PlacesOf.{told-other, told-first, told-second, told-more}

@@ -1,3 +1,4 @@
+-- `call` of main.rt is safe and ends.
 use borrow.Author.Needs.{needs}
 use Rattle.replay.proofs.call.Statement.{statement}
 use Rattle.replay.proofs.call.Tie as tie

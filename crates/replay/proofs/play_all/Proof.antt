@@ -1,3 +1,4 @@
+-- `play_all` of main.rt is safe and ends.
 use borrow.Author.Needs.{needs}
 use mathlib.Core.Path.{_≡_}
 use Prim.Native.Nat.{_≤_}

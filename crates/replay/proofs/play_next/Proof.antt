@@ -1,3 +1,4 @@
+-- `play_next` of main.rt meets its contract: (r .input .at ≤ r .input .end) × (r .input .end ≤ length (now (block .entry))).
 use borrow.Author.Needs.{needs}
 use mathlib.Core.Path.{sym}
 use lib.Seq.{length-take-le}

@@ -1,3 +1,4 @@
+-- Together with its recursion, `read_groups` of lib.rt meets its contract: r ≡ readGroups k (now (s .entry)).
 use Prim.Native.Nat.{ℕ, _<_}
 use native.Mathlib.Omega.{arith}
 use borrow.Author.Needs.{needs}
@@ -7,7 +8,7 @@ use borrow.Fn.PlainCycle.{Measures, is, falls, and}
 use Rattle.roll_reader.proofs.read_groups.Reads as read-groups
 use Rattle.roll_reader.proofs.read_groups.Kinds as read-groups-kinds
 use Rattle.roll_reader.proofs.+read_groups.Lts-read_groups as read-groups-lts
-use Rattle.square.proofs.rest.Reads as rest-reads
+use Rattle.answer.proofs.rest.Reads as rest-reads
 use Rattle.roll_reader.proofs.+read_groups.{statement}
 use Rattle.roll_reader.proofs.+read_groups.Tie.{close}
 

@@ -1,3 +1,4 @@
+-- `board_at` of lib.rt meets its contract: r ≡ boardOf (now (s .entry)).
 use mathlib.Core.Path.{_≡_, refl, ap}
 use native.Mathlib.Omega.{arith}
 use Prim.Native.Nat.{ℕ, _-_, _≤_}

@@ -1,3 +1,4 @@
+-- `check` of lib.rt meets its contract: r ≡ checked (readRoll limits (now (s .entry))).
 use borrow.Author.Needs.{needs}
 use native.Mathlib.Omega.{arith}
 use Rattle.roll_reader.proofs.Answers.{bad-record, no-count, over-count, at-actions, bad-actions, accepted-actions}

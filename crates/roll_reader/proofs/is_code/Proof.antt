@@ -1,3 +1,4 @@
+-- `is_code` of lib.rt meets its contract: r ≡ isCode code.
 use mathlib.Core.Path.{sym, ap}
 use borrow.Author.Tests.{ne-eqb}
 use Rattle.roll_text.specs.Roll.{isCode}

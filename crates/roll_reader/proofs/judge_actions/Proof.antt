@@ -1,3 +1,4 @@
+-- `judge_actions` of lib.rt meets its contract: r ≡ actsNumber (readActions n most (now (s .entry))).
 use borrow.Author.Needs.{needs}
 use mathlib.Core.Path.{_≡_, ap, sym, _∙_}
 use native.Mathlib.Omega.{arith}

@@ -1,3 +1,4 @@
+-- `judge_numbers` of lib.rt meets its contract: r ≡ frontNumber (readNumbers largestNumbers (now (s .entry))).
 use mathlib.Core.Path.{_≡_, refl}
 use native.Mathlib.Omega.{arith}
 use Prim.Native.Nat.{_-_, _≤_}

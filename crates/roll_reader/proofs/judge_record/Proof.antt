@@ -1,3 +1,4 @@
+-- `judge_record` of lib.rt meets its contract: r ≡ frontNumber (readNumbers largestNumbers (now (s .entry))).
 use borrow.Author.Needs.{needs}
 use mathlib.Core.Path.{sym, _∙_}
 use Rattle.roll_reader.proofs.Fronts.{record-there}

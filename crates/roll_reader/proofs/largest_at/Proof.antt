@@ -1,3 +1,4 @@
+-- `largest_at` of lib.rt meets its contract: r ≡ getD largestNumbers i 0.
 use Rattle.roll_reader.proofs.Laws.{a-square, the-side, the-rights, the-file}
 use Rattle.roll_reader.proofs.largest_at.Statement.{statement}
 use Rattle.roll_reader.proofs.largest_at.Tie as tie

@@ -1,3 +1,4 @@
+-- `put_action` of lib.rt meets its contract: now (out .exit) ≡ written (now (out .entry)) to (fields kind colour number).
 use borrow.Author.Needs.{needs}
 use native.Mathlib.Omega.{arith}
 use lib.ListN.{length-set}

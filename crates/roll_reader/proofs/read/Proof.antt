@@ -1,3 +1,5 @@
+-- `read` of lib.rt meets its contract: r ≡ rollAnswer (judged limits (now (s .entry)) (length (now (part .entry)))); now (part .exit) ≡ rollOver (judged
+-- limits (now (s .entry)) (length (now (part .entry)))) (now (part .entry)).
 use borrow.Author.Needs.{needs}
 use mathlib.Core.Path.{ap, sym, _∙_}
 use native.Mathlib.Omega.{arith}

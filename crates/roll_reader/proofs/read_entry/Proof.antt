@@ -1,3 +1,4 @@
+-- `read_entry` of lib.rt meets its contract: r ≡ readEntry full (now (s .entry)).
 use borrow.Author.Needs.{needs}
 use mathlib.Core.Path.{sym, _∙_}
 use native.Mathlib.Omega.{arith}

@@ -1,3 +1,4 @@
+-- `refusal` of lib.rt meets its contract: r ≡ rollAnswer (refusal number).
 use borrow.Author.Needs.{needs}
 use Rattle.roll_text.specs.Calls.{rollAnswer}
 use Rattle.roll_reader.proofs.refusal.Statement.{statement}

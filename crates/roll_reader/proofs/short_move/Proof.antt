@@ -1,3 +1,4 @@
+-- `short_move` of lib.rt meets its contract: ShortMove (now (s .entry)) at left r.
 use borrow.Author.Needs.{needs}
 use native.Mathlib.Omega.{arith}
 use Rattle.roll_reader.proofs.Short.{no-short, short}

@@ -1,3 +1,4 @@
+-- `write_actions` of lib.rt meets its contract: now (out .exit) ≡ actsOver (readActions n most (now (s .entry))) (now (out .entry)).
 use borrow.Author.Needs.{needs}
 use mathlib.Core.Path.{refl}
 use native.Mathlib.Omega.{arith}

@@ -1,8 +1,10 @@
+-- Together with its recursion, `put_groups` of lib.rt meets its contract: r ≡ at + length (groups k n); now (out .exit) ≡ written (now (out .entry)) at
+-- (groups k n).
 use Prim.Native.Nat.{ℕ, _<_}
 use mathlib.Core.Path.{ap, _∙_}
 use native.Mathlib.Omega.{arith}
 use lib.ListN.{length, length-set}
-use Rattle.square.proofs.Parts.{set-written, length-written}
+use Rattle.answer.proofs.Parts.{set-written, length-written}
 use borrow.Author.Needs.{needs}
 use Rattle.roll_text.specs.Number.{groups}
 use Rattle.roll_writer.proofs.Laws.{one-group, group-and-more, reach-next, put-done}

@@ -1,10 +1,11 @@
+-- `action_size` of lib.rt meets its contract: (r ≡ sizeAt (drop at (now (acts .entry)))) × (r ≤ 4).
 use borrow.Author.Needs.{needs}
 use mathlib.Core.Path.{ap, sym, _∙_}
 use native.Mathlib.Omega.{arith}
 use lib.ListN.{take, drop}
 use Rattle.action.specs.Layout.{actionSize}
 use Rattle.roll_text.specs.declared.Fields.{Fields}
-use Rattle.roll_writer.specs.Sizes.{moveSize}
+use Rattle.roll_writer.specs.CodeSizes.{moveSize}
 use Rattle.roll_writer.proofs.Sized.{four-there, at-move, at-plain, plain-few}
 use Rattle.roll_writer.proofs.action_size.Statement.{statement}
 use Rattle.roll_writer.proofs.action_size.Tie as tie

@@ -1,3 +1,4 @@
+-- `actions_size` of lib.rt meets its contract: (r ≡ actionsSize n (now (acts .entry))) × (r ≤ 1 + 4 * n).
 use native.Mathlib.Omega.{arith}
 use Prim.Native.Nat.{_-_}
 use Rattle.roll_writer.proofs.Sized.{SizedSo, sized-none, sized-more, sized-stop, sized-all}

@@ -1,3 +1,4 @@
+-- `fields_at` of lib.rt meets its contract: r ≡ fieldsAt (drop at (now (acts .entry))).
 use borrow.Author.Needs.{needs}
 use Rattle.roll_writer.proofs.Sized.{fields-of}
 use Rattle.roll_writer.proofs.fields_at.Statement.{statement}

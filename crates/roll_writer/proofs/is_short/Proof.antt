@@ -1,3 +1,4 @@
+-- `is_short` of lib.rt meets its contract: (r ≡ true → Short kind colour number).
 use mathlib.Core.Bool.{false≢true}
 use borrow.Author.Tests.{ltb-true}
 use Rattle.roll_writer.proofs.is_short.Statement.{statement}

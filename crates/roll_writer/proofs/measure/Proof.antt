@@ -1,3 +1,4 @@
+-- `measure` of lib.rt meets its contract: r ≡ measured (writeCheck limits b (now (acts .entry)) n) (gameText b (now (acts .entry)) n).
 use borrow.Author.Needs.{needs}
 use mathlib.Core.Path.{sym, _∙_}
 use native.Mathlib.Omega.{arith}

@@ -1,3 +1,4 @@
+-- `move_size` of lib.rt meets its contract: (r ≡ moveSize colour number) × (r ≤ 4).
 use borrow.Author.Needs.{needs}
 use mathlib.Core.Path.{ap, _∙_}
 use native.Mathlib.Omega.{arith}

@@ -1,3 +1,4 @@
+-- `number_length` of lib.rt meets its contract: r ≡ length (numberText n).
 use Rattle.roll_writer.proofs.Laws.{one-byte, two-bytes, three-bytes}
 use Rattle.roll_writer.proofs.number_length.Statement.{statement}
 use Rattle.roll_writer.proofs.number_length.Tie as tie

@@ -1,3 +1,4 @@
+-- `plain_size` of lib.rt meets its contract: r ≡ plainSize (now (bytes .entry)).
 use borrow.Author.Needs.{needs}
 use mathlib.Core.Path.{ap, sym, _∙_}
 use Rattle.action.specs.declared.Stored.{Stored}

@@ -1,3 +1,4 @@
+-- `put` of lib.rt meets its contract: now (out .exit) ≡ written (now (out .entry)) 0 (gameText b (now (acts .entry)) n).
 use borrow.Author.Needs.{needs}
 use mathlib.Core.Path.{refl}
 use native.Mathlib.Omega.{arith}

@@ -1,8 +1,9 @@
+-- `put_actions` of lib.rt meets its contract: now (out .exit) ≡ written (now (out .entry)) from (actionsText n (now (acts .entry))).
 use mathlib.Core.Path.{refl, ap, _∙_}
 use native.Mathlib.Omega.{arith}
 use Prim.Native.Nat.{_+_, _*_, _-_, _≤_}
 use lib.ListN.{length, drop}
-use Rattle.square.specs.Parts.{written}
+use Rattle.answer.specs.Parts.{written}
 use Rattle.roll_text.specs.declared.Fields.{Fields}
 use Rattle.roll_text.specs.Roll.{actionText}
 use Rattle.roll_writer.proofs.Counting.{SoFar, so-far-none, so-far-fits, so-far-more, so-far-all, so-far-length}

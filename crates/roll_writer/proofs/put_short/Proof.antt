@@ -1,9 +1,11 @@
+-- `put_short` of lib.rt meets its contract: r ≡ at + length (actionText 1 0 number); now (out .exit) ≡ written (now (out .entry)) at (actionText 1 0
+-- number).
 use borrow.Author.Needs.{needs}
 use mathlib.Core.Path.{ap, sym, _∙_}
 use native.Mathlib.Omega.{arith}
 use Prim.Native.Nat.{_+_}
 use lib.ListN.{length}
-use Rattle.square.specs.Parts.{written}
+use Rattle.answer.specs.Parts.{written}
 use mathlib.Core.Path.{ap, sym, _∙_}
 use lib.ListN.{length-set}
 use Prim.Native.Nat.{_/_, _%_}

@@ -1,10 +1,12 @@
+-- `put_text` of lib.rt meets its contract: r ≡ at + length (actionText kind colour number); now (out .exit) ≡ written (now (out .entry)) at (actionText
+-- kind colour number).
 use borrow.Author.Needs.{needs}
 use mathlib.Core.Path.{refl, ap, ap₂, sym, _∙_}
 use native.Mathlib.Omega.{arith}
 use Prim.Native.Nat.{ℕ, _+_}
 use mathlib.Core.List.{List}
 use lib.ListN.{length}
-use Rattle.square.specs.Parts.{written}
+use Rattle.answer.specs.Parts.{written}
 use Rattle.roll_text.specs.Roll.{actionText}
 use Rattle.roll_text.proofs.Entries.{reach-five}
 use Rattle.roll_writer.proofs.Counting.{code-fits, number-fits, move-end, move-put, plain-is, plain-fits}

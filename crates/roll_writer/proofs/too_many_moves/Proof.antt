@@ -1,3 +1,4 @@
+-- `too_many_moves` of lib.rt meets its contract: r ≡ ltb (limits .most-moves) (movesIn (now (acts .entry)) n).
 use borrow.Author.Needs.{needs}
 use mathlib.Core.Path.{ap}
 use lib.Dec.{ltb}

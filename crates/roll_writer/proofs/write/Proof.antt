@@ -1,3 +1,5 @@
+-- `write` of lib.rt meets its contract: r ≡ writeAnswer (writeCheck limits b (now (acts .entry)) n) (gameText b (now (acts .entry)) n) (length (now (out
+-- .entry))); now (out .exit) ≡ writeBytes (writeCheck limits b (now (acts .entry)) n) (gameText b (now (acts .entry)) n) (now (out .entry)).
 use borrow.Author.Needs.{needs}
 use mathlib.Core.Path.{ap, sym, _∙_}
 use native.Mathlib.Omega.{arith}
@@ -5,9 +7,9 @@ use Rattle.game_rules.specs.Limits.{limits}
 use Rattle.roll_text.specs.Calls.{writeCheck, gameText}
 use Prim.Native.Nat.{_≤_}
 use lib.ListN.{length}
-use Rattle.square.specs.declared.Answer.{Answer}
-use Rattle.square.specs.Answer.{tooShort}
-use Rattle.square.proofs.Writes.{write-short, write-fits}
+use Rattle.answer.specs.declared.Answer.{Answer}
+use Rattle.answer.specs.Answer.{tooShort}
+use Rattle.answer.proofs.Writes.{write-short, write-fits}
 use Rattle.roll_writer.proofs.Sized.{not-accepted, was-accepted}
 use Rattle.roll_writer.proofs.Whole.{over-front}
 use Rattle.roll_writer.proofs.write.Statement.{statement}

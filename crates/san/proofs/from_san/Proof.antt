@@ -1,3 +1,4 @@
+-- `from_san` of lib.rt meets its contract: r ≡ fromSan board (now (moves .entry)) (now (text .entry)).
 use borrow.Author.Needs.{needs}
 use mathlib.Core.Bool.{false}
 use borrow.Author.Tests.{not-true, not-false}

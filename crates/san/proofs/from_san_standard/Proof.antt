@@ -1,3 +1,4 @@
+-- `from_san_standard` of lib.rt meets its contract: r ≡ fromSanStandard board (now (moves .entry)) (now (text .entry)).
 use borrow.Author.Needs.{needs}
 use mathlib.Core.Bool.{true}
 use borrow.Author.Tests.{not-true, not-false}

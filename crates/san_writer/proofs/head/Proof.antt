@@ -1,12 +1,13 @@
+-- `head` of lib.rt meets its contract: Put 12 (now (bytes .entry)) 0 (headText kind source file rank takes) (now (bytes .exit)) r.
 use borrow.Author.Needs.{needs}
 use mathlib.Core.Path.{ap, _∙_}
 use native.Mathlib.Omega.{arith}
-use Rattle.square.proofs.Pushes.{put-both, put-as}
+use Rattle.answer.proofs.Pushes.{put-both, put-as}
 use Prim.Native.Nat.{_+_, _%_, _/_}
 use Rattle.san_writer.proofs.Parts.{letter-piece, one-put}
 use mathlib.Core.Bool.{not}
 use lib.Dec.{eqb}
-use Rattle.san_writer.specs.Letters.{letterIf}
+use Rattle.san_writer.specs.CodeLetters.{letterIf}
 use Rattle.san_writer.proofs.head.Statement.{statement}
 use Rattle.san_writer.proofs.head.Tie as tie
 

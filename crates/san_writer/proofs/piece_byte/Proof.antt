@@ -1,7 +1,8 @@
+-- `piece_byte` of lib.rt meets its contract: r ≡ pieceByte kind.
 use borrow.Author.Needs.{needs}
 use borrow.Author.Tests.{eq-eqb, ne-eqb}
 use mathlib.Core.Path.{sym, _∙_}
-use Rattle.san_writer.specs.Letters.{pieceByte}
+use Rattle.san_writer.specs.CodeLetters.{pieceByte}
 use Rattle.san_writer.proofs.piece_byte.Statement.{statement}
 use Rattle.san_writer.proofs.piece_byte.Tie as tie
 

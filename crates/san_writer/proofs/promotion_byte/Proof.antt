@@ -1,6 +1,7 @@
+-- `promotion_byte` of lib.rt meets its contract: r ≡ promotionByte kind.
 use borrow.Author.Tests.{ne-eqb}
 use mathlib.Core.Path.{sym, ap}
-use Rattle.san_writer.specs.Letters.{promotionByte}
+use Rattle.san_writer.specs.CodeLetters.{promotionByte}
 use Rattle.san_writer.proofs.promotion_byte.Statement.{statement}
 use Rattle.san_writer.proofs.promotion_byte.Tie as tie
 

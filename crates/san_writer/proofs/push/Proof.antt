@@ -1,5 +1,6 @@
+-- `push` of lib.rt meets its contract: Put 12 (now (bytes .entry)) n (b ∷ []) (now (bytes .exit)) r.
 use borrow.Author.Needs.{needs}
-use Rattle.square.proofs.Pushes.{put-one}
+use Rattle.answer.proofs.Pushes.{put-one}
 use Rattle.san_writer.proofs.push.Statement.{statement}
 use Rattle.san_writer.proofs.push.Tie as tie
 

@@ -1,5 +1,6 @@
+-- `push_if` of lib.rt meets its contract: Put 12 (now (bytes .entry)) n (optional there (b ∷ [])) (now (bytes .exit)) r.
 use borrow.Author.Needs.{needs}
-use Rattle.square.proofs.Pushes.{put-none}
+use Rattle.answer.proofs.Pushes.{put-none}
 use Rattle.san_text.specs.Name.{optional}
 use Rattle.san_writer.proofs.push_if.Statement.{statement}
 use Rattle.san_writer.proofs.push_if.Tie as tie

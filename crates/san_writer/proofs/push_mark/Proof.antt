@@ -1,6 +1,7 @@
+-- `push_mark` of lib.rt meets its contract: Put 12 (now (bytes .entry)) n (optional there markText) (now (bytes .exit)) r.
 use borrow.Author.Tests.{not-true, not-false}
 use native.Mathlib.Omega.{arith}
-use Rattle.square.proofs.Pushes.{put-none, put-both}
+use Rattle.answer.proofs.Pushes.{put-none, put-both}
 use Rattle.san_text.specs.Name.{optional}
 use Rattle.san_writer.proofs.push_mark.Statement.{statement}
 use Rattle.san_writer.proofs.push_mark.Tie as tie

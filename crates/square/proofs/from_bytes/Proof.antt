@@ -1,3 +1,4 @@
+-- `from_bytes` of lib.rt meets its contract: r ≡ squareNamed a b.
 use borrow.Author.Needs.{needs}
 use borrow.Author.Tests.{le-leb, lt-leb}
 use native.Mathlib.Nat.{le-of-suc-le-suc}

@@ -1,3 +1,4 @@
+-- `from_str` of lib.rt meets its contract: r ≡ readSquare (now (text .entry)).
 use borrow.Author.Needs.{needs}
 use mathlib.Core.Path.{_∙_, sym}
 use Rattle.square.proofs.Squares.{read-short, read-pair}

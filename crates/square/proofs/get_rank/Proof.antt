@@ -1,3 +1,4 @@
+-- `get_rank` of lib.rt meets its contract: r ≡ rankOf square.
 use borrow.Author.Needs.{needs}
 use borrow.Author.Tests.{lt-ltb, le-ltb}
 use mathlib.Core.Path.{_∙_}

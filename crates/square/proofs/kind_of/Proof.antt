@@ -1,3 +1,4 @@
+-- `kind_of` of lib.rt meets its contract: r ≡ kindOf code.
 use borrow.Author.Needs.{needs}
 use borrow.Author.Tests.{le-leb, lt-leb}
 use Rattle.square.specs.Piece.{kindOf}

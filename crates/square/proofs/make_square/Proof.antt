@@ -1,3 +1,4 @@
+-- `make_square` of lib.rt meets its contract: r ≡ makeSquare rank file.
 use borrow.Author.Needs.{needs}
 use borrow.Author.Tests.{lt-ltb, le-ltb}
 use mathlib.Core.Path.{_∙_}

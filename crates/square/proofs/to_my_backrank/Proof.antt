@@ -1,3 +1,4 @@
+-- `to_my_backrank` of lib.rt meets its contract: r ≡ backRank color.
 use borrow.Author.Needs.{needs}
 use borrow.Author.Tests.{lt-ltb, le-ltb}
 use mathlib.Core.Path.{_∙_}

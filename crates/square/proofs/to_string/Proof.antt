@@ -1,10 +1,12 @@
+-- `to_string` of lib.rt meets its contract: r ≡ writeAnswer (squareCheck square) (squareText square) (length (now (out .entry))); now (out .exit) ≡
+-- writeBytes (squareCheck square) (squareText square) (now (out .entry)).
 use borrow.Author.Needs.{needs}
 use borrow.Author.Tests.{lt-ltb, le-ltb}
 use mathlib.Core.Path.{_≡_, _∙_}
 use native.Mathlib.Omega.{arith}
 use Rattle.square.specs.Square.{squareText, squareCheck}
-use Rattle.square.proofs.Writes.{write-refused}
-use Rattle.square.proofs.Writes.{write-refused}
+use Rattle.answer.proofs.Writes.{write-refused}
+use Rattle.answer.proofs.Writes.{write-refused}
 use Rattle.square.proofs.to_string.Statement.{statement}
 use Rattle.square.proofs.to_string.Tie as tie
 

@@ -1,3 +1,4 @@
+-- `told` of lib.rt meets its contract: r ≡ told start long pair.
 use borrow.Author.Needs.{needs}
 use Rattle.square.specs.Square.{told}
 use Rattle.square.proofs.told.Statement.{statement}

@@ -1,3 +1,4 @@
+-- `check` of lib.rt meets its contract: r ≡ positionCheck (positionGiven b in_check (now (list .entry))).
 use mathlib.Core.Path.{_≡_, sym, _∙_}
 use mathlib.Core.Bool.{true, false}
 use native.Mathlib.Omega.{arith}

@@ -1,9 +1,10 @@
+-- `has_move` of lib.rt meets its contract: r ≡ among m (movesFrom (now (s .entry)) movesAt entries).
 use borrow.Author.Needs.{needs}
 use mathlib.Core.Path.{_≡_, sym, ap, _∙_}
 use mathlib.Core.Bool.{Bool, _||_}
 use native.Mathlib.Omega.{arith}
 use Prim.Native.Nat.{_+_, _*_, _-_, _≤_, zero-le}
-use Rattle.square.specs.Numbers.{among}
+use Rattle.answer.specs.Numbers.{among}
 use Rattle.position.specs.Layout.{movesAt, movesFrom}
 use Rattle.stored_position.proofs.Listing.{movesLeft}
 use Rattle.stored_position.proofs.Blocks.{look-start, look-turn, look-end}

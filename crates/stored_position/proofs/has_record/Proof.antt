@@ -1,8 +1,9 @@
+-- `has_record` of lib.rt meets its contract: r ≡ recordFits (now (s .entry)).
 use borrow.Author.Needs.{needs}
 use mathlib.Core.Path.{sym, _∙_}
 use native.Mathlib.Omega.{arith}
 use lib.ListN.{length-take}
-use Rattle.stored_position.specs.ByParts.{recordFits}
+use Rattle.stored_position.specs.CodeParts.{recordFits}
 use Rattle.stored_position.proofs.Known.{short-record}
 use Rattle.stored_position.proofs.has_record.Statement.{statement}
 use Rattle.stored_position.proofs.has_record.Tie as tie

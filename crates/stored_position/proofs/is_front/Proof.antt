@@ -1,3 +1,4 @@
+-- `is_front` of lib.rt meets its contract: r ≡ frontFits (now (s .entry)).
 use borrow.Author.Needs.{needs}
 use mathlib.Core.Path.{_≡_, sym, _∙_}
 use mathlib.Core.Bool.{true, false}
@@ -5,7 +6,7 @@ use native.Mathlib.Omega.{arith}
 use lib.ListN.{take, length-take}
 use borrow.Author.Tests.{eq-eqb, ne-eqb, not-true, not-false}
 use Rattle.board_builder.specs.BoardBuilder.{recordSize, numbersInRange}
-use Rattle.stored_position.specs.ByParts.{frontFits}
+use Rattle.stored_position.specs.CodeParts.{frontFits}
 use Rattle.stored_position.proofs.is_front.Statement.{statement}
 use Rattle.stored_position.proofs.is_front.Tie as tie
 

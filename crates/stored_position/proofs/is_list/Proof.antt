@@ -1,8 +1,9 @@
+-- `is_list` of lib.rt meets its contract: r ≡ listFits (now (s .entry)) entries.
 use borrow.Author.Needs.{needs}
 use mathlib.Core.Path.{sym, ap, _∙_}
 use Prim.Native.Nat.{_+_, _*_}
 use borrow.Author.Tests.{not-true, not-false}
-use Rattle.square.specs.Numbers.{allAtMost}
+use Rattle.answer.specs.Numbers.{allAtMost}
 use Rattle.position.specs.Layout.{movesAt}
 use Rattle.stored_position.proofs.Blocks.{part-to-end, not-moves, by-past}
 use Rattle.stored_position.proofs.is_list.Statement.{statement}

@@ -1,10 +1,11 @@
+-- `is_position` of lib.rt meets its contract: r ≡ isPosition (now (s .entry)).
 use borrow.Author.Needs.{needs}
 use mathlib.Core.Path.{_≡_, sym, _∙_}
 use mathlib.Core.Bool.{true}
 use native.Mathlib.Omega.{arith}
 use borrow.Author.Tests.{not-true, not-false}
 use Rattle.position.specs.Layout.{lengthAt}
-use Rattle.stored_position.specs.ByParts.{frontFits}
+use Rattle.stored_position.specs.CodeParts.{frontFits}
 use Rattle.stored_position.proofs.Known.{front-whole, not-front, by-front}
 use Rattle.stored_position.proofs.is_position.Statement.{statement}
 use Rattle.stored_position.proofs.is_position.Tie as tie

@@ -1,3 +1,4 @@
+-- `is_rest` of lib.rt meets its contract: r ≡ restFits (now (s .entry)).
 use borrow.Author.Needs.{needs}
 use borrow.Author.Tests.{eq-eqb, ne-eqb}
 use Rattle.stored_position.proofs.is_rest.Statement.{statement}

@@ -1,10 +1,11 @@
+-- `is_rest_with` of lib.rt meets its contract: r ≡ restFitsWith (now (s .entry)) m.
 use borrow.Author.Needs.{needs}
 use mathlib.Core.Path.{_≡_, sym, _∙_}
 use mathlib.Core.Bool.{true}
 use native.Mathlib.Omega.{arith}
 use borrow.Author.Tests.{not-true, not-false}
 use Rattle.position.specs.Layout.{lengthAt}
-use Rattle.stored_position.specs.ByParts.{restFits, restFitsWith}
+use Rattle.stored_position.specs.CodeParts.{restFits, restFitsWith}
 use Rattle.stored_position.proofs.Known.{rest-whole, rest-so}
 use Rattle.stored_position.proofs.is_rest_with.Statement.{statement}
 use Rattle.stored_position.proofs.is_rest_with.Tie as tie

@@ -1,3 +1,4 @@
+-- `is_short_list` of lib.rt meets its contract: r ≡ listFits (now (s .entry)) entries.
 use borrow.Author.Needs.{needs}
 use mathlib.Core.Path.{_≡_, sym, ap, _∙_}
 use mathlib.Core.Bool.{true}
@@ -5,7 +6,7 @@ use native.Mathlib.Omega.{arith}
 use Prim.Native.Nat.{ℕ, _+_, _*_, _-_}
 use lib.ListN.{take, drop}
 use borrow.Author.Tests.{not-true, not-false}
-use Rattle.square.specs.Numbers.{allAtMost}
+use Rattle.answer.specs.Numbers.{allAtMost}
 use Rattle.chess_move.specs.Number.{lastMove}
 use Rattle.position.specs.Layout.{movesAt}
 use Rattle.stored_position.proofs.Blocks.{behind, part-to-end, not-near, far, not-past, by-moves, block-range}

@@ -1,8 +1,9 @@
+-- `lists` of lib.rt meets its contract: r ≡ listsMove (now (s .entry)) m.
 use mathlib.Core.Path.{_≡_, sym, _∙_}
 use native.Mathlib.Omega.{arith}
 use Prim.Native.Nat.{_-_, _≤_, zero-le}
 use lib.ListN.{getD}
-use Rattle.square.specs.Numbers.{among}
+use Rattle.answer.specs.Numbers.{among}
 use Rattle.position.specs.Layout.{lengthAt}
 use Rattle.stored_position.specs.Bytes.{listsMove}
 use borrow.Author.Needs.{needs}

@@ -1,3 +1,4 @@
+-- `moves_in_range` of lib.rt meets its contract: r ≡ allAtMost lastMove (movesFrom (now (s .entry)) movesAt entries).
 use borrow.Author.Needs.{needs}
 use mathlib.Core.Path.{_≡_, sym, ap, _∙_}
 use mathlib.Core.Bool.{_&&_}
@@ -5,8 +6,8 @@ use native.Mathlib.Omega.{arith}
 use Prim.Native.Nat.{ℕ, _+_, _*_, _-_, _≤_, zero-le}
 use lib.Bits.{bitOr}
 use lib.Dec.{eqb}
-use Rattle.square.specs.Numbers.{allAtMost}
-use Rattle.square.proofs.Bounds.{gather-end}
+use Rattle.answer.specs.Numbers.{allAtMost}
+use Rattle.answer.proofs.Bounds.{gather-end}
 use Rattle.chess_move.specs.Number.{lastMove}
 use Rattle.position.specs.Layout.{movesAt, movesFrom}
 use Rattle.stored_position.proofs.Listing.{movesLeft}

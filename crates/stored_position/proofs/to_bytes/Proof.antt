@@ -1,3 +1,6 @@
+-- `to_bytes` of lib.rt meets its contract: r ≡ writeAnswer (positionCheck (positionGiven b in_check (now (list .entry)))) (positionBytes (positionGiven b
+-- in_check (now (list .entry)))) (length (now (out .entry))); now (out .exit) ≡ writeBytes (positionCheck (positionGiven b in_check (now (list .entry))))
+-- (positionBytes (positionGiven b in_check (now (list .entry)))) (now (out .entry)).
 use borrow.Author.Needs.{needs}
 use mathlib.Core.Path.{sym, _∙_}
 use Rattle.stored_position.specs.Bytes.{positionGiven}

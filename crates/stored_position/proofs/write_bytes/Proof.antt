@@ -1,11 +1,12 @@
+-- `write_bytes` of lib.rt meets its contract: now (out .exit) ≡ written (now (out .entry)) at (now (bytes .entry)).
 use mathlib.Core.Path.{_≡_, refl, ap, _∙_}
 use mathlib.Core.List.{List}
 use native.Mathlib.Omega.{arith}
 use Prim.Native.Nat.{ℕ, _+_, _-_, _≤_}
 use lib.ListN.{length, set, take, getD, length-set}
 use lib.Seq.{take-all}
-use Rattle.square.specs.Parts.{written}
-use Rattle.square.proofs.Parts.{written-none, bytes-turn}
+use Rattle.answer.specs.Parts.{written}
+use Rattle.answer.proofs.Parts.{written-none, bytes-turn}
 use Rattle.stored_position.proofs.write_bytes.Statement.{statement}
 use Rattle.stored_position.proofs.write_bytes.Tie as tie
 

@@ -1,3 +1,5 @@
+-- `write_position` of lib.rt meets its contract: now (out .exit) ≡ written (now (out .entry)) 0 (positionBytes (positionGiven b in_check (now (list
+-- .entry)))).
 use borrow.Author.Needs.{needs}
 use mathlib.Core.Path.{_≡_}
 use lib.ListN.{length}

@@ -1,3 +1,4 @@
+-- `write_record` of lib.rt meets its contract: now (out .exit) ≡ written (now (out .entry)) 0 (numbers b).
 use mathlib.Core.Path.{_≡_}
 use native.Mathlib.Omega.{arith}
 use lib.ListN.{length}

@@ -1,10 +1,11 @@
+-- `write_zeros` of lib.rt meets its contract: now (out .exit) ≡ written (now (out .entry)) from (replicate (to - from) 0).
 use mathlib.Core.Path.{_≡_, refl, ap, _∙_}
 use mathlib.Core.List.{List}
 use native.Mathlib.Omega.{arith}
 use Prim.Native.Nat.{ℕ, _-_, _≤_, max}
 use lib.ListN.{length, set, replicate, length-set}
-use Rattle.square.specs.Parts.{written}
-use Rattle.square.proofs.Parts.{written-none, zeros-turn}
+use Rattle.answer.specs.Parts.{written}
+use Rattle.answer.proofs.Parts.{written-none, zeros-turn}
 use Rattle.stored_position.proofs.write_zeros.Statement.{statement}
 use Rattle.stored_position.proofs.write_zeros.Tie as tie
 

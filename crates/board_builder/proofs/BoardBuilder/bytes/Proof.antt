@@ -1,10 +1,11 @@
+-- `BoardBuilder::bytes` of lib.rt meets its contract: r ≡ numbers self.
 use mathlib.Core.Path.{_≡_, refl}
 use native.Mathlib.Omega.{arith}
 use Prim.Native.Nat.{_-_, _≤_}
 use lib.ListN.{length, take, length-set}
 use borrow.Author.Needs.{needs, length-unmapped}
-use Rattle.square.specs.Parts.{written}
-use Rattle.square.proofs.Parts.{written-none}
+use Rattle.answer.specs.Parts.{written}
+use Rattle.answer.proofs.Parts.{written-none}
 use Rattle.board_builder.specs.BoardBuilder.{squares, recordSize}
 use Rattle.board_builder.proofs.Bytes.{square-more, put-together}
 use Rattle.board_builder.proofs.BoardBuilder.bytes.Statement.{statement}

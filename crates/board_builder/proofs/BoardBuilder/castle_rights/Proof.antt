@@ -1,3 +1,4 @@
+-- `BoardBuilder::castle_rights` of lib.rt meets its contract: r ≡ setRights self color rights.
 use borrow.Author.Needs.{needs}
 use borrow.Author.Tests.{le-leb, lt-leb, eq-eqb, ne-eqb, not-true, not-false}
 use mathlib.Core.Path.{_≡_, _∙_, sym}

@@ -1,3 +1,4 @@
+-- `BoardBuilder::clear_square` of lib.rt meets its contract: r ≡ clearSquare self square.
 use borrow.Author.Needs.{needs}
 use borrow.Author.Tests.{le-leb, lt-leb, not-true, not-false}
 use mathlib.Core.Path.{_≡_, _∙_, sym}

@@ -1,3 +1,4 @@
+-- `BoardBuilder::get_castle_rights` of lib.rt meets its contract: r ≡ rightsAnswer self color.
 use borrow.Author.Needs.{needs}
 use borrow.Author.Tests.{lt-leb, not-true, not-false}
 use mathlib.Core.Path.{_≡_, _∙_, sym}

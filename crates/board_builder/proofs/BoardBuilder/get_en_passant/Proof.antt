@@ -1,3 +1,4 @@
+-- `BoardBuilder::get_en_passant` of lib.rt meets its contract: r ≡ enPassantSquare self.
 use borrow.Author.Needs.{needs}
 use borrow.Author.Tests.{eq-eqb, ne-eqb, not-true, not-false}
 use mathlib.Core.Path.{_≡_, _∙_, sym}

@@ -1,3 +1,4 @@
+-- `BoardBuilder::get_piece` of lib.rt meets its contract: r ≡ pieceOn self square.
 use borrow.Author.Needs.{needs}
 use borrow.Author.Tests.{le-leb, lt-leb, not-true, not-false}
 use mathlib.Core.Path.{_≡_, _∙_, sym}

@@ -1,3 +1,4 @@
+-- `BoardBuilder::get_side_to_move` of lib.rt meets its contract: r ≡ sideAnswer self.
 use borrow.Author.Needs.{needs}
 use borrow.Author.Tests.{not-true, not-false}
 use mathlib.Core.Path.{_≡_, _∙_, sym}

@@ -1,3 +1,4 @@
+-- `BoardBuilder::in_range` of lib.rt meets its contract: r ≡ inRange self.
 use borrow.Author.Needs.{needs}
 use borrow.Author.Tests.{le-leb, lt-leb, eq-eqb}
 use mathlib.Core.Path.{_≡_, _∙_, sym}

@@ -1,3 +1,4 @@
+-- `BoardBuilder::piece` of lib.rt meets its contract: r ≡ setPiece self square code.
 use borrow.Author.Needs.{needs}
 use borrow.Author.Tests.{le-leb, lt-leb, eq-eqb, ne-eqb, not-true, not-false}
 use mathlib.Core.Path.{_≡_, _∙_, sym}

@@ -1,3 +1,4 @@
+-- `BoardBuilder::side_to_move` of lib.rt meets its contract: r ≡ setSide self color.
 use borrow.Author.Needs.{needs}
 use borrow.Author.Tests.{le-leb, lt-leb, not-true, not-false}
 use mathlib.Core.Path.{_≡_, _∙_, sym}

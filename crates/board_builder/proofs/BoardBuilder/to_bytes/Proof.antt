@@ -1,8 +1,10 @@
+-- `BoardBuilder::to_bytes` of lib.rt meets its contract: r ≡ writeAnswer 0 (numbers self) (length (now (out .entry))); now (out .exit) ≡ writeBytes 0
+-- (numbers self) (now (out .entry)).
 use mathlib.Core.Path.{ap, _∙_}
 use mathlib.Core.List.{List}
 use Prim.Native.Nat.{ℕ}
 use lib.ListN.{length}
-use Rattle.square.specs.Answer.{writeAnswer, writeBytes}
+use Rattle.answer.specs.Answer.{writeAnswer, writeBytes}
 use borrow.Author.Needs.{needs}
 use Rattle.board_builder.proofs.BoardBuilder.to_bytes.Statement.{statement}
 use Rattle.board_builder.proofs.BoardBuilder.to_bytes.Tie as tie

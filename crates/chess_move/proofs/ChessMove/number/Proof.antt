@@ -1,3 +1,4 @@
+-- `ChessMove::number` of lib.rt meets its contract: r ≡ numberAnswer self.
 use borrow.Author.Needs.{needs}
 use borrow.Author.Tests.{le-leb, lt-leb}
 use mathlib.Core.Path.{_∙_}

@@ -1,3 +1,4 @@
+-- `has_newline` of lines.rt meets its contract: r ≡ among lineFeed (now (block .entry)).
 use borrow.Author.Needs.{needs}
 use mathlib.Core.Path.{_≡_, refl, sym, ap, _∙_}
 use mathlib.Core.Bool.{not, _||_}
@@ -5,7 +6,7 @@ use Prim.Native.Nat.{ℕ, _+_, _-_, _≤_, zero-le}
 use lib.Bits.{bitOr}
 use lib.Dec.{eqb}
 use lib.ListN.{length, drop}
-use Rattle.square.specs.Numbers.{among}
+use Rattle.answer.specs.Numbers.{among}
 use Rattle.fen_text.specs.Lines.{lineFeed}
 use Rattle.fen_reader.proofs.Blocks.{found-turn, found-end}
 use Rattle.fen_reader.proofs.lines.has_newline.Statement.{statement}

@@ -1,3 +1,4 @@
+-- `line_count` of lines.rt meets its contract: r ≡ lineCount (now (text .entry)).
 use borrow.Author.Needs.{needs}
 use mathlib.Core.Path.{_≡_, sym, _∙_}
 use Prim.Native.Nat.{_+_, _<_}

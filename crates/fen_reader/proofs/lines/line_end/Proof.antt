@@ -1,3 +1,4 @@
+-- `line_end` of lines.rt meets its contract: r ≡ lineEnd (now (text .entry)) from.
 use borrow.Author.Needs.{needs}
 use mathlib.Core.Path.{_≡_, refl, sym}
 use Prim.Native.Nat.{_+_, _-_, _≤_, _<_}

@@ -1,3 +1,4 @@
+-- `newlines` of lines.rt meets its contract: r ≡ length (ended (now (text .entry))).
 use borrow.Author.Needs.{needs}
 use mathlib.Core.Path.{_≡_}
 use Prim.Native.Nat.{_+_, _-_, _≤_, _<_, zero-le}

@@ -1,3 +1,4 @@
+-- `past` of page.rt meets its contract: r ≡ cond (ltb end (length (now (text .entry)))) (end + 1) end.
 use borrow.Author.Needs.{needs}
 use borrow.Author.Tests.{lt-ltb, le-ltb}
 use Rattle.fen_reader.proofs.page.past.Statement.{statement}

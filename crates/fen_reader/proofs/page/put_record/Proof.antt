@@ -1,6 +1,7 @@
+-- `put_record` of page.rt meets its contract: now (records .exit) ≡ written (now (records .entry)) at (numbers board).
 use borrow.Author.Needs.{needs}
 use mathlib.Core.Path.{refl}
-use Rattle.square.proofs.Puts.{put-written}
+use Rattle.answer.proofs.Puts.{put-written}
 use Rattle.board_builder.specs.BoardBuilder.{numbers}
 use Rattle.fen_reader.proofs.page.put_record.Statement.{statement}
 use Rattle.fen_reader.proofs.page.put_record.Tie as tie

@@ -1,10 +1,11 @@
+-- `put_told` of page.rt meets its contract: now (told .exit) ≡ written (now (told .entry)) at (number ∷ offset ∷ []).
 use borrow.Author.Needs.{needs}
 use native.Mathlib.Omega.{arith}
 use mathlib.Core.Path.{_∙_, ap, refl}
 use mathlib.Core.List.{List, [], _∷_}
 use Prim.Native.Nat.{ℕ, _+_}
 use lib.ListN.{set, length-set}
-use Rattle.square.proofs.Parts.{set-written, written-next}
+use Rattle.answer.proofs.Parts.{set-written, written-next}
 use Rattle.fen_reader.proofs.page.put_told.Statement.{statement}
 use Rattle.fen_reader.proofs.page.put_told.Tie as tie
 

@@ -1,3 +1,5 @@
+-- `read_lines` of page.rt meets its contract: now (records .exit) ≡ overwrite (pageRecords (now (text .entry))) (now (records .entry)); now (told .exit) ≡
+-- overwrite (pageTold (now (text .entry))) (now (told .entry)).
 use borrow.Author.Needs.{needs}
 use Prim.Native.Nat.{_-_, _<_}
 use native.Mathlib.Omega.{arith}

@@ -1,10 +1,13 @@
+-- `read_page` of page.rt meets its contract: r ≡ pageAnswer (now (text .entry)) (length (now (records .entry))) (length (now (told .entry))); now (records
+-- .exit) ≡ recordsLeft (now (text .entry)) (now (records .entry)) (length (now (told .entry))); now (told .exit) ≡ toldLeft (now (text .entry)) (length
+-- (now (records .entry))) (now (told .entry)).
 use borrow.Author.Needs.{needs}
 use mathlib.Core.Path.{_≡_, ap, _∙_}
 use Prim.Native.Nat.{_*_, _≤_, _<_}
 use native.Mathlib.Omega.{arith}
 use lib.ListN.{length}
 use Rattle.board_builder.specs.BoardBuilder.{recordSize}
-use Rattle.square.specs.Answer.{accepted, tooShort}
+use Rattle.answer.specs.Answer.{accepted, tooShort}
 use Rattle.fen_text.specs.Page.{toldSize, lineCount}
 use Rattle.fen_text.proofs.Pages.{records-cut, told-cut, both-fit, page-refused, page-taken}
 use Rattle.fen_reader.proofs.page.read_page.Statement.{statement}

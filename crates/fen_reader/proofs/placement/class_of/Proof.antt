@@ -1,10 +1,11 @@
+-- `class_of` of placement.rt meets its contract: r ≡ classOf b.
 use borrow.Author.Needs.{needs}
 use borrow.Author.Tests.{le-leb, lt-leb, ne-eqb}
 use mathlib.Core.Path.{_≡_, sym, ap, _∙_}
 use native.Mathlib.Omega.{arith}
 use Prim.Native.Nat.{_+_, _-_, _≤_}
 use Rattle.square.specs.Piece.{pieceOf}
-use Rattle.fen_reader.specs.Class.{classOf}
+use Rattle.fen_reader.specs.CodeClass.{classOf}
 use Rattle.fen_reader.proofs.Classes.{class-digit, digit-small}
 use Rattle.fen_reader.proofs.placement.class_of.Statement.{statement}
 use Rattle.fen_reader.proofs.placement.class_of.Tie as tie

@@ -1,3 +1,4 @@
+-- `first_bad` of placement.rt meets its contract: r ≡ firstBad (now (token .entry)).
 use borrow.Author.Needs.{needs}
 use mathlib.Core.Path.{_≡_, sym, _∙_}
 use native.Mathlib.Omega.{arith}

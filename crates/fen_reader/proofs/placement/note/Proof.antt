@@ -1,3 +1,4 @@
+-- `note` of placement.rt meets its contract: now (classes .exit) ≡ set (now (classes .entry)) b (classOf b).
 use borrow.Author.Needs.{needs}
 use mathlib.Core.Path.{ap}
 use lib.ListN.{set}

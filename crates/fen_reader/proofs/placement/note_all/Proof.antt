@@ -1,6 +1,7 @@
+-- `note_all` of placement.rt meets its contract: now (classes .exit) ≡ noteAll signs (now (classes .entry)).
 use borrow.Author.Needs.{needs}
-use Rattle.square.specs.Ascii.{ascii}
-use Rattle.fen_reader.specs.Class.{noteAll}
+use Rattle.answer.specs.Ascii.{ascii}
+use Rattle.fen_reader.specs.CodeClass.{noteAll}
 use Rattle.fen_reader.proofs.placement.note_all.Statement.{statement}
 use Rattle.fen_reader.proofs.placement.note_all.Tie as tie
 

@@ -1,3 +1,4 @@
+-- `piece_after` of placement.rt meets its contract: r ≡ pieceAfter class old.
 use borrow.Author.Tests.{lt-ltb, le-ltb}
 use Rattle.fen_reader.proofs.placement.piece_after.Statement.{statement}
 use Rattle.fen_reader.proofs.placement.piece_after.Tie as tie

@@ -1,3 +1,4 @@
+-- `place` of placement.rt meets its contract: Walk (now (text .entry)) r.
 use borrow.Author.Needs.{needs}
 use mathlib.Core.Path.{_≡_, refl, sym, ap, subst, _∙_}
 use native.Mathlib.Omega.{arith}
@@ -8,7 +9,7 @@ use lib.ListN.{length, take, drop, getD, length-set}
 use Rattle.fen_text.specs.Token.{placeOf}
 use Rattle.fen_text.specs.Placement.{Placement, placement, start, placeAll}
 use Rattle.fen_text.proofs.Tokens.{place-miss, where-start, place-hit, where-end}
-use Rattle.fen_reader.specs.Class.{refused, classOf}
+use Rattle.fen_reader.specs.CodeClass.{noClass, classOf}
 use Rattle.fen_reader.proofs.Classes.{class-at, table-long}
 use Rattle.fen_reader.proofs.Placing.{next, stored, turn, file-small, rank-small, at-start}
 use Rattle.fen_reader.proofs.placement.place.Statement.{statement}
@@ -17,7 +18,7 @@ use Rattle.fen_reader.proofs.placement.place.Tie as tie
 abbrev Inv-loop : tie.InvT-loop
 Inv-loop text classes pieces₀ rank₀ file₀ seen₀ i₀ pieces rank file seen i =
     (i ≤ length text) × (rank < 8) × (file < 8) × (length pieces ≡ 64)
-    × (placeAll start (take i text) ≡ placement pieces rank file (ltb seen refused))
+    × (placeAll start (take i text) ≡ placement pieces rank file (ltb seen noClass))
     × (placeOf 32 text ≡ i + placeOf 32 (drop i text))
 
 abbrev μ-loop : tie.MeasureT-loop
@@ -108,7 +109,7 @@ loop-again c =
       subst (λ (n : ℕ). n < 8) (sym (file .ensures)) (file-small f k),
       simp length-set (at .inv .3),
       turn s i h (at .inv .4)
-        (next p r f (ltb (at .seen) refused) b (at .inv .2)
+        (next p r f (ltb (at .seen) noClass) b (at .inv .2)
         ∙ stored p r f (at .seen) k (classOf b) (piece .result) (rank .result) (file .result) class (piece .ensures) (rank .ensures) (file .ensures)),
       at .inv .5 ∙ place-miss 32 s i h (c .before .before .before .before .if1 .left),
     )

@@ -1,3 +1,4 @@
+-- `step_of` of placement.rt meets its contract: r ≡ stepOf class.
 use borrow.Author.Tests.{lt-ltb, le-ltb}
 use Rattle.fen_reader.proofs.placement.step_of.Statement.{statement}
 use Rattle.fen_reader.proofs.placement.step_of.Tie as tie

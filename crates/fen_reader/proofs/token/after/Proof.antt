@@ -1,3 +1,4 @@
+-- `after` of token.rt meets its contract: now r ≡ drop (at + 1) (now (s .entry)).
 use borrow.Author.Needs.{needs}
 use mathlib.Core.Path.{sym}
 use native.Mathlib.Omega.{arith}

@@ -1,3 +1,4 @@
+-- `en_passant` of token.rt meets its contract: r ≡ enPassantOf (now (token .entry)).
 use borrow.Author.Needs.{needs}
 use mathlib.Core.Path.{sym, ap, _∙_}
 use Rattle.fen_text.specs.Read.{fileRead}

@@ -1,3 +1,4 @@
+-- `find` of token.rt meets its contract: r ≡ placeOf b (now (s .entry)).
 use borrow.Author.Needs.{needs}
 use mathlib.Core.Path.{_≡_, sym, _∙_}
 use Prim.Native.Nat.{_+_, _-_, _≤_, zero-le}

@@ -1,3 +1,4 @@
+-- `rights` of token.rt meets its contract: r ≡ sidesOf (now (token .entry)).
 use borrow.Author.Needs.{needs}
 use mathlib.Core.Path.{_≡_, refl, _∙_}
 use native.Mathlib.Omega.{arith}
@@ -5,7 +6,7 @@ use mathlib.Core.Bool.{cond}
 use Prim.Native.Nat.{_-_, _≤_, zero-le}
 use lib.Dec.{eqb}
 use lib.ListN.{length, drop, getD}
-use Rattle.square.specs.Numbers.{among}
+use Rattle.answer.specs.Numbers.{among}
 use Rattle.fen_reader.proofs.Seen.{seen-step, one-at-most, rights-of, both-sides}
 use Rattle.fen_reader.proofs.token.rights.Statement.{statement}
 use Rattle.fen_reader.proofs.token.rights.Tie as tie

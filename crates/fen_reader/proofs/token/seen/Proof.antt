@@ -1,3 +1,4 @@
+-- `seen` of token.rt meets its contract: r ≡ cond (eqb b letter) 1 old.
 use borrow.Author.Tests.{eq-eqb, ne-eqb}
 use Rattle.fen_reader.proofs.token.seen.Statement.{statement}
 use Rattle.fen_reader.proofs.token.seen.Tie as tie

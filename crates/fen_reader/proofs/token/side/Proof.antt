@@ -1,3 +1,4 @@
+-- `side` of token.rt meets its contract: r ≡ sideOf (now (token .entry)).
 use borrow.Author.Needs.{needs}
 use borrow.Author.Tests.{ne-eqb}
 use mathlib.Core.Path.{_≡_, sym, ap, _∙_}

@@ -1,3 +1,4 @@
+-- `spaces` of token.rt meets its contract: r + 1 ≡ length (tokens (now (s .entry))).
 use borrow.Author.Needs.{needs}
 use mathlib.Core.Path.{_≡_}
 use Prim.Native.Nat.{_+_, _-_, _≤_, _<_, zero-le}

@@ -1,3 +1,4 @@
+-- `up_to` of token.rt meets its contract: now r ≡ take at (now (s .entry)).
 use borrow.Author.Needs.{needs}
 use mathlib.Core.Path.{sym}
 use native.Mathlib.Nat.{le-of-lt}

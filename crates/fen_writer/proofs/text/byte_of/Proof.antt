@@ -1,3 +1,4 @@
+-- `byte_of` of text.rt meets its contract: r ≡ cond (eqb letter 0) (48 + run) letter.
 use borrow.Author.Needs.{needs}
 use borrow.Author.Tests.{eq-eqb, ne-eqb}
 use Rattle.fen_writer.proofs.text.byte_of.Statement.{statement}

@@ -1,5 +1,6 @@
+-- `en_passant` of text.rt meets its contract: Put 85 (now (bytes .entry)) n (enPassantText side file) (now (bytes .exit)) r.
 use borrow.Author.Needs.{needs}
-use Rattle.square.proofs.Pushes.{put-both, put-as}
+use Rattle.answer.proofs.Pushes.{put-both, put-as}
 use Rattle.fen_writer.proofs.Parts.{no-file, white-file, black-file}
 use Rattle.fen_writer.proofs.text.en_passant.Statement.{statement}
 use Rattle.fen_writer.proofs.text.en_passant.Tie as tie

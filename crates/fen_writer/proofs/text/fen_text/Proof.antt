@@ -1,9 +1,10 @@
+-- `fen_text` of text.rt meets its contract: Put 85 (now (bytes .entry)) 0 (fenText board) (now (bytes .exit)) r.
 use native.Mathlib.Omega.{arith}
 use lib.Dec.{lit<}
 use Rattle.fen_text.specs.Write.{fenText}
 use Rattle.board_builder.proofs.Ranges.{in-range}
 use Rattle.fen_text.proofs.Lengths.{ranks-long}
-use Rattle.square.proofs.Pushes.{put-both}
+use Rattle.answer.proofs.Pushes.{put-both}
 use Rattle.fen_writer.proofs.text.fen_text.Statement.{statement}
 use Rattle.fen_writer.proofs.text.fen_text.Tie as tie
 

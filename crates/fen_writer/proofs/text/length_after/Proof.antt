@@ -1,3 +1,4 @@
+-- `length_after` of text.rt meets its contract: r ≡ cond (ltb 1 run) n (n + 1).
 use borrow.Author.Needs.{needs}
 use borrow.Author.Tests.{lt-ltb, le-ltb}
 use Rattle.fen_writer.proofs.text.length_after.Statement.{statement}

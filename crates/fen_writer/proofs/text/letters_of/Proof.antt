@@ -5,13 +5,13 @@ use mathlib.Core.Path.{_≡_, refl}
 use mathlib.Core.List.{_++_}
 use Prim.Native.Nat.{_-_, _≤_, zero-le}
 use lib.ListN.{take, drop}
-use Rattle.fen_writer.specs.Letters.{lettersOf}
+use Rattle.fen_writer.specs.CodeLetters.{lettersOn}
 use Rattle.fen_writer.proofs.Letters.{letters-turn, letters-end}
 use Rattle.fen_writer.proofs.text.letters_of.Statement.{statement}
 use Rattle.fen_writer.proofs.text.letters_of.Tie as tie
 
 abbrev Inv-loop : tie.InvT-loop
-Inv-loop pieces letters₀ i₀ letters i = (i ≤ 64) × (letters ≡ take i (lettersOf pieces) ++ drop i letters₀)
+Inv-loop pieces letters₀ i₀ letters i = (i ≤ 64) × (letters ≡ take i (lettersOn pieces) ++ drop i letters₀)
 
 abbrev μ-loop : tie.MeasureT-loop
 μ-loop pieces letters₀ i₀ letters i = 64 - i

@@ -1,5 +1,6 @@
+-- `push` of text.rt meets its contract: Put 85 (now (bytes .entry)) n (b ∷ []) (now (bytes .exit)) r.
 use borrow.Author.Needs.{needs}
-use Rattle.square.proofs.Pushes.{put-one}
+use Rattle.answer.proofs.Pushes.{put-one}
 use Rattle.fen_writer.proofs.text.push.Statement.{statement}
 use Rattle.fen_writer.proofs.text.push.Tie as tie
 

@@ -8,9 +8,9 @@ use mathlib.Core.List.{List}
 use Prim.Native.Nat.{ℕ, _≤_}
 use lib.ListN.{length}
 use lib.Dec.{lit<, lit≤}
-use Rattle.square.specs.Numbers.{allAtMost}
+use Rattle.answer.specs.Numbers.{allAtMost}
 use Rattle.fen_text.proofs.Lengths.{ranks-long}
-use Rattle.fen_writer.specs.Letters.{lettersOf}
+use Rattle.fen_writer.specs.CodeLetters.{lettersOn}
 use Rattle.fen_writer.proofs.Letters.{letters-long}
 use Rattle.fen_writer.proofs.Ranks.{Ranks, ranks-start, ranks-turn, ranks-room, ranks-end}
 use Rattle.fen_writer.proofs.text.ranks.Statement.{statement}
@@ -18,7 +18,7 @@ use Rattle.fen_writer.proofs.text.ranks.Tie as tie
 
 abbrev Inv-loop : tie.InvT-loop
 Inv-loop bytes₀ letters n₀ left₀ bytes n left =
-    (left ≤ 8) × ((pieces : List ℕ) → letters ≡ lettersOf pieces → allAtMost 12 pieces ≡ true → Ranks pieces bytes n left)
+    (left ≤ 8) × ((pieces : List ℕ) → letters ≡ lettersOn pieces → allAtMost 12 pieces ≡ true → Ranks pieces bytes n left)
 
 abbrev μ-loop : tie.MeasureT-loop
 μ-loop bytes₀ letters n₀ left₀ bytes n left = left

@@ -1,3 +1,4 @@
+-- `run_after` of text.rt meets its contract: r ≡ cond (eqb letter 0) (run + 1) 0.
 use borrow.Author.Needs.{needs}
 use borrow.Author.Tests.{eq-eqb, ne-eqb}
 use Rattle.fen_writer.proofs.text.run_after.Statement.{statement}

@@ -1,7 +1,8 @@
+-- `tail` of text.rt meets its contract: Put 85 (now (bytes .entry)) at (tailText board) (now (bytes .exit)) r.
 use native.Mathlib.Omega.{arith}
 use Rattle.fen_text.specs.Write.{tailText}
 use Rattle.fen_writer.proofs.Parts.{small}
-use Rattle.square.proofs.Pushes.{put-both}
+use Rattle.answer.proofs.Pushes.{put-both}
 use Rattle.fen_writer.proofs.text.tail.Statement.{statement}
 use Rattle.fen_writer.proofs.text.tail.Tie as tie
 

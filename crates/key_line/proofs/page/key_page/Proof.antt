@@ -1,3 +1,5 @@
+-- `key_page` of page.rt meets its contract: r ≡ keyPage (now (text .entry)) (length (now (out .entry))); now (out .exit) ≡ keyRoom (now (text .entry)) (now
+-- (out .entry)); (r .taken ≤ length (now (text .entry))) × (r .ready ≤ length (now (out .entry))).
 use borrow.Author.Needs.{needs}
 use Prim.Native.Nat.{_-_, _<_}
 use native.Mathlib.Omega.{arith}

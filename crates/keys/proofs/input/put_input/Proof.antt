@@ -1,3 +1,4 @@
+-- `put_input` of input.rt meets its contract: r .ready ≤ length (now (out .entry)).
 use borrow.Author.Needs.{needs}
 use mathlib.Core.Path.{_≡_}
 use Prim.Native.Nat.{_≤_, _<_}

@@ -1,3 +1,4 @@
+-- `put_last` of input.rt meets its contract: r .ready ≤ length (now (out .entry)).
 use borrow.Author.Needs.{needs}
 use mathlib.Core.Path.{sym}
 use native.Mathlib.Nat.{le-of-lt}

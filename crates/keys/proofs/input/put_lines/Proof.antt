@@ -1,3 +1,4 @@
+-- `put_lines` of input.rt meets its contract: r .ready ≤ length (now (out .entry)); r .held ≤ end.
 use borrow.Author.Needs.{needs}
 use mathlib.Core.Path.{_≡_}
 use Prim.Native.Nat.{_-_, _≤_}

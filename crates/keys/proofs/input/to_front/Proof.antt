@@ -1,3 +1,4 @@
+-- `to_front` of input.rt is safe and ends.
 use borrow.Author.Needs.{needs}
 use mathlib.Core.Path.{_≡_}
 use Prim.Native.Nat.{_-_, _≤_}

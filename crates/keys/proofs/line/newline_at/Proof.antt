@@ -1,3 +1,4 @@
+-- `newline_at` of line.rt meets its contract: from ≤ r; r ≤ to.
 use borrow.Author.Needs.{needs}
 use mathlib.Core.Path.{_≡_, sym}
 use native.Mathlib.Omega.{arith}

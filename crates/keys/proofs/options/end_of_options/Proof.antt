@@ -1,3 +1,4 @@
+-- `end_of_options` of options.rt is safe and ends.
 use borrow.Author.Needs.{needs}
 use Prim.Native.Nat.{_-_}
 use Rattle.keys.proofs.options.end_of_options.Statement.{statement}

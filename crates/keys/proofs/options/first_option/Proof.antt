@@ -1,3 +1,4 @@
+-- `first_option` of options.rt is safe and ends.
 use borrow.Author.Needs.{needs}
 use Prim.Native.Nat.{_-_}
 use Rattle.keys.proofs.options.first_option.Statement.{statement}

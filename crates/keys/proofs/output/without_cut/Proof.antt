@@ -1,3 +1,4 @@
+-- `without_cut` of output.rt is safe and ends.
 use borrow.Author.Needs.{needs}
 use Prim.Native.Nat.{_-_, _≤_}
 use Rattle.keys.proofs.output.without_cut.Statement.{statement}

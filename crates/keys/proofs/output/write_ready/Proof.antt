@@ -1,3 +1,4 @@
+-- `write_ready` of output.rt meets its contract: r ≤ ready.
 use borrow.Author.Needs.{needs}
 use Prim.Native.Nat.{_-_, _≤_}
 use Rattle.keys.proofs.output.write_ready.Statement.{statement}

@@ -1,3 +1,4 @@
+-- `tell` of boards.rt is safe and ends.
 use borrow.Author.Needs.{needs}
 use Prim.Native.Nat.{_-_, _≤_}
 use Rattle.leaves.proofs.boards.tell.Statement.{statement}

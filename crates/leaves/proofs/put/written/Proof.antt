@@ -1,3 +1,4 @@
+-- `written` of put.rt is safe and ends.
 use borrow.Author.Needs.{needs}
 use mathlib.Core.Path.{sym}
 use lib.Seq.{length-take-le}

@@ -1,3 +1,4 @@
+-- `ask_texts` of squares.rt is safe and ends.
 use borrow.Author.Needs.{needs}
 use Prim.Native.Nat.{_-_, _≤_}
 use Rattle.leaves.proofs.squares.ask_texts.Statement.{statement}

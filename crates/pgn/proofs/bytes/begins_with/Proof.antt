@@ -1,3 +1,4 @@
+-- `begins_with` of bytes.rt meets its contract: r ≡ beginsWith (now (s .entry)) (now (text .entry)).
 use borrow.Author.Needs.{needs}
 use mathlib.Core.Path.{_≡_, refl, sym, _∙_}
 use native.Mathlib.Omega.{arith}

@@ -1,3 +1,4 @@
+-- `is_sign` of bytes.rt meets its contract: r ≡ isSign b.
 use mathlib.Core.Path.{sym, ap}
 use borrow.Author.Tests.{ne-eqb}
 use Rattle.pgn_text.specs.Bytes.{isSign}

@@ -1,6 +1,7 @@
+-- `is_result` of token.rt meets its contract: r ≡ isResult b (now (after .entry)).
 use borrow.Author.Needs.{needs}
 use Rattle.pgn_text.specs.Token.{isResult}
-use Rattle.square.specs.Ascii.{ascii}
+use Rattle.answer.specs.Ascii.{ascii}
 use borrow.Author.Tests.{eq-eqb, ne-eqb}
 use Rattle.pgn.proofs.token.is_result.Statement.{statement}
 use Rattle.pgn.proofs.token.is_result.Tie as tie

@@ -1,3 +1,4 @@
+-- `token` of token.rt meets its contract: r ≡ token b (now (after .entry)).
 use borrow.Author.Needs.{needs}
 use borrow.Author.Tests.{eq-eqb, ne-eqb}
 use Rattle.pgn_text.specs.Token.{token}

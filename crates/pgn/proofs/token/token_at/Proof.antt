@@ -1,3 +1,4 @@
+-- `token_at` of token.rt meets its contract: r ≡ tokenAt (now (s .entry)) at.
 use borrow.Author.Needs.{needs}
 use mathlib.Core.Path.{ap, _∙_}
 use Rattle.pgn_text.specs.Token.{token}

@@ -8,7 +8,7 @@ use lib.ListN.{length}
 use borrow.Author.Needs.{needs}
 use Rattle.pgn_text.specs.Walk.{deepest}
 use Rattle.pgn_text.specs.declared.Token.the-variants.{Passed, Move}
-use Rattle.pgn.specs.Walkers.{Came}
+use Rattle.pgn.specs.CodeWalkers.{Came}
 use Rattle.pgn.proofs.Walkers.{lexicographic, came-here, came-on, over-on, sequence-after, sequence-on, sequence-found, sequence-over}
 use Rattle.pgn.proofs.Walkers.{variation-on, variation-found, variation-over, reach, passed, too-deep, result-met, comment-open, unknown}
 use Rattle.pgn.proofs.Walkers.{move-counted, move-stopped, inner-over, inner-open, inner-closed}

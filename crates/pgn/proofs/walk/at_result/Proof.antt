@@ -1,5 +1,6 @@
+-- `at_result` of walk.rt meets its contract: r ≡ atResult level count at.
 use borrow.Author.Tests.{eq-eqb, ne-eqb}
-use Rattle.pgn.specs.Walkers.{atResult}
+use Rattle.pgn.specs.CodeWalkers.{atResult}
 use Rattle.pgn.proofs.walk.at_result.Statement.{statement}
 use Rattle.pgn.proofs.walk.at_result.Tie as tie
 

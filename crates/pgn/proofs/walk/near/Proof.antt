@@ -1,3 +1,4 @@
+-- `near` of walk.rt meets its contract: Near (now (s .entry)) place r.
 use borrow.Author.Needs.{needs}
 use mathlib.Core.Path.{_≡_, refl, sym, ap, _∙_}
 use Prim.Native.Nat.{_+_, _-_, _≤_}

@@ -7,7 +7,7 @@ use borrow.Author.Needs.{needs}
 use Prim.Native.Nat.{_≤_, zero-le}
 use lib.ListN.{length, replicate, length-replicate}
 use Rattle.pgn_text.specs.Walk.{deepest}
-use Rattle.pgn.specs.Walkers.{told, toldFrom}
+use Rattle.pgn.specs.CodeWalkers.{told, toldFrom}
 use Rattle.pgn.proofs.Walkers.{sequence-on, sequence-found, sequence-over, out-end, out-open, out-stray, out-more}
 use Rattle.pgn.proofs.walk.outward.Statement.{statement}
 use Rattle.pgn.proofs.walk.outward.Tie as tie

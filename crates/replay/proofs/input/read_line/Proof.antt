@@ -1,3 +1,5 @@
+-- `read_line` of input.rt meets its contract: (r .input .at ≤ r .input .end) × (r .input .end ≤ length (now (block .entry))); r .length ≤ length (now (line
+-- .entry)).
 use borrow.Author.Needs.{needs}
 use mathlib.Core.Path.{_≡_}
 use Prim.Native.Nat.{_-_, _≤_}

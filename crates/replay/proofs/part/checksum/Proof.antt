@@ -1,3 +1,4 @@
+-- `checksum` of part.rt is safe and ends.
 use borrow.Author.Needs.{needs}
 use Prim.Native.Nat.{_-_, _<_}
 use lib.ListN.{length}

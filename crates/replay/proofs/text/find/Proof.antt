@@ -1,3 +1,4 @@
+-- `find` of text.rt meets its contract: from ≤ r; r ≤ length (now (text .entry)).
 use borrow.Author.Needs.{needs}
 use Prim.Native.Nat.{_-_, _≤_}
 use lib.ListN.{length}

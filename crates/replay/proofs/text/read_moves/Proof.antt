@@ -1,3 +1,4 @@
+-- `read_moves` of text.rt meets its contract: r .value ≤ length (now (list .entry)).
 use borrow.Author.Needs.{needs}
 use mathlib.Core.Path.{_≡_}
 use Prim.Native.Nat.{_-_, _≤_}

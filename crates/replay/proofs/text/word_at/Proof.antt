@@ -1,3 +1,4 @@
+-- `word_at` of text.rt meets its contract: r ≤ length (now (line .entry)).
 use borrow.Author.Needs.{needs}
 use Prim.Native.Nat.{_≤_}
 use lib.ListN.{length}

@@ -1,3 +1,4 @@
+-- `gather_all` of gathering.rt meets its contract: Gathers (picked mask want) (now (moves .entry)) r.
 use native.Mathlib.Omega.{arith}
 use mathlib.Core.Path.{_≡_}
 use mathlib.Core.Bool.{true, false}
@@ -6,7 +7,7 @@ use lib.Dec.{leb}
 use Prim.Native.Nat.{_/_}
 use lib.ListN.{length}
 use borrow.Author.Tests.{leb-true, leb-false}
-use Rattle.san.specs.Gathered.{picked}
+use Rattle.san.specs.CodeGathered.{picked}
 use Rattle.san.proofs.OnePass.{atFront, behind, Left, turn, turn-start, turn-end, left-count, left-sum}
 use Rattle.san.proofs.gathering.gather_all.Statement.{statement}
 use Rattle.san.proofs.gathering.gather_all.Tie as tie

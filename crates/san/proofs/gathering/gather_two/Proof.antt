@@ -1,8 +1,9 @@
+-- `gather_two` of gathering.rt meets its contract: r ≡ gatherTwo g here m there n.
 use borrow.Author.Needs.{needs}
 use native.Mathlib.Omega.{arith}
 use Prim.Native.Nat.{_%_}
 use Rattle.san.proofs.Gathers.{number-most}
-use Rattle.san.specs.Gathered.{gatherTwo}
+use Rattle.san.specs.CodeGathered.{gatherTwo}
 use Rattle.san.proofs.gathering.gather_two.Statement.{statement}
 use Rattle.san.proofs.gathering.gather_two.Tie as tie
 

@@ -1,5 +1,6 @@
+-- `kind_fits` of gathering.rt meets its contract: r ≡ kindFits (now (pieces .entry)) t x.
 use borrow.Author.Needs.{needs}
-use Rattle.san.specs.Gathered.{kindFits}
+use Rattle.san.specs.CodeGathered.{kindFits}
 use Rattle.san.proofs.gathering.kind_fits.Statement.{statement}
 use Rattle.san.proofs.gathering.kind_fits.Tie as tie
 

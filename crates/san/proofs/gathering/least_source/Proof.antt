@@ -1,9 +1,10 @@
+-- `least_source` of gathering.rt meets its contract: r ≡ lowest 64 (sources (picked mask want) (now (moves .entry))).
 use borrow.Author.Needs.{needs}
 use native.Mathlib.Omega.{arith}
 use mathlib.Core.Path.{_≡_, refl, sym, _∙_}
 use Prim.Native.Nat.{_-_, _≤_}
 use lib.ListN.{length, drop}
-use Rattle.san.specs.Gathered.{picked, sources, lowest}
+use Rattle.san.specs.CodeGathered.{picked, sources, lowest}
 use Rattle.san.proofs.OnePass.{least-turn, least-end}
 use Rattle.san.proofs.gathering.least_source.Statement.{statement}
 use Rattle.san.proofs.gathering.least_source.Tie as tie

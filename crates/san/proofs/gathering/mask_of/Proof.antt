@@ -1,3 +1,4 @@
+-- `mask_of` of gathering.rt meets its contract: r ≡ maskOf t.
 use borrow.Author.Needs.{needs}
 use native.Mathlib.Omega.{arith}
 use Rattle.san.proofs.Gathers.{number-most}

@@ -1,4 +1,5 @@
-use Rattle.san.specs.Gathered.{picked}
+-- `picked` of gathering.rt meets its contract: r ≡ picked mask want m.
+use Rattle.san.specs.CodeGathered.{picked}
 use mathlib.Core.Path.{refl}
 use Rattle.san.proofs.gathering.picked.Statement.{statement}
 use Rattle.san.proofs.gathering.picked.Tie as tie

@@ -1,6 +1,7 @@
+-- `add_fit` of resolve.rt meets its contract: r ≡ added f fit m.
 use borrow.Author.Needs.{needs}
 use borrow.Author.Tests.{ne-eqb, not-true, not-false}
-use Rattle.san.specs.Fitting.{added}
+use Rattle.san.specs.CodeFitting.{added}
 use Rattle.san.proofs.resolve.add_fit.Statement.{statement}
 use Rattle.san.proofs.resolve.add_fit.Tie as tie
 

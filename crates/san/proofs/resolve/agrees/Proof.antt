@@ -1,3 +1,4 @@
+-- `agrees` of resolve.rt meets its contract: r ≡ agrees wanted found.
 use borrow.Author.Tests.{eq-eqb, ne-eqb}
 use Rattle.san_text.specs.Resolve.{agrees}
 use Rattle.san.proofs.resolve.agrees.Statement.{statement}

@@ -1,3 +1,4 @@
+-- `castling_move` of resolve.rt meets its contract: r ≡ castlingMove side file.
 use borrow.Author.Needs.{needs}
 use native.Mathlib.Omega.{arith}
 use Rattle.san_text.specs.Resolve.{castlingMove}

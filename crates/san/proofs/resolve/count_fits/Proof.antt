@@ -6,7 +6,7 @@ use native.Mathlib.Omega.{arith}
 use Prim.Native.Nat.{_-_, _≤_}
 use lib.ListN.{length, getD}
 use Rattle.san_text.specs.Resolve.{fits}
-use Rattle.san.specs.Fitting.{added}
+use Rattle.san.specs.CodeFitting.{added}
 use Rattle.san.proofs.Arrivals.{arrives, arrives-elsewhere}
 use Rattle.san.proofs.Counts.{CountedTo, counted-start, counted-turn, counted-pass, counted-end}
 use Rattle.san.proofs.resolve.count_fits.Statement.{statement}

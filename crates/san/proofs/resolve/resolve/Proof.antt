@@ -1,3 +1,4 @@
+-- `resolve` of resolve.rt meets its contract: r ≡ resolved (formOf standard) (boardWith side (now (pieces .entry))) (now (moves .entry)) said.
 use borrow.Author.Needs.{needs}
 use Rattle.san_text.specs.Form.{castled, resolved}
 use Rattle.san.proofs.Said.{said-move}

@@ -1,5 +1,6 @@
+-- `source_fits` of resolve.rt meets its contract: r ≡ sourceFits (now (pieces .entry)) t m.
 use borrow.Author.Needs.{needs}
-use Rattle.san.specs.Fitting.{sourceFits}
+use Rattle.san.specs.CodeFitting.{sourceFits}
 use Rattle.san.proofs.resolve.source_fits.Statement.{statement}
 use Rattle.san.proofs.resolve.source_fits.Tie as tie
 

@@ -1,4 +1,5 @@
-use Rattle.san_reader.specs.Short.{pawnTakes}
+-- `pawn_takes` of short.rt meets its contract: r ≡ pawnTakes a b c d.
+use Rattle.san_reader.specs.CodeShort.{pawnTakes}
 use borrow.Author.Needs.{needs}
 use mathlib.Core.Path.{sym, _∙_}
 use borrow.Author.Tests.{eq-eqb, ne-eqb}

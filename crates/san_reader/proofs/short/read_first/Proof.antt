@@ -1,4 +1,5 @@
-use Rattle.san_reader.specs.Short.{shortOf}
+-- `read_first` of short.rt meets its contract: r ≡ shortOf (now (s .entry)) n.
+use Rattle.san_reader.specs.CodeShort.{shortOf}
 use borrow.Author.Needs.{needs}
 use borrow.Author.Tests.{eq-eqb, ne-eqb}
 use Rattle.san_reader.proofs.short.read_first.Statement.{statement}

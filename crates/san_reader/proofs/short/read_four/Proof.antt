@@ -1,4 +1,5 @@
-use Rattle.san_reader.specs.Short.{letterFour, shortFour}
+-- `read_four` of short.rt meets its contract: r ≡ shortFour a b c d.
+use Rattle.san_reader.specs.CodeShort.{letterFour, shortFour}
 use borrow.Author.Needs.{needs}
 use mathlib.Core.Path.{sym, _∙_}
 use borrow.Author.Tests.{eq-eqb, ne-eqb}

@@ -1,3 +1,4 @@
+-- `read_short` of short.rt meets its contract: r ≡ shortText (now (s .entry)).
 use borrow.Author.Needs.{needs}
 use mathlib.Core.Path.{sym, _∙_}
 use Rattle.san_reader.proofs.Shorts.{short-empty, short-checked, short-plain}

@@ -1,4 +1,5 @@
-use Rattle.san_reader.specs.Short.{shortThree}
+-- `read_three` of short.rt meets its contract: r ≡ shortThree a b c.
+use Rattle.san_reader.specs.CodeShort.{shortThree}
 use borrow.Author.Needs.{needs}
 use mathlib.Core.Path.{sym, _∙_}
 use borrow.Author.Tests.{eq-eqb, ne-eqb}

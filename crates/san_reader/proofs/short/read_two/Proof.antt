@@ -1,4 +1,5 @@
-use Rattle.san_reader.specs.Short.{shortTwo}
+-- `read_two` of short.rt meets its contract: r ≡ shortTwo a b.
+use Rattle.san_reader.specs.CodeShort.{shortTwo}
 use borrow.Author.Needs.{needs}
 use Rattle.san_reader.proofs.short.read_two.Statement.{statement}
 use Rattle.san_reader.proofs.short.read_two.Tie as tie

@@ -1,3 +1,4 @@
+-- `square_of` of short.rt meets its contract: r ≡ squareAt (filePlace a) (rankPlace b).
 use borrow.Author.Needs.{needs}
 use Rattle.san_reader.proofs.Shorts.{square-here, file-low, file-past, rank-low, rank-past}
 use Rattle.san_reader.proofs.short.square_of.Statement.{statement}

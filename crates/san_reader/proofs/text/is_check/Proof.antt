@@ -1,3 +1,4 @@
+-- `is_check` of text.rt meets its contract: r ≡ isCheck b.
 use mathlib.Core.Logic.{⊎-elim, inl, inr}
 use borrow.Author.Tests.{ne-eqb}
 use Rattle.san_text.specs.Text.{isCheck}

@@ -1,3 +1,4 @@
+-- `piece_kind` of text.rt meets its contract: r ≡ pieceKind b.
 use borrow.Author.Needs.{needs}
 use Rattle.san_reader.proofs.Letters.{letter-kind, no-letter}
 use Rattle.san_reader.proofs.text.piece_kind.Statement.{statement}

@@ -1,3 +1,4 @@
+-- `piece_or` of text.rt meets its contract: r ≡ pieceOr kind.
 use borrow.Author.Tests.{eq-eqb, ne-eqb}
 use Rattle.san_text.specs.Text.{pieceOr}
 use Rattle.san_reader.proofs.text.piece_or.Statement.{statement}

@@ -1,3 +1,4 @@
+-- `place_from` of text.rt meets its contract: r ≡ placeFrom base b.
 use borrow.Author.Tests.{le-leb, lt-leb}
 use mathlib.Core.Path.{sym}
 use Rattle.san_text.specs.Place.{placeFrom}

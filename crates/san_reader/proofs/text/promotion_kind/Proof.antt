@@ -1,3 +1,4 @@
+-- `promotion_kind` of text.rt meets its contract: r ≡ promotionKind b.
 use borrow.Author.Tests.{ne-eqb}
 use Rattle.san_text.specs.Text.{promotionKind}
 use Rattle.san_reader.proofs.text.promotion_kind.Statement.{statement}

@@ -1,3 +1,4 @@
+-- `read_end` of text.rt meets its contract: r ≡ readEnd kind file rank takes square promotion (now (s .entry)).
 use borrow.Author.Needs.{needs}
 use Rattle.san_text.specs.Text.{readEnd}
 use Rattle.san_reader.proofs.text.read_end.Statement.{statement}

@@ -1,3 +1,4 @@
+-- `read_file` of text.rt meets its contract: r ≡ readFile (destIn standard) kind (now (s .entry)).
 use borrow.Author.Needs.{needs}
 use Rattle.san_text.specs.Text.{readFile}
 use Rattle.san_text.proofs.Places.{place-most}

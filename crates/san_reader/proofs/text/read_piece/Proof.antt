@@ -1,3 +1,4 @@
+-- `read_piece` of text.rt meets its contract: r ≡ readPiece (destIn standard) (now (s .entry)).
 use borrow.Author.Needs.{needs}
 use Rattle.san_text.specs.Text.{readPiece}
 use Rattle.san_reader.proofs.text.read_piece.Statement.{statement}

@@ -1,3 +1,4 @@
+-- `read_promotion` of text.rt meets its contract: r ≡ readPromotion kind file rank takes square (now (s .entry)).
 use borrow.Author.Needs.{needs}
 use Rattle.san_text.specs.Text.{readPromotion}
 use Rattle.san_reader.proofs.text.read_promotion.Statement.{statement}

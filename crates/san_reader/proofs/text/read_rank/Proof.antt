@@ -1,3 +1,4 @@
+-- `read_rank` of text.rt meets its contract: r ≡ readRank (destIn standard) kind file (now (s .entry)).
 use borrow.Author.Needs.{needs}
 use Rattle.san_text.specs.Text.{readRank}
 use Rattle.san_text.proofs.Places.{place-most}

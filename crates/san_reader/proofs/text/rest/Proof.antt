@@ -1,3 +1,4 @@
+-- `rest` of text.rt meets its contract: now r ≡ drop n (now (s .entry)).
 use borrow.Author.Needs.{needs}
 use mathlib.Core.Path.{sym}
 use Prim.Native.Nat.{_-_}

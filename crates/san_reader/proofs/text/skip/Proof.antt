@@ -1,3 +1,4 @@
+-- `skip` of text.rt meets its contract: now r ≡ after there (now (s .entry)).
 use borrow.Author.Needs.{needs}
 use Rattle.san_text.specs.Text.{after}
 use Rattle.san_reader.proofs.text.skip.Statement.{statement}

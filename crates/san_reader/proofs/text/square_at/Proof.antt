@@ -1,3 +1,4 @@
+-- `square_at` of text.rt meets its contract: r ≡ squareAt file rank.
 use borrow.Author.Needs.{needs}
 use borrow.Author.Tests.{eq-eqb, ne-eqb}
 use Rattle.san_text.specs.Place.{squareAt}

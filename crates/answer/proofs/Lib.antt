@@ -1,0 +1,13 @@
+pub mod Below
+pub mod Bounds
+pub mod Maxima
+pub mod Numbers
+pub mod Parts
+pub mod Pushes
+pub mod Same
+pub mod Writes
+pub mod ItsText
+pub mod Written
+pub mod Puts
+pub mod Determined
+pub mod Overwrites
