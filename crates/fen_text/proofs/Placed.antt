@@ -134,7 +134,7 @@ row-back k pieces long ok h =
     let zeros : List ℕ = replicate (k * 8) 0 in
     let before : length zeros ≡ k * 8 + (0 + 0) = length-replicate {A = ℕ} (k * 8) 0 ∙ omega arith in
     let empty : above (suc k) pieces ≡ zeros ++ (replicate (length row) 0 ++ drop (k * 8 + 8) pieces) =
-        row-zeros k pieces ∙ ap (λ (n : ℕ). zeros ++ (replicate n 0 ++ drop (k * 8 + 8) pieces)) (sym eight) in
+    row-zeros k pieces ∙ ap (λ (n : ℕ). zeros ++ (replicate n 0 ++ drop (k * 8 + 8) pieces)) (sym eight) in
     ap (λ (l : List ℕ). placeAll (at k 0 l) (runText 0 row)) empty
     ∙ rank-back row k 0 0 zeros (drop (k * 8 + 8) pieces) (row-codes k pieces ok) (omega arith) before
     ∙ ap (λ (l : List ℕ). at k 0 (zeros ++ l)) (row-rest k pieces)

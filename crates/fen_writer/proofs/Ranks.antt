@@ -65,8 +65,15 @@ ranks-turn {pieces} {old} {new = new} {n} {r = r} {left} letters a h e ok p q =
     let both : Put 85 old n (row ++ part) new r = put-both (rank-as pieces letters ((left - 1) * 8) e ok p) q in
     record {
       count =
-          omega (arith, a .count, both .pushed .count, length-append row part, length-append row (part ++ below), length-append part below,
-          ap length (next left pieces h));
+          omega (
+            arith,
+            a .count,
+            both .pushed .count,
+            length-append row part,
+            length-append row (part ++ below),
+            length-append part below,
+            ap length (next left pieces h),
+          );
       bytes =
           ap (λ (l : List ℕ). l ++ below) (both .pushed .bytes)
           ∙ append-assoc (take n old) (row ++ part) below

@@ -40,11 +40,12 @@ loop-again c =
     let s = a .s .now in
     let at = c .before .before .before .loop in
     let i = at .i in
-    let left = allAtMost (a .most) (drop (i + 1) s) in
-    (omega arith,
-    ap (λ (x : ℕ). eqb (bitOr (at .above) x) 0 && left) (c .over .ensures)
-    ∙ gather-turn (a .most) s (at .above) i (c .before .before .loop-test .taken)
-    ∙ at .inv .1)
+    let left = allAtMost (a .most) (drop (i + 1) s) in (
+      omega arith,
+      ap (λ (x : ℕ). eqb (bitOr (at .above) x) 0 && left) (c .over .ensures)
+          ∙ gather-turn (a .most) s (at .above) i (c .before .before .loop-test .taken)
+          ∙ at .inv .1,
+    )
 
 returns : tie.Need-returns Inv-loop μ-loop
 returns c =

@@ -37,12 +37,13 @@ loop-again c =
     let at = c .before .before .before .before .loop in
     let r = at .rank in
     let most = at .most in
-    let next : r * 8 + 8 ≡ (r + 1) * 8 = omega arith in
-    (omega arith,
-    ap (λ (m : ℕ). max m (largest (drop ((r + 1) * 8) pieces))) (c .larger .ensures ∙ ap (max most) (c .before .largest-of-rank .ensures))
-    ∙ ap (λ (k : ℕ). max (max most (largest (take 8 (drop (r * 8) pieces)))) (largest (drop k pieces))) (sym next)
-    ∙ sym (largest-part pieces most (r * 8) 8)
-    ∙ at .inv .1)
+    let next : r * 8 + 8 ≡ (r + 1) * 8 = omega arith in (
+      omega arith,
+      ap (λ (m : ℕ). max m (largest (drop ((r + 1) * 8) pieces))) (c .larger .ensures ∙ ap (max most) (c .before .largest-of-rank .ensures))
+          ∙ ap (λ (k : ℕ). max (max most (largest (take 8 (drop (r * 8) pieces)))) (largest (drop k pieces))) (sym next)
+          ∙ sym (largest-part pieces most (r * 8) 8)
+          ∙ at .inv .1,
+    )
 
 returns : tie.Need-returns Inv-loop μ-loop
 returns c =

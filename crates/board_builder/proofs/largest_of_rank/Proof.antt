@@ -49,11 +49,12 @@ loop-again c =
     let i = at .i in
     let h : i < length row = omega arith in
     let small : i < 8 = omega arith in
-    let here : getD row i 0 ≡ getD pieces (from + i) 0 = rw (getD-take, getD-drop) in
-    (omega arith,
-    ap (λ (m : ℕ). max m (largest (drop (i + 1) row))) (c .larger .ensures ∙ ap (max (at .most)) (sym here))
-    ∙ sym (largest-turn row (at .most) i h)
-    ∙ at .inv .1)
+    let here : getD row i 0 ≡ getD pieces (from + i) 0 = rw (getD-take, getD-drop) in (
+      omega arith,
+      ap (λ (m : ℕ). max m (largest (drop (i + 1) row))) (c .larger .ensures ∙ ap (max (at .most)) (sym here))
+          ∙ sym (largest-turn row (at .most) i h)
+          ∙ at .inv .1,
+    )
 
 returns : tie.Need-returns Inv-loop μ-loop
 returns c =

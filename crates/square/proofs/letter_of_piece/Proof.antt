@@ -60,10 +60,18 @@ returns-13 c =
     let last = c .match .rest in
     let first = last .0 .0 .0 .0 .0 .0 in
     simp (
-      ne-eqb _ _ (first .0 .0 .0 .0 .0 .1), ne-eqb _ _ (first .0 .0 .0 .0 .1), ne-eqb _ _ (first .0 .0 .0 .1),
-      ne-eqb _ _ (first .0 .0 .1), ne-eqb _ _ (first .0 .1), ne-eqb _ _ (first .1),
-      ne-eqb _ _ (last .0 .0 .0 .0 .0 .1), ne-eqb _ _ (last .0 .0 .0 .0 .1), ne-eqb _ _ (last .0 .0 .0 .1),
-      ne-eqb _ _ (last .0 .0 .1), ne-eqb _ _ (last .0 .1), ne-eqb _ _ (last .1),
+      ne-eqb _ _ (first .0 .0 .0 .0 .0 .1),
+      ne-eqb _ _ (first .0 .0 .0 .0 .1),
+      ne-eqb _ _ (first .0 .0 .0 .1),
+      ne-eqb _ _ (first .0 .0 .1),
+      ne-eqb _ _ (first .0 .1),
+      ne-eqb _ _ (first .1),
+      ne-eqb _ _ (last .0 .0 .0 .0 .0 .1),
+      ne-eqb _ _ (last .0 .0 .0 .0 .1),
+      ne-eqb _ _ (last .0 .0 .0 .1),
+      ne-eqb _ _ (last .0 .0 .1),
+      ne-eqb _ _ (last .0 .1),
+      ne-eqb _ _ (last .1),
     )
 
 pub letter-of-piece-spec : {M : Type 1} → statement M

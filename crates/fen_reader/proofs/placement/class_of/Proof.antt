@@ -83,10 +83,19 @@ returns-15 c =
     let white = black .0 .0 .0 .0 .0 .0 in
     simp (
       lt-leb 49 _ (c .if1 .taken),
-      ne-eqb _ 47 (white .0 .0 .0 .0 .0 .0 .1), ne-eqb _ 80 (white .0 .0 .0 .0 .0 .1), ne-eqb _ 78 (white .0 .0 .0 .0 .1),
-      ne-eqb _ 66 (white .0 .0 .0 .1), ne-eqb _ 82 (white .0 .0 .1), ne-eqb _ 81 (white .0 .1), ne-eqb _ 75 (white .1),
-      ne-eqb _ 112 (black .0 .0 .0 .0 .0 .1), ne-eqb _ 110 (black .0 .0 .0 .0 .1), ne-eqb _ 98 (black .0 .0 .0 .1),
-      ne-eqb _ 114 (black .0 .0 .1), ne-eqb _ 113 (black .0 .1), ne-eqb _ 107 (black .1),
+      ne-eqb _ 47 (white .0 .0 .0 .0 .0 .0 .1),
+      ne-eqb _ 80 (white .0 .0 .0 .0 .0 .1),
+      ne-eqb _ 78 (white .0 .0 .0 .0 .1),
+      ne-eqb _ 66 (white .0 .0 .0 .1),
+      ne-eqb _ 82 (white .0 .0 .1),
+      ne-eqb _ 81 (white .0 .1),
+      ne-eqb _ 75 (white .1),
+      ne-eqb _ 112 (black .0 .0 .0 .0 .0 .1),
+      ne-eqb _ 110 (black .0 .0 .0 .0 .1),
+      ne-eqb _ 98 (black .0 .0 .0 .1),
+      ne-eqb _ 114 (black .0 .0 .1),
+      ne-eqb _ 113 (black .0 .1),
+      ne-eqb _ 107 (black .1),
     )
 
 returns-16 : tie.Need-returns-16
@@ -95,11 +104,21 @@ returns-16 c =
     let black = c .before .before .match .rest in
     let white = black .0 .0 .0 .0 .0 .0 in
     simp (
-      le-leb 49 _ (c .before .if1 .left), lt-leb _ 56 (c .if2 .left),
-      ne-eqb _ 47 (white .0 .0 .0 .0 .0 .0 .1), ne-eqb _ 80 (white .0 .0 .0 .0 .0 .1), ne-eqb _ 78 (white .0 .0 .0 .0 .1),
-      ne-eqb _ 66 (white .0 .0 .0 .1), ne-eqb _ 82 (white .0 .0 .1), ne-eqb _ 81 (white .0 .1), ne-eqb _ 75 (white .1),
-      ne-eqb _ 112 (black .0 .0 .0 .0 .0 .1), ne-eqb _ 110 (black .0 .0 .0 .0 .1), ne-eqb _ 98 (black .0 .0 .0 .1),
-      ne-eqb _ 114 (black .0 .0 .1), ne-eqb _ 113 (black .0 .1), ne-eqb _ 107 (black .1),
+      le-leb 49 _ (c .before .if1 .left),
+      lt-leb _ 56 (c .if2 .left),
+      ne-eqb _ 47 (white .0 .0 .0 .0 .0 .0 .1),
+      ne-eqb _ 80 (white .0 .0 .0 .0 .0 .1),
+      ne-eqb _ 78 (white .0 .0 .0 .0 .1),
+      ne-eqb _ 66 (white .0 .0 .0 .1),
+      ne-eqb _ 82 (white .0 .0 .1),
+      ne-eqb _ 81 (white .0 .1),
+      ne-eqb _ 75 (white .1),
+      ne-eqb _ 112 (black .0 .0 .0 .0 .0 .1),
+      ne-eqb _ 110 (black .0 .0 .0 .0 .1),
+      ne-eqb _ 98 (black .0 .0 .0 .1),
+      ne-eqb _ 114 (black .0 .0 .1),
+      ne-eqb _ 113 (black .0 .1),
+      ne-eqb _ 107 (black .1),
     )
 
 pub class-of-spec : {M : Type 1} → statement M

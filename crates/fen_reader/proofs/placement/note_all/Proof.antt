@@ -92,10 +92,27 @@ returns c =
     let at2 = at3 .before .before in
     let at1 = at2 .before .before in
     simp (
-      c .note21 .ensures, at20 .note20 .ensures, at19 .note19 .ensures, at18 .note18 .ensures, at17 .note17 .ensures, at16 .note16 .ensures,
-      at15 .note15 .ensures, at14 .note14 .ensures, at13 .note13 .ensures, at12 .note12 .ensures, at11 .note11 .ensures, at10 .note10 .ensures,
-      at9 .note9 .ensures, at8 .note8 .ensures, at7 .note7 .ensures, at6 .note6 .ensures, at5 .note5 .ensures, at4 .note4 .ensures,
-      at3 .note3 .ensures, at2 .note2 .ensures, at1 .note .ensures,
+      c .note21 .ensures,
+      at20 .note20 .ensures,
+      at19 .note19 .ensures,
+      at18 .note18 .ensures,
+      at17 .note17 .ensures,
+      at16 .note16 .ensures,
+      at15 .note15 .ensures,
+      at14 .note14 .ensures,
+      at13 .note13 .ensures,
+      at12 .note12 .ensures,
+      at11 .note11 .ensures,
+      at10 .note10 .ensures,
+      at9 .note9 .ensures,
+      at8 .note8 .ensures,
+      at7 .note7 .ensures,
+      at6 .note6 .ensures,
+      at5 .note5 .ensures,
+      at4 .note4 .ensures,
+      at3 .note3 .ensures,
+      at2 .note2 .ensures,
+      at1 .note .ensures,
     )
 
 pub note-all-spec : {M : Type 1} → statement M

@@ -38,9 +38,10 @@ loop-again : tie.Need-loop-again Inv-loop μ-loop
 loop-again c =
     let s = c .before .before .before in
     let a = s .before .args in
-    let l = c .letter-of-piece in
-    (omega arith,
-    letters-turn (a .pieces .now) (a .letters .now) (s .loop .letters) (s .loop .i) (l .result) (omega arith) (omega arith) (l .ensures) (s .loop .inv .1))
+    let l = c .letter-of-piece in (
+      omega arith,
+      letters-turn (a .pieces .now) (a .letters .now) (s .loop .letters) (s .loop .i) (l .result) (omega arith) (omega arith) (l .ensures) (s .loop .inv .1),
+    )
 
 returns : tie.Need-returns Inv-loop μ-loop
 returns c =

@@ -76,8 +76,8 @@ loop-again c =
     let here = row-at letters from i (omega arith) in
     let byte = c .byte-of in
     let turned =
-        row-turn (s .loop .inv .3) (omega arith) (omega arith) letter (run .result) (n .result) (byte .result)
-        here (run .ensures) (n .ensures) (byte .ensures) in
+    row-turn (s .loop .inv .3) (omega arith) (omega arith) letter (run .result) (n .result) (byte .result)
+    here (run .ensures) (n .ensures) (byte .ensures) in
     (omega arith, omega arith, omega arith, turned)
 
 returns : tie.Need-returns Inv-loop μ-loop

@@ -33,37 +33,37 @@ en-passant-requires c κs =
 push-requires-4 : tie.Need-push-requires-4
 push-requires-4 c κs =
     let r =
-        (let s = c .before .before .before .before .before .before .before .before .before .before .before .before .before in
-        small (s .args .board) (s .pre .1 .1)) in
+    (let s = c .before .before .before .before .before .before .before .before .before .before .before .before .before in
+    small (s .args .board) (s .pre .1 .1)) in
     (c .before .en-passant .ensures .long, omega arith)
 
 push-requires-5 : tie.Need-push-requires-5
 push-requires-5 c κs =
     let r =
-        (let s = c .before .before .before .before .before .before .before .before .before .before .before .before .before .before .before in
-        small (s .args .board) (s .pre .1 .1)) in
+    (let s = c .before .before .before .before .before .before .before .before .before .before .before .before .before .before .before in
+    small (s .args .board) (s .pre .1 .1)) in
     (c .before .push4 .ensures .long, omega arith)
 
 push-requires-6 : tie.Need-push-requires-6
 push-requires-6 c κs =
     let r =
-        (let s = c .before .before .before .before .before .before .before .before .before .before .before .before .before .before .before .before .before in
-        small (s .args .board) (s .pre .1 .1)) in
+    (let s = c .before .before .before .before .before .before .before .before .before .before .before .before .before .before .before .before .before in
+    small (s .args .board) (s .pre .1 .1)) in
     (c .before .push5 .ensures .long, omega arith)
 
 push-requires-7 : tie.Need-push-requires-7
 push-requires-7 c κs =
     let r =
-        (let front = c .before .before .before .before .before .before .before .before .before .before .before .before .before in
-        let s = front .before .before .before .before .before .before in
-        small (s .args .board) (s .pre .1 .1)) in
+    (let front = c .before .before .before .before .before .before .before .before .before .before .before .before .before in
+    let s = front .before .before .before .before .before .before in
+    small (s .args .board) (s .pre .1 .1)) in
     let count =
-        (let front = c .before .before .before .before .before .before .before .before .before .before .before .before .before in
-        let side = front .before .before in
-        put-both (side .before .before .push .ensures) (put-both (side .side .ensures) (front .push2 .ensures)) .pushed .count) in
+    (let front = c .before .before .before .before .before .before .before .before .before .before .before .before .before in
+    let side = front .before .before in
+    put-both (side .before .before .push .ensures) (put-both (side .side .ensures) (front .push2 .ensures)) .pushed .count) in
     let room =
-        (let front = c .before .before .before .before .before .before .before .before .before .before .before .before .before in
-        front .before .before .before .before .before .before .pre .1 .0) in
+    (let front = c .before .before .before .before .before .before .before .before .before .before .before .before .before in
+    front .before .before .before .before .before .before .pre .1 .0) in
     (c .before .push6 .ensures .long, omega (arith, room))
 
 returns : tie.Need-returns
