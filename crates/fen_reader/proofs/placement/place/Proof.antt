@@ -109,13 +109,8 @@ loop-again c =
       subst (λ (n : ℕ). n < 8) (sym (file .ensures)) (file-small f k),
       simp length-set (at .inv .3),
       turn s i h (at .inv .4)
-<<<<<<< HEAD
-        (next p r f (ltb (at .seen) noClass) b (at .inv .2)
-        ∙ stored p r f (at .seen) k (classOf b) (piece .result) (rank .result) (file .result) class (piece .ensures) (rank .ensures) (file .ensures)),
-=======
-          (next p r f (ltb (at .seen) refused) b (at .inv .2)
+          (next p r f (ltb (at .seen) noClass) b (at .inv .2)
           ∙ stored p r f (at .seen) k (classOf b) (piece .result) (rank .result) (file .result) class (piece .ensures) (rank .ensures) (file .ensures)),
->>>>>>> 3c4d3be048b740054003c26b1a2bb95c15b89dd8
       at .inv .5 ∙ place-miss 32 s i h (c .before .before .before .before .if1 .left),
     )
 
