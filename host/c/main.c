@@ -11,8 +11,6 @@
 
 #define N(number) (UINT32_C(1) << (number))
 
-enum { FUNCTIONS = 35 };
-
 /* Document 01, "Order of checks", and document 02: all that each function can answer. The version is no answer. */
 static const uint32_t range = N(0) | N(5);
 static const uint32_t query = N(0) | N(9) | N(16);
@@ -20,7 +18,7 @@ static const uint32_t coloured = N(0) | N(5) | N(9) | N(10) | N(13) | N(16);
 
 static bool report_all(void)
 {
-    const struct answers all[FUNCTIONS] = {
+    const struct answers all[] = {
         { "menkhodur_version", 0 },
         { "menkhodur_make_square", range },
         { "menkhodur_rights_add", range },
@@ -57,7 +55,7 @@ static bool report_all(void)
         { "menkhodur_pgn_check", N(0) | N(21) | N(22) | N(23) },
         { "menkhodur_pgn_next", N(0) | N(21) | N(22) | N(23) },
     };
-    return report(all, FUNCTIONS);
+    return report(all, sizeof all / sizeof *all);
 }
 
 int main(int argc, char **argv)
