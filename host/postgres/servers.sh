@@ -21,6 +21,8 @@ as_owner() { if [ -n "$owner" ]; then runuser -u "$owner" -- "$@"; else "$@"; fi
 servers_needed() {
     pg_config=${PG_CONFIG:-pg_config}
     pgxs=$("$pg_config" --pgxs 2>/dev/null) && [ -f "$pgxs" ] || skip "PGXS is missing, of the Debian package postgresql-server-dev-15"
+    # Some machines have PGXS and no headers.
+    [ -f "$("$pg_config" --includedir-server)/postgres.h" ] || skip "postgres.h is missing, of the Debian package postgresql-server-dev-15"
     system_bin=$("$pg_config" --bindir)
     [ -x "$system_bin/initdb" ] && [ -x "$system_bin/postgres" ] || skip "no server in $system_bin, of the Debian package postgresql-15"
     [ -x "$system_bin/psql" ] || skip "no psql in $system_bin, of the Debian package postgresql-client-15"
