@@ -2,11 +2,9 @@
 //! the crate's (oracle/logs).
 
 use crate::common::{Folder, expect, run};
+use menkhodur::lent::MAX_ACTIONS;
 use std::fs;
 use std::path::PathBuf;
-
-/// Document 02, order 11.
-const MOST_ACTIONS: usize = 8_192;
 
 /// A start's 68 numbers, and each action as its code and, for a move, its number.
 #[derive(Clone)]
@@ -141,7 +139,7 @@ fn games_of_the_crate_with_one_thing_changed() {
         let mut changed = game.clone();
         changed.start[index % 64] = (changed.start[index % 64] + 1) % 13;
         check(game, &changed);
-        if game.actions.len() < MOST_ACTIONS {
+        if game.actions.len() < MAX_ACTIONS {
             let mut changed = game.clone();
             changed.actions.push((10, None));
             check(game, &changed);
@@ -162,8 +160,8 @@ fn of_a_refused_roll_only_the_number_is_printed() {
     let good = folder.file("good", roll(&game(&[])));
     let cut = folder.file("cut", &roll(&game(&[]))[1..]);
     let man = folder.file("man", [vec![13], vec![0; 68]].concat());
-    // A count of 8,193.
-    let many = folder.file("many", [vec![0; 68], vec![129, 64]].concat());
+    let over = MAX_ACTIONS + 1;
+    let many = folder.file("many", [vec![0; 68], vec![128 + (over % 128) as u8, (over / 128) as u8]].concat());
     let bad = "the bytes are not a roll, or not the actions of one (answer 17)";
     let range = "a number of the board, a square, rank, file, colour, rights number or in-check byte is out of range (answer 5)";
     expect(&["diff", &cut, &man], "", ("17\n", &format!("menkhodur: {cut}, the first roll: {bad}\n"), 2));

@@ -7,7 +7,7 @@ use crate::part::{Part, Tally};
 use crate::records;
 use crate::roll::{self, largest};
 use crate::rolls::roll_of;
-use crate::rollwork;
+use crate::rollwork::{self, random_action};
 use crate::script;
 use crate::texts;
 use crate::what_differs;
@@ -38,16 +38,6 @@ impl Differences {
     }
 }
 
-fn any_action(random: &mut Random) -> Action {
-    let color = color_of(random.below(2) as u8);
-    match random.below(8) {
-        0 => Action::OfferDraw(color),
-        1 => *random.pick(&[Action::AcceptDraw, Action::DeclareDraw]),
-        2 => Action::Resign(color),
-        _ => Action::MakeMove(move_of(random.below(MOST_MOVE as usize + 1) as u16)),
-    }
-}
-
 /// The copy with one thing changed: a start number, an action changed, put in, left out, or the actions cut off; or none.
 fn change(start: &mut Record, actions: &mut Vec<Action>, random: &mut Random) {
     let at = random.below(actions.len().max(1));
@@ -57,9 +47,9 @@ fn change(start: &mut Record, actions: &mut Vec<Action>, random: &mut Random) {
             let place = 64 + random.below(4);
             start.0[place] = random.below(largest(place) as usize + 1) as u8;
         }
-        5 | 6 if !actions.is_empty() => actions[at] = any_action(random),
-        7 if actions.len() < 1_000 => actions.insert(at, any_action(random)),
-        8 if actions.len() < 1_000 => actions.push(any_action(random)),
+        5 | 6 if !actions.is_empty() => actions[at] = random_action(random),
+        7 if actions.len() < 1_000 => actions.insert(at, random_action(random)),
+        8 if actions.len() < 1_000 => actions.push(random_action(random)),
         9 if !actions.is_empty() => drop(actions.remove(at)),
         10 => actions.truncate(at),
         _ => (),

@@ -164,7 +164,8 @@ pub fn writes() -> Vec<Written> {
     all
 }
 
-fn random_action(random: &mut Random) -> Action {
+/// An action in range, a move as a rule.
+pub fn random_action(random: &mut Random) -> Action {
     let color = color_of(random.below(2) as u8);
     match random.below(8) {
         0 => Action::OfferDraw(color),

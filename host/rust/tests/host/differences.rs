@@ -1,6 +1,6 @@
 //! What differs between two rolls (document 02, order 10): the order's own rows, each kind of line, and refusals on either side.
 
-use menkhodur::lent::{self, MAX_DIFFERENCES};
+use menkhodur::lent::{self, MAX_ACTIONS, MAX_DIFFERENCES};
 use menkhodur::{Action, Board, CastleRights, Color, Difference, Error, File, Move, Piece, Refused, Roll, Square, Which, differences};
 
 fn roll(start: Board, actions: &[Action]) -> Vec<u8> {
@@ -79,8 +79,8 @@ fn refusals_tell_which_roll() {
     assert_eq!(refused(&bad, short), Refused { roll: Which::First, error: Error::OutOfRange });
     assert_eq!(refused(short, &bad), Refused { roll: Which::First, error: Error::BadRoll });
     assert_eq!(refused(&good, &bad), Refused { roll: Which::Second, error: Error::OutOfRange });
-    // A count of 8,193.
-    let many = [&good[..68], &[129, 64]].concat();
+    let over = MAX_ACTIONS + 1;
+    let many = [&good[..68], &[128 + (over % 128) as u8, (over / 128) as u8]].concat();
     assert_eq!(refused(&good, &many), Refused { roll: Which::Second, error: Error::LogFull });
     let words = "the second roll: the bytes are not a roll, or not the actions of one (answer 17)";
     assert_eq!(refused(&good, short).to_string(), words);
