@@ -1,7 +1,7 @@
 -- The run, looked for from its end back: what is known of it so far, with what is before that, is always the run.
 -- Assumes nothing.
 use mathlib.Core.Path.{_≡_, refl, ap, ap₂, sym, _∙_}
-use mathlib.Core.Bool.{Bool, true, false, cond, not}
+use mathlib.Core.Bool.{Bool, true, false, cond, not, _||_}
 use mathlib.Core.List.{List}
 use Prim.Native.Nat.{ℕ, suc, _+_, _-_, _≤_, _<_}
 use native.Mathlib.Numerals.{add-one}
@@ -15,7 +15,7 @@ use Rattle.actions.specs.Part.{moveAt, movesIn}
 use Rattle.actions.proofs.Counting.{one-more}
 use Rattle.position.specs.Layout.{Position, positionSize, positionOf, positionAt}
 use Rattle.claim.specs.declared.Run.{Run}
-use Rattle.claim.specs.Emptying.{emptiesCount, emptiesRun}
+use Rattle.claim.specs.Emptying.{irreversible, rightsDiffer, emptiesCount, emptiesRun}
 use Rattle.claim.specs.Claim.{runBegun, runAfter, runAt}
 use Rattle.claim.specs.CodeBack.{orElse, runBefore, runKnown}
 
@@ -62,7 +62,7 @@ back-after p q m k r s n = both (or-after (r .first) (s .first) k (emptiesRun p 
 
 -- action i makes move m, or none
 module _ (acts ps : List ℕ) (i m : ℕ) (read : m ≡ moveAt acts i) where
-  run-by-move : m ≤ lastMove → (k : ℕ) → k ≡ movesIn acts (i + 1)
+  pub run-by-move : m ≤ lastMove → (k : ℕ) → k ≡ movesIn acts (i + 1)
       → runAt acts ps (i + 1) ≡ runAfter (positionAt ps (k - 1)) m (positionAt ps k) k (runAt acts ps i)
   unfolding runAt
   run-by-move h k e =
@@ -73,6 +73,23 @@ module _ (acts ps : List ℕ) (i m : ℕ) (read : m ≡ moveAt acts i) where
   pub run-by-none : lastMove < m → runAt acts ps (i + 1) ≡ runAt acts ps i
   unfolding runAt
   run-by-none h = rw (add-one i, ← read, lt-leb m lastMove h)
+
+  -- where a run begins before position k, the move that leads there is reversible, and the run has begun before the move
+  pub run-goes-on : m ≤ lastMove → (k : ℕ) → k ≡ movesIn acts (i + 1) → (first : ℕ) → runAt acts ps (i + 1) .first ≡ first → first < k
+      → (irreversible (positionAt ps (k - 1)) m ≡ false) × (runAt acts ps i .first ≡ first)
+  unfolding runAfter
+  run-goes-on h k e first f l =
+      go (irreversible p m) (rightsDiffer p q) refl (sym (ap (λ (r : Run). r .first) (run-by-move h k e)) ∙ f)
+    where
+      p : Position
+      p = positionAt ps (k - 1)
+      q : Position
+      q = positionAt ps k
+      go : (t u : Bool) → irreversible p m ≡ t → cond (t || u) k (runAt acts ps i .first) ≡ first
+          → (irreversible p m ≡ false) × (runAt acts ps i .first ≡ first)
+      go true u e₁ g = absurd (omega arith)
+      go false true e₁ g = absurd (omega arith)
+      go false false e₁ g = (e₁, g)
 
   -- s is what is known after looking at the move, t what was looked up for it
   pub back-turn : m ≤ lastMove → (k : ℕ) → k ≡ movesIn acts (i + 1) → (p q : List ℕ) → p ≡ item positionSize ps (k - 1) → q ≡ item positionSize ps k

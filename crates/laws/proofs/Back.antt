@@ -1,18 +1,22 @@
--- The position since which the Laws' count goes, looked for from the last action back: while none was irreversible, what is before says it.
+-- The position since which the Laws' count goes, looked for from the last action back: while none was irreversible, what is before says it. In the run
+-- none was.
 -- Assumes nothing.
 use mathlib.Core.Path.{_≡_, refl, ap, sym, _∙_}
-use mathlib.Core.Bool.{Bool, true, false, cond}
+use mathlib.Core.Bool.{Bool, true, false, cond, _&&_}
 use mathlib.Core.List.{List}
 use Prim.Native.Nat.{ℕ, suc, _+_, _-_, _≤_, _<_}
 use native.Mathlib.Numerals.{add-one}
 use native.Mathlib.Omega.{arith}
-use borrow.Author.Tests.{le-leb, lt-leb}
-use Rattle.answer.specs.Parts.{item}
+use lib.Dec.{leb}
+use borrow.Author.Tests.{le-leb, lt-leb, leb-false}
+use Rattle.answer.proofs.Numbers.{both-right}
 use Rattle.chess_move.specs.Number.{lastMove}
 use Rattle.actions.specs.Part.{moveAt, movesIn}
 use Rattle.actions.proofs.Counting.{one-more}
-use Rattle.position.specs.Layout.{positionSize, positionOf, positionAt}
+use Rattle.position.specs.Layout.{positionAt}
 use Rattle.claim.specs.Emptying.{irreversible}
+use Rattle.claim.specs.Claim.{runAt}
+use Rattle.claim.proofs.Back.{run-goes-on}
 use Rattle.laws.specs.CodeSince.{lawsSince}
 
 pub since-start : (acts ps : List ℕ) → lawsSince acts ps 0 ≡ 0
@@ -33,16 +37,20 @@ module _ (acts ps : List ℕ) (i m : ℕ) (read : m ≡ moveAt acts i) where
       let g : k - 1 ≡ movesIn acts i = omega arith in
       rw (g, f, add-one i, ← read, le-leb m lastMove h)
 
-  -- t tells whether the move from p, which leads to position k, is irreversible
-  module _ (h : m ≤ lastMove) (k : ℕ) (counted : k ≡ movesIn acts (i + 1)) (p : List ℕ) (from : p ≡ item positionSize ps (k - 1))
-      (t : Bool) (told : t ≡ irreversible (positionOf p) m) where
-    since-told : lawsSince acts ps (i + 1) ≡ cond t k (lawsSince acts ps i)
-    since-told =
-        since-by-move h k counted
-        ∙ ap (λ (u : Bool). cond u k (lawsSince acts ps i)) (sym (told ∙ ap (λ (x : List ℕ). irreversible (positionOf x) m) from))
-
+  -- The run goes from position `first` on, if it begins before position k, where the move leads; t tells whether the move is an irreversible one up to there.
+  module _ (h : m ≤ lastMove) (k : ℕ) (counted : k ≡ movesIn acts (i + 1)) (first : ℕ) (begins : first < k → runAt acts ps (i + 1) .first ≡ first)
+      (t : Bool) (told : t ≡ leb k first && irreversible (positionAt ps (k - 1)) m) where
     pub since-found : t ≡ true → lawsSince acts ps (i + 1) ≡ k
-    since-found e = since-told ∙ ap (λ (u : Bool). cond u k (lawsSince acts ps i)) e
+    since-found e =
+        since-by-move h k counted
+        ∙ ap (λ (u : Bool). cond u k (lawsSince acts ps i)) (both-right (leb k first) _ (sym told ∙ e))
+
+    reversible : (u : Bool) → leb k first ≡ u → t ≡ false → irreversible (positionAt ps (k - 1)) m ≡ false
+    reversible true e f = sym (told ∙ ap (λ (v : Bool). v && irreversible (positionAt ps (k - 1)) m) e) ∙ f
+    reversible false e f = run-goes-on acts ps i m read h k counted first (begins (leb-false k first e)) (leb-false k first e) .0
 
     pub since-passed : t ≡ false → lawsSince acts ps (i + 1) ≡ lawsSince acts ps i
-    since-passed e = since-told ∙ ap (λ (u : Bool). cond u k (lawsSince acts ps i)) e
+    since-passed e = since-by-move h k counted ∙ ap (λ (u : Bool). cond u k (lawsSince acts ps i)) (reversible (leb k first) refl e)
+
+    pub begun-before : first < k - 1 → runAt acts ps i .first ≡ first
+    begun-before l = run-goes-on acts ps i m read h k counted first (begins (omega arith)) (omega arith) .1

@@ -5,10 +5,12 @@ use chess_move::LAST_MOVE;
 use claim::CLAIM_COUNT;
 use ending::GOES_ON;
 ghost use mathlib.Core.Path.{_≡_};
-ghost use mathlib.Core.Bool.{cond};
-ghost use Prim.Native.Nat.{_+_};
+ghost use mathlib.Core.Bool.{cond, _&&_};
+ghost use Prim.Native.Nat.{_+_, _-_, _<_};
 ghost use lib.Dec.{leb};
-ghost use Rattle.claim.specs.Claim.{claimCount};
+ghost use Rattle.position.specs.Layout.{positionAt};
+ghost use Rattle.claim.specs.Emptying.{irreversible};
+ghost use Rattle.claim.specs.Claim.{claimCount, runAt};
 ghost use Rattle.game_rules.specs.Limits.{limits};
 ghost use Rattle.game_rules.specs.Good.{historyOf};
 ghost use Rattle.game_rules.specs.Calls.{logCheck};
@@ -30,8 +32,20 @@ pub struct Ruled {
     pub laws_claim: u64,
 }
 
-// The position since which the Laws' count goes: back from the last action to one that moved a pawn or captured.
-fn since(acts: &[u8], ps: &[u8], n: usize) -> usize
+// Whether the move `m` to position `k` moved a pawn or captured. In the run, which goes from position `first` on, none did: there nothing is looked up.
+fn counts_anew(ps: &[u8], first: usize, k: usize, m: u64) -> bool
+    requires { ⌜ 0 < k ⌝ }
+    ensures { λ r. ⌜ r ≡ (leb k first && irreversible (positionAt (now (ps .entry)) (k - 1)) m) ⌝ }
+{
+    if first < k {
+        return false;
+    }
+    claim::is_irreversible(position::at(ps, k - 1), m)
+}
+
+// The position since which the Laws' count goes: back from the last action to one that moved a pawn or captured. The run goes from position `first` on.
+fn since(acts: &[u8], ps: &[u8], n: usize, first: usize) -> usize
+    requires { ⌜ runAt (now acts) (now ps) n .first ≡ first ⌝ }
     ensures { λ r. ⌜ r ≡ lawsSince (now (acts .entry)) (now (ps .entry)) n ⌝ }
 {
     let mut k = actions::moves_in(acts, n);
@@ -40,7 +54,7 @@ fn since(acts: &[u8], ps: &[u8], n: usize) -> usize
         i -= 1;
         let m = actions::move_at(acts, i);
         if m <= LAST_MOVE {
-            if claim::is_irreversible(position::at(ps, k - 1), m) {
+            if counts_anew(ps, first, k, m) {
                 return k;
             }
             k -= 1;
@@ -87,7 +101,7 @@ fn rule(acts: &[u8], ps: &[u8], n: usize, m: usize) -> Ruled
 {
     let run = claim::run_at(acts, ps, n);
     let count = claim::moves_since(run.since, m);
-    let laws = since(acts, ps, n);
+    let laws = since(acts, ps, n, run.first);
     let laws_count = claim::moves_since(laws, m);
     let places = position::equal_places(ps, run.first, m);
     let going = ending::result(acts, ps, n, m) == GOES_ON;
@@ -121,10 +135,10 @@ fn stands(acts: &[u8], ps: &[u8], n: usize, m: usize) -> bool
     requires { ⌜ logCheck limits (now acts) (now ps) n m ≡ 0 ⌝ }
     ensures { λ r. ⌜ r ≡ lawsClaimStands (historyOf (now (acts .entry)) (now (ps .entry)) n) ⌝ }
 {
-    if CLAIM_COUNT <= claim::moves_since(since(acts, ps, n), m) {
+    let run = claim::run_at(acts, ps, n);
+    if CLAIM_COUNT <= claim::moves_since(since(acts, ps, n, run.first), m) {
         return true;
     }
-    let run = claim::run_at(acts, ps, n);
     position::equals_two_earlier(ps, run.first, m)
 }
 

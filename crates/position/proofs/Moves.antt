@@ -9,10 +9,10 @@ use native.Mathlib.Numerals.{add-one}
 use native.Mathlib.Omega.{arith}
 use lib.Dec.{eqb}
 use lib.ListN.{length, drop, take, getD}
-use lib.Seq.{drop-cons}
+use lib.Seq.{drop-cons, getD-take}
 use borrow.Author.Tests.{eq-eqb, ne-eqb, eqb-true, eqb-false}
 use Rattle.answer.specs.Numbers.{same}
-use Rattle.answer.proofs.Same.{same-lengths}
+use Rattle.answer.proofs.Same.{same-eq, same-lengths}
 use Rattle.chess_move.specs.Number.{ofBytes}
 use Rattle.position.specs.Layout.{lengthAt, movesAt, positionSize, movesFrom, positionOf}
 use Rattle.position.specs.Repeats.{equal}
@@ -86,6 +86,15 @@ same-lists p q bp bq hp hq =
 pub equal-not : (p q : List ℕ) → same (take recordSize p) (take recordSize q) ≡ false → equal (positionOf p) (positionOf q) ≡ false
 unfolding equal positionOf
 equal-not p q h = rw h
+
+-- and differ if one number of the records does
+pub equal-not-at : (p q : List ℕ) (i : ℕ) → i < recordSize → (getD p i 0 ≡ getD q i 0 → ⊥) → equal (positionOf p) (positionOf q) ≡ false
+equal-not-at p q i h n = equal-not p q (go (same (take recordSize p) (take recordSize q)) refl)
+  where
+    go : (t : Bool) → same (take recordSize p) (take recordSize q) ≡ t → t ≡ false
+    go true e =
+        absurd (n (sym (getD-take recordSize p i 0 h) ∙ ap (λ (l : List ℕ). getD l i 0) (same-eq _ _ e) ∙ getD-take recordSize q i 0 h))
+    go false e = refl
 
 pub equal-lists : (p q : List ℕ) → same (take recordSize p) (take recordSize q) ≡ true
     → equal (positionOf p) (positionOf q) ≡ same (positionOf p .moves) (positionOf q .moves)

@@ -1,5 +1,6 @@
 // The positions part of a log, after game.rs: where a position lies, when two are equal, and whether the last equals two earlier ones.
 use board_builder::RECORD_SIZE;
+use board_builder::SIDE_AT;
 use move_list::LONGEST_LIST;
 ghost use mathlib.Core.Path.{_≡_};
 ghost use mathlib.Core.Bool.{cond};
@@ -44,11 +45,15 @@ pub fn at(ps: &[u8], k: usize) -> &[u8]
     position(ps, k)
 }
 
-// In place, and up to the first byte that differs: the record, then the list with its length in front. The in-check byte between them is not looked at.
+// In place: the record, then the list with its length in front. The in-check byte between them is not looked at. The side comes first, since in a game
+// every other position has the other one, and one byte tells those apart.
 fn same_position(p: &[u8], q: &[u8]) -> bool
     requires { ⌜ (length (now p) ≡ positionSize) × (length (now q) ≡ positionSize) ⌝ }
     ensures { λ r. ⌜ r ≡ equal (positionOf (now (p .entry))) (positionOf (now (q .entry))) ⌝ }
 {
+    if p[SIDE_AT] != q[SIDE_AT] {
+        return false;
+    }
     if !answer::same_bytes(&p[..RECORD_SIZE], &q[..RECORD_SIZE]) {
         return false;
     }

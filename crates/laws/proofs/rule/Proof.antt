@@ -1,8 +1,9 @@
 -- `rule` of lib.rt meets its contract: r ≡ ruledOn (historyOf (now (acts .entry)) (now (ps .entry)) n).
 use borrow.Author.Needs.{needs}
-use mathlib.Core.Path.{ap}
+use mathlib.Core.Path.{ap, sym}
 use Prim.Native.Nat.{ℕ}
 use lib.Dec.{eqb}
+use Rattle.claim.specs.declared.Run.{Run}
 use Rattle.laws.proofs.Shown.{ruled-by}
 use Rattle.laws.proofs.rule.Statement.{statement}
 use Rattle.laws.proofs.rule.Tie as tie
@@ -14,7 +15,7 @@ moves-since-requires : tie.Need-moves-since-requires
 moves-since-requires c κs = search needs
 
 since-requires : tie.Need-since-requires
-since-requires c κs = search needs
+since-requires c κs = ap (λ (r : Run). r .first) (sym (c .before .run-at .ensures))
 
 moves-since-requires-2 : tie.Need-moves-since-requires-2
 moves-since-requires-2 c κs = search needs
@@ -33,7 +34,7 @@ reason-requires-2 c κs = search needs
 
 returns : tie.Need-returns
 returns c =
-    let at-args = c .before .before .before .before .before .before .before .before .before .before .args in
+    let a = c .before .before .before .before .before .before .before .before .before .before .args in
     let at-pre = c .before .before .before .before .before .before .before .before .before .before .pre in
     let at-run-at = c .before .before .before .before .before .before .before .run-at in
     let at-moves-since = c .before .before .before .before .before .before .moves-since in
@@ -43,7 +44,7 @@ returns c =
     let at-result = c .before .before .result in
     let at-reason = c .before .reason in
     let goes = ap (λ (k : ℕ). eqb k 0) (at-result .ensures) in
-    ruled-by (at-args .acts .now) (at-args .ps .now) (at-args .n) (at-args .m) (at-pre)
+    ruled-by (a .acts .now) (a .ps .now) (a .n) (a .m) (at-pre)
     (at-run-at .result) (at-since .result) (at-moves-since .result) (at-moves-since2 .result) (at-equal-places .result) (eqb (at-result .result) 0)
     (at-reason .result) (c .reason2 .result) (at-run-at .ensures) (at-since .ensures) (at-moves-since .ensures) (at-moves-since2 .ensures)
     (at-equal-places .ensures) goes (at-reason .ensures) (c .reason2 .ensures)
