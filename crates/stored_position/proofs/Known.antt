@@ -1,4 +1,4 @@
--- Bytes known as those of a position: what is left to look at once the checks pass.
+-- Bytes recognised as those of a position: what is left to look at once the checks pass.
 -- Assumes nothing.
 use mathlib.Core.Path.{_≡_, refl, ap, ap₂, sym, _∙_}
 use mathlib.Core.Bool.{Bool, true, false, _&&_, and-comm, false≢true}
@@ -158,7 +158,7 @@ module _ (s : List ℕ) where
   unfolding recordFits numbersInRange
   short-record h = rw (ne-eqb (length (take recordSize s)) recordSize (λ e. omega (arith, length-take recordSize s, e)))
 
-  -- of a record in range, the rest tells a position that lists a move
+  -- with a record in range, the rest decides whether the bytes are a position that lists a move
   pub by-rest-with : (m : ℕ) → AllBytes s → numbersInRange (take recordSize s) ≡ true → isPositionWith s m ≡ restFitsWith s m
   unfolding restFitsWith frontFits
   by-rest-with m b r = go (eqb (length s) positionSize) refl (leb (getD s checkAt 0) 1) refl
