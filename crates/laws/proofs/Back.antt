@@ -1,4 +1,4 @@
--- The position since which the Laws' count goes, looked for from the last action back: while none was irreversible, what is before says it.
+-- The position from which the Laws' count runs, looked for back from the last action: as long as none was irreversible, what comes before decides.
 -- Assumes nothing.
 use mathlib.Core.Path.{_≡_, refl, ap, sym, _∙_}
 use mathlib.Core.Bool.{Bool, true, false, cond}

@@ -30,7 +30,7 @@ pub struct Ruled {
     pub laws_claim: u64,
 }
 
-// The position since which the Laws' count goes: back from the last action to one that moved a pawn or captured.
+// The position from which the Laws' count runs: back from the last action to one that moved a pawn or captured.
 fn since(acts: &[u8], ps: &[u8], n: usize) -> usize
     ensures { λ r. ⌜ r ≡ lawsSince (now (acts .entry)) (now (ps .entry)) n ⌝ }
 {
@@ -70,7 +70,7 @@ fn number_if(test: bool, number: u64) -> u64
     if test { number } else { 0 }
 }
 
-// 1 by a count, 2 by equal positions, 3 by both; 0 where the game does not go on.
+// 1 by a count, 2 by equal positions, 3 by both; 0 if the game has ended.
 fn reason(going: bool, count: usize, equals: u64) -> u64
     ensures { λ r. ⌜ r ≡ cond going (cond (leb claimCount count) 1 0 + cond (leb 2 equals) 2 0) 0 ⌝ }
 {
