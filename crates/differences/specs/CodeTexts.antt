@@ -1,4 +1,4 @@
--- A text that is put together, and its two parts: the lines of two starts, which rolls have in front, a byte for each number; and the
+-- A text that is put together, and its two parts: the lines of two starts, which rolls have in front, one byte per number; and the
 -- line of the first action that differs between two texts of actions.
 -- Assumes nothing.
 use Prim.Native.Nat.{ℕ}

@@ -27,7 +27,7 @@ differencesCheck L s t = firstRefusal (rollAnswer (readRoll L s) .number ∷ rol
 unfoldable pub differencesText : Limits → List ℕ → List ℕ → List ℕ
 differencesText L s t = linesText (rollDifferences L s t)
 
--- the refusals, then 7 with the length needed, else 0 with the length
+-- the refusals, then 7 with the length needed, otherwise 0 with the length
 abbrev pub differencesAnswer : Limits → List ℕ → List ℕ → ℕ → Answer
 differencesAnswer L s t room = writeAnswer (differencesCheck L s t) (differencesText L s t) room
 

@@ -44,7 +44,7 @@ startDifferences i (x ∷ xs) (y ∷ ys) = ifDiffers (startKey i) x y ++ startDi
 
 -- ---- the actions
 
--- "its roll code + 16 × the move", of the action at the front of some bytes; where it is no move, the move's bytes are 0
+-- "its roll code + 16 × the move", for the action at the front of some bytes; where it is not a move, the move's bytes are 0
 abbrev pub actionNumber : List ℕ → ℕ
 actionNumber bs = codeOf (kindAt bs) (colourAt bs) + 16 * moveNumberAt bs
 

@@ -23,7 +23,7 @@ plainSize bytes = cond (isHeld (actionOf bytes)) 1 0
 unfoldable pub sizeAt : List ℕ → ℕ
 sizeAt bs = cond (isHeld (actionOf (take actionSize bs))) (length (actionText (kindAt bs) (colourAt bs) (moveNumberAt bs))) 0
 
--- one more than the length of the text of the first n, or 0 where one of them is none
+-- one more than the length of the text of the first n, or 0 if one of them is not an action in range
 unfoldable pub actionsSize : ℕ → List ℕ → ℕ
 actionsSize n acts = cond (actionsHeld acts n) (1 + length (actionsText n acts)) 0
 
