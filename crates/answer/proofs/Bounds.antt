@@ -71,7 +71,7 @@ bound-parts n s i m =
     ∙ bound-both n (take m (drop i s)) (drop m (drop i s))
     ∙ ap (λ (l : List ℕ). allAtMost n (take m (drop i s)) && allAtMost n l) (drop-drop m i s)
 
--- behind a part that is within the bound, it is enough to look on from any place in that part
+-- behind a part that is within the bound, it is enough to start looking at any place in that part
 pub bound-overlap : (n : ℕ) (s : List ℕ) (i j m : ℕ) → i ≤ j → j ≤ i + m → allAtMost n (take m (drop i s)) ≡ true
     → allAtMost n (drop j s) ≡ allAtMost n (drop i s)
 bound-overlap n s i j m h k e = go (allAtMost n (drop j s)) refl

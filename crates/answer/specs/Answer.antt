@@ -72,7 +72,7 @@ noClaim = 15
 abbrev pub partTooShort : ℕ
 partTooShort = 16
 
--- order 1: a roll cut short or too long, with a number not shortest or out of range; bytes that are no actions
+-- order 1: a roll cut short or too long, with a number not in its shortest form or out of range; bytes that are not actions
 abbrev pub badRoll : ℕ
 badRoll = 17
 

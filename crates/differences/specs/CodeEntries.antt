@@ -38,7 +38,7 @@ sameEntry l m =
     (cond (ltb (numberAt l 2) 128) 3
     (cond (eqb (numberAt l 3) (numberAt m 3)) 4 0)) 0)) 0) 1) 0
 
--- of n actions from the front
+-- for n actions from the front
 unfoldable pub textNumbers : ℕ → List ℕ → List ℕ
 textNumbers zero l = []
 textNumbers (suc n) l = entryNumber l ∷ textNumbers n (drop (entrySize l) l)

@@ -20,6 +20,6 @@ startOf s = take recordSize s
 abbrev pub startLines : List ℕ → List ℕ → List ℕ
 startLines s t = linesText (startDifferences 0 (startOf s) (startOf t))
 
--- of the first n actions of one text and the first m of another
+-- for the first n actions of one text and the first m of another
 abbrev pub actionLine : ℕ → List ℕ → ℕ → List ℕ → List ℕ
 actionLine n l m k = linesText (actionDifference 0 (textNumbers n l) (textNumbers m k))

@@ -10,13 +10,13 @@ use Rattle.roll_text.specs.Roll.{Rolled, refusal, rolled, readRoll}
 use Rattle.roll_text.specs.Calls.{rollAnswer}
 use Rattle.differences_text.specs.Differences.{Difference, startDifferences, actionNumbers, actionDifference, linesText}
 
--- of two games as the roll reader reads them
+-- for two games as the roll reader reads them
 unfoldable pub differences : Rolled → Rolled → List Difference
 differences (refusal k) y = []
 differences (rolled xs n bs) (refusal k) = []
 differences (rolled xs n bs) (rolled ys m cs) = startDifferences 0 xs ys ++ actionDifference 0 (actionNumbers n bs) (actionNumbers m cs)
 
--- of two rolls
+-- for two rolls
 abbrev pub rollDifferences : Limits → List ℕ → List ℕ → List Difference
 rollDifferences L s t = differences (readRoll L s) (readRoll L t)
 

@@ -114,7 +114,7 @@ FirstRollFirst = (L : Limits) (s t out : List ℕ) → (readerNumber L s ≡ 0 �
 abbrev pub ThenTheSecond : Type 0
 ThenTheSecond = (L : Limits) (s t out : List ℕ) → readerNumber L s ≡ 0 → (readerNumber L t ≡ 0 → ⊥) → Refuses (teller L) s t out (readerNumber L t)
 
--- of the reader's four numbers 16 cannot happen
+-- of the reader's four numbers, 16 cannot occur
 abbrev pub Never16 : Type 0
 Never16 = (L : Limits) (s t : List ℕ) (room : ℕ) → teller L .answer s t room .number ≡ partTooShort → ⊥
 

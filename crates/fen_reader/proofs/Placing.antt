@@ -1,4 +1,4 @@
--- The placement in one pass: a byte's class says what `placeByte` does, and the classes put together whether every byte was one of a placement.
+-- The placement in one pass: a byte's class says what `placeByte` does, and the classes put together whether every byte may stand in a placement.
 -- Assumes nothing.
 use mathlib.Core.Path.{_≡_, refl, sym, ap, _∙_}
 use mathlib.Core.Bool.{Bool, true, false, _&&_, and-true, and-false}

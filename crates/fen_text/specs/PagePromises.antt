@@ -1,4 +1,4 @@
--- What order 7 promises, each as a statement that can be read by itself, of the definitions that the page call's contract cites.
+-- What order 7 promises, each as a statement that can be read by itself, about the definitions that the page call's contract cites.
 -- Assumes nothing.
 use Prim.Native.Nat.{ℕ, _+_, _*_, _≤_, _<_}
 use mathlib.Core.Path.{_≡_}

@@ -92,7 +92,7 @@ module _ (acts ps : List ℕ) (n m i k : ℕ) (here : k ≡ stepTo acts ps m i) 
   unfolding sound
   sound-turn was fits = rw (add-one i, was, turn-on fits .1)
 
-  -- a step that does not pass, of an action within the moves in all
+  -- a step that does not pass, for an action within the moves in all
   turn-off : m < k → movesIn acts (suc i) ≤ m → nextSound limits acts ps i ≡ false
   turn-off over fits = go (nextSound limits acts ps i) refl
     where

@@ -527,7 +527,7 @@ fn first_run() -> Run {
     }
 }
 
-// One line and what came of it. It does not go on at the input's end, and at a line that has no newline or is longer than its room.
+// One line and what came of it. The run stops at the input's end, and at a line that has no newline or is longer than its room.
 struct Turn {
     goes_on: bool,
     input: Input,

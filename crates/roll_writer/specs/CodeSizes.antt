@@ -19,7 +19,7 @@ moveSize colour move = cond (isHeld (movesHere colour move)) (1 + length (number
 abbrev pub plainSize : List ℕ → ℕ
 plainSize bytes = cond (isHeld (actionOf bytes)) 1 0
 
--- of the action at the front of some bytes
+-- for the action at the front of some bytes
 unfoldable pub sizeAt : List ℕ → ℕ
 sizeAt bs = cond (isHeld (actionOf (take actionSize bs))) (length (actionText (kindAt bs) (colourAt bs) (moveNumberAt bs))) 0
 

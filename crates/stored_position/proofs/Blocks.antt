@@ -111,7 +111,7 @@ block-range n s k block h z =
     let e : k + (block - k) ≡ block = omega arith in
     ap (λ (x : ℕ). allAtMost n (movesFrom s movesAt x)) (sym e) ∙ block-from n s movesAt k (block - k) (zeros-from s (movesAt + 2 * k) z)
 
--- and which are no other move
+-- and which are not any other move
 zeros-list : (m : ℕ) (s : List ℕ) (at j : ℕ) → (m ≡ 0 → ⊥) → ZerosFrom s at → among m (movesFrom s at j) ≡ false
 unfolding among movesFrom
 zeros-list m s at zero n z = refl

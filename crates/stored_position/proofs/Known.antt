@@ -88,7 +88,7 @@ module _ (s : List ℕ) (b : AllBytes s) (whole : length s ≡ positionSize) whe
       ap (λ (t : Bool). eqb (positionCheck (positionOf s)) 0 && t)
       (ap₂ same in-pieces written-back ∙ same-front (take recordSize s) _ _ ∙ same-past)
 
-  -- with the record and the in-check byte in range, the list is left to look at
+  -- with the record and the in-check byte in range, only the list is left to look at
   pub by-its-list : numbersInRange (take recordSize s) ≡ true → getD s checkAt 0 ≤ 1 → isPosition s ≡ listFits s (getD s lengthAt 0)
   unfolding positionOf listFits
   by-its-list board check =
@@ -111,7 +111,7 @@ other-size s n = go (eqb (positionCheck (positionOf s)) 0) refl
         same-lengths s (positionBytes (positionOf s)) (λ h. n (h ∙ length-position (positionOf s) (p .wide) (p .short)))
     go false e = refl
 
--- the front of a position: without it there is none, with it the list is left to look at
+-- the front of a position: without it there is no position, with it only the list is left to look at
 module _ (s : List ℕ) where
   pub front-whole : frontFits s ≡ true → length s ≡ positionSize
   unfolding frontFits
