@@ -144,7 +144,7 @@ pub fn rest(s: &[u8], n: usize) -> &[u8]
     if n <= s.len() { &s[n..] } else { &s[..0] }
 }
 
-// Whether two texts of one length differ is gathered without a branch, so that many bytes are compared at a time.
+// Differences between two texts of one length are gathered without a branch, so that many bytes are compared at a time.
 pub fn same_bytes(a: &[u8], b: &[u8]) -> bool
     ensures { λ r. ⌜ r ≡ same (now (a .entry)) (now (b .entry)) ⌝ }
 {

@@ -1,4 +1,4 @@
--- How long a name is when entries are removed: each text tried is no shorter than the last, and what resolved still does, so the first has no more bytes;
+-- How long a name is when entries are removed: no text tried is shorter than the one before, and what resolved still does, so the first has no more bytes;
 -- only a name that was the last resort may give way to a longer one.
 -- Assumes nothing.
 use Prim.Native.Nat.{ℕ, _≤_}
