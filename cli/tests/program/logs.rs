@@ -328,8 +328,8 @@ fn files_of_another_size_are_trouble() {
     ruling(&empty, &empty, &format!("{empty}: it is empty, but a log has a start"));
     ruling(&none, &start, &format!("{none}: No such file or directory"));
     ruling(&folder.path(""), &start, &format!("{}: Is a directory", folder.path("")));
-    ruling("/dev/zero", &start, &format!("/dev/zero: more than {ACTIONS_PART} bytes, the most that the actions of a log have"));
-    ruling(&empty, "/dev/zero", &format!("/dev/zero: more than {POSITIONS_PART} bytes, the most that the positions of a log have"));
+    ruling("/dev/zero", &start, &format!("/dev/zero: more than {ACTIONS_PART} bytes, the most that the actions of a log may have"));
+    ruling(&empty, "/dev/zero", &format!("/dev/zero: more than {POSITIONS_PART} bytes, the most that the positions of a log may have"));
     // 580 zeros are an empty board with an empty list: a stalemate.
     let ran = run(&["ruling", &empty, &start], b"");
     assert!(ran.text().contains("\nresult       stalemate, after 0 actions and 0 moves\n"), "{}", ran.text());
