@@ -1,4 +1,4 @@
-//! Scripts by which shells complete the words of the program, from the table.
+//! Scripts with which shells complete the words of the program, from the table.
 
 use crate::help::dashed;
 use crate::options::{Asked, Command, Flag, Status, Stop, Takes};
@@ -11,7 +11,7 @@ pub fn run(asked: &Asked) -> Result<Status, Stop> {
         b"bash" => bash(),
         b"zsh" => zsh(),
         b"fish" => fish(),
-        other => return Err(Stop::Trouble([b"completion: ", other, b" is none of bash, zsh and fish"].concat())),
+        other => return Err(Stop::Trouble([b"completion: ", other, b" is not bash, zsh or fish"].concat())),
     };
     let mut output: Output = Output::new()?;
     output.put(script.as_bytes())?;

@@ -9,7 +9,7 @@ use menkhodur::{Action, CastleRights, Color, Difference, File, Piece, Which, dif
 use std::ffi::OsStr;
 use std::io::Read;
 
-pub const NAMES: Flag = Flag { name: "names", value: None, about: "behind a tab, say squares, men and actions in words" };
+pub const NAMES: Flag = Flag { name: "names", value: None, about: "after a tab, name squares, men and actions in words" };
 
 /// No roll has more bytes than this, and no number in one more than five: what stands behind them changes no answer.
 const LOOKED_AT: u64 = MAX_ROLL as u64 + 8;

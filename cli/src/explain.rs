@@ -18,7 +18,7 @@ pub fn run(asked: &Asked) -> Result<Status, Stop> {
     if asked.words.len() == 1 && asked.words[0] == "-" {
         return explain.lines_of(&asked.words[0]);
     }
-    // A FEN that was not quoted comes as one word a field.
+    // A FEN that was not quoted comes as one word per field.
     let words: Vec<&[u8]> = asked.words.iter().map(|word| word.as_bytes()).collect();
     explain.put(None, &words.join(&b' '))?;
     explain.output.flush()?;
@@ -107,11 +107,11 @@ fn explained(text: &[u8], read: Result<Board, Error>, warnings: &[Warning]) -> S
 fn accepted(text: &[u8], board: &Board, warnings: &[Warning]) -> String {
     let mut told = match warnings.len() as u64 {
         0 => "accepted\n".to_string(),
-        count => format!("accepted, with {}: the PGN standard (16.1) would not have this text\n", told::counted(count, "warning")),
+        count => format!("accepted, with {}: the PGN standard (16.1) would not allow this text\n", told::counted(count, "warning")),
     };
     let (shown, _) = excerpt(text, 0);
     told += &format!("  {shown}\n\n{}\n", diagram(board));
-    told += &format!("  key         {board}{}\n", if board.to_fen().as_bytes() == text { ", which the text is" } else { "" });
+    told += &format!("  key         {board}{}\n", if board.to_fen().as_bytes() == text { ", the same as the text" } else { "" });
     told += &format!("  to move     {}\n", board.get_side_to_move());
     let rights = ALL_COLORS.map(|color| format!("{color} {}", rights(board.get_castle_rights(color))));
     told += &format!("  castling    {}\n", rights.join(", "));
@@ -157,7 +157,7 @@ fn diagram(board: &Board) -> String {
 const BEFORE: usize = 90;
 const BEHIND: usize = 40;
 
-/// The text around a place, each byte that is no printable ASCII as `\xNN`, and the column of the place.
+/// The text around a place, each byte that is not printable ASCII as `\xNN`, and the column of the place.
 fn excerpt(text: &[u8], offset: usize) -> (String, usize) {
     let (from, to) = (offset.saturating_sub(BEFORE), text.len().min(offset.max(BEFORE) + BEHIND));
     let byte = |byte: &u8| match byte {

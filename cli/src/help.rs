@@ -38,7 +38,7 @@ pub fn of(command: &Command) -> String {
     told += "Options:\n";
     told += &flags(command.flags);
     told += &flags(COMMON);
-    told += &row("--", "end the options: what follows are words");
+    told += &row("--", "end the options: what follows are arguments");
     told += "\nExit status:\n";
     for (status, about) in command.statuses.iter().enumerate() {
         told += &row(&status.to_string(), about);

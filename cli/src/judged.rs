@@ -1,4 +1,4 @@
-//! What the archive says of lines, page by page, on as many threads as the machine has for it: a call keeps nothing, and any thread may make it.
+//! What the archive says about lines, page by page, on as many threads as the machine has for it: a call keeps nothing, and any thread may make it.
 
 use menkhodur::lent::{self, Record};
 use menkhodur::{Error, PageReader};
@@ -78,7 +78,7 @@ fn key_of(record: &Record, room: &mut [u8]) -> usize {
     lent::fen_write(record, room).expect("a record that was read has a key, and the room is long enough")
 }
 
-/// How many bytes are whole lines from a text's front: as many lines as have place in `about` bytes, or the first.
+/// How many bytes are whole lines from a text's front: as many lines as fit in `about` bytes, or the first.
 fn whole_lines(text: &[u8], about: usize) -> usize {
     let newline = |byte: &u8| *byte == b'\n';
     if text.len() <= about {

@@ -11,8 +11,9 @@ use menkhodur::Error;
 use std::io::Write;
 
 pub const CHECK: Flag = Flag { name: "check", value: None, about: "print only the lines that are not their own key" };
-pub const STRICT: Flag = Flag { name: "strict", value: None, about: "refuse what `menkhodur explain` warns of, as `! strict OFFSET NAME`" };
-pub const JSON: Flag = Flag { name: "json", value: None, about: "print one JSON object a line" };
+pub const STRICT: Flag =
+    Flag { name: "strict", value: None, about: "refuse what `menkhodur explain` warns about, as `! strict OFFSET NAME`" };
+pub const JSON: Flag = Flag { name: "json", value: None, about: "print one JSON object per line" };
 
 pub fn run(asked: &Asked) -> Result<Status, Stop> {
     let form = Form { check: asked.has(&CHECK), strict: asked.has(&STRICT), json: asked.has(&JSON) };
@@ -67,7 +68,7 @@ impl Tally {
     }
 }
 
-/// What is said of a line.
+/// What is said about a line.
 #[derive(Clone, Copy)]
 enum Said<'a> {
     Key(&'a [u8]),
@@ -115,7 +116,7 @@ impl Keys {
         if self.form.check || self.form.strict || self.form.json { self.told(text, judged, place) } else { self.plain(judged) }
     }
 
-    /// As the proved program `keys`: a line a line. What the lines are is not looked at.
+    /// As the proved program `keys`: one line per line. What the lines are is not looked at.
     fn plain(&mut self, judged: &Judged) -> Result<(), Stop> {
         for answer in judged.answers() {
             let space = self.output.space(LONGEST_KEY + 1)?;
@@ -171,7 +172,7 @@ impl Keys {
         self.odd.first().copied()
     }
 
-    /// Counts a line, which is its own key or not, and prints what is said of it.
+    /// Counts a line, which is its own key or not, and prints what is said about it.
     fn put(&mut self, place: Place<'_>, line: &[u8], said: Said<'_>, own: bool) -> Result<(), Stop> {
         match said {
             Said::Key(_) if self.form.check && !own => self.tally.renamed += 1,

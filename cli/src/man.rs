@@ -22,8 +22,8 @@ fn page() -> String {
     told += &COMMANDS.iter().map(section).collect::<String>();
     told += ".SH OPTIONS\nEvery command takes these.\n";
     told += &COMMON.iter().map(|flag| item(&dashed(flag), flag.about)).collect::<String>();
-    told += &item("--", "end the options: what follows are words");
-    told += ".SH EXIT STATUS\nA command says what its 0 and 1 are.\n";
+    told += &item("--", "end the options: what follows are arguments");
+    told += ".SH EXIT STATUS\nEach command says what its 0 and 1 mean.\n";
     told + &item("2", TROUBLE)
 }
 

@@ -97,7 +97,7 @@ pub enum Wanted {
 /// Reads a command line without the program's own name.
 pub fn read(words: &[OsString]) -> Result<Wanted, Stop> {
     let Some(first) = words.first() else {
-        return Err(Stop::trouble(format!("a command is wanted: {}; see menkhodur --help", table::names().join(", "))));
+        return Err(Stop::trouble(format!("a command is needed: {}; see menkhodur --help", table::names().join(", "))));
     };
     match first.to_str() {
         Some("-h" | "--help") => return Ok(Wanted::Say(help::whole())),
@@ -148,10 +148,10 @@ fn flag<'a>(command: &Command, word: &OsStr, left: &mut impl Iterator<Item = &'a
     let flag = known.ok_or_else(|| refused("unknown option ", word, &see))?;
     match (flag.value, value) {
         (None, None) => Ok((flag.name, OsString::new())),
-        (None, Some(_)) => Err(refused("no value is taken by ", OsStr::from_bytes(name), &see)),
+        (None, Some(_)) => Err(refused("no value is allowed for ", OsStr::from_bytes(name), &see)),
         (Some(_), Some(value)) => Ok((flag.name, value)),
         (Some(wanted), None) => {
-            let next = left.next().ok_or_else(|| refused(&format!("a value ({wanted}) is wanted by "), word, &see))?;
+            let next = left.next().ok_or_else(|| refused(&format!("a value ({wanted}) is needed for "), word, &see))?;
             Ok((flag.name, next.clone()))
         }
     }

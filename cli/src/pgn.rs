@@ -9,8 +9,8 @@ use crate::output::Output;
 use crate::told::{self, Progress};
 use menkhodur::{Error, MoveText, PgnMove};
 
-pub const MOVES: Flag = Flag { name: "moves", value: None, about: "print the moves too, one a line, each with its level" };
-pub const JSON: Flag = Flag { name: "json", value: None, about: "print one JSON object a game" };
+pub const MOVES: Flag = Flag { name: "moves", value: None, about: "print the moves too, one per line, each with its level" };
+pub const JSON: Flag = Flag { name: "json", value: None, about: "print one JSON object per game" };
 
 pub fn run(asked: &Asked) -> Result<Status, Stop> {
     let form = Form { moves: asked.has(&MOVES), json: asked.has(&JSON), many: asked.words.len() > 1 };
@@ -73,7 +73,7 @@ impl Lines for Pgn {
         Ok(())
     }
 
-    /// A game that a failed read cut is not told: it could be another one without its end.
+    /// A game cut short by a failed read is left out: without its end it could be another one.
     fn ended(&mut self, whole: bool) -> Result<(), Stop> {
         if whole {
             return self.games.finish(&mut |game| self.said.game(game));
@@ -87,7 +87,7 @@ impl Lines for Pgn {
     }
 }
 
-/// What the archive says of a game.
+/// What the archive says about a game.
 enum Judged<'a> {
     Moves { own: u64, variations: u64, list: Vec<PgnMove<'a>> },
     Refused(Error),

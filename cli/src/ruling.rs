@@ -41,7 +41,7 @@ fn at(asked: &Asked, all: usize) -> Result<usize, Stop> {
     match number {
         Some(number) if number <= all => Ok(number),
         Some(number) => Err(Stop::trouble(format!("--at {number}: the log has {}", told::counted(all as u64, "action")))),
-        None => Err(Stop::trouble([b"--at ", value.as_encoded_bytes(), b": a number of actions is wanted"].concat())),
+        None => Err(Stop::trouble([b"--at ", value.as_encoded_bytes(), b": a number of actions is needed"].concat())),
     }
 }
 

@@ -1,4 +1,4 @@
-//! `menkhodur show`: a stored log as text, one action a line.
+//! `menkhodur show`: a stored log as text, one action per line.
 
 use crate::entry::{self, Entry};
 use crate::input;

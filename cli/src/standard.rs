@@ -55,20 +55,20 @@ impl fmt::Display for Oddity {
             Oddity::Ranks { found } => write!(f, "the placement has {found} ranks, not 8; past rank 1 it goes on at rank 8"),
             Oddity::ShortRank { rank, files } => write!(f, "rank {rank} has {files} of 8 files; the others stay empty"),
             Oddity::LongRank { rank, files } => write!(f, "rank {rank} has {files} files, not 8; past file h it goes on at file a"),
-            Oddity::Digits => f.write_str("two digits in a row; empty squares side by side are one digit"),
+            Oddity::Digits => f.write_str("two digits in a row; empty squares side by side are written as one digit"),
             Oddity::Side => f.write_str("the side to move is a capital; it should be w or b"),
             Oddity::Empty { field } => write!(f, "field {field} is empty: a space at an end, or two in a row"),
             Oddity::CastlingLetter => f.write_str("the castling field has something other than K, Q, k and q, or - alone"),
-            Oddity::CastlingTwice => f.write_str("a letter of the castling field stands twice"),
+            Oddity::CastlingTwice => f.write_str("a letter of the castling field occurs twice"),
             Oddity::CastlingOrder => f.write_str("the letters of the castling field are not in the order KQkq"),
-            Oddity::EnPassantSquare => f.write_str("the en passant field is no square and not -; no file is set"),
+            Oddity::EnPassantSquare => f.write_str("the en passant field is neither a square nor -; no file is set"),
             Oddity::EnPassantRank { wanted } => {
-                write!(f, "the en passant square is on another rank than {wanted}, that of the side to move; only its file counts")
+                write!(f, "the en passant square is not on rank {wanted}, that of the side to move; only its file counts")
             }
-            Oddity::EnPassantTail => f.write_str("the en passant square has something behind it"),
+            Oddity::EnPassantTail => f.write_str("the en passant square has something after it"),
             Oddity::Counters { fields } => write!(f, "{fields} fields, not 6: the half-move clock or the move number is missing"),
-            Oddity::HalfMoves => f.write_str("the half-move clock is no number"),
-            Oddity::MoveNumber => f.write_str("the move number is no number from 1 on"),
+            Oddity::HalfMoves => f.write_str("the half-move clock is not a number"),
+            Oddity::MoveNumber => f.write_str("the move number is not a number from 1 up"),
             Oddity::Fields { found } => write!(f, "{found} fields, not 6"),
         }
     }

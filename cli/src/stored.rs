@@ -52,17 +52,17 @@ impl Stored {
         let (actions, action_count) = part(&words[0], "action", ACTION_BYTES, ACTIONS_PART)?;
         let (positions, position_count) = part(&words[1], "position", POSITION_BYTES, POSITIONS_PART)?;
         if position_count == 0 {
-            return Err(Stop::Trouble([input::shown(&words[1]), b": it is empty, and a log has a start"].concat()));
+            return Err(Stop::Trouble([input::shown(&words[1]), b": it is empty, but a log has a start"].concat()));
         }
         Ok(Stored { actions, positions, action_count, position_count })
     }
 
-    /// The counts of the first so many actions.
+    /// The counts of the first `actions` actions.
     fn counts(&self, actions: usize) -> Counts {
         Counts { actions: actions as u64, moves: lent::moves_among(&self.actions, actions) }
     }
 
-    /// The log of the first so many actions.
+    /// The log of the first `actions` actions.
     pub fn log(&self, actions: usize) -> Option<Log> {
         self.stands(actions).then(|| Log::from_parts(&self.actions, &self.positions, self.counts(actions)).ok()).flatten()
     }
@@ -132,11 +132,11 @@ fn part(word: &OsStr, what: &str, size: usize, length: usize) -> Result<(Vec<u8>
     let read = input::open(word).and_then(|file| file.take(length as u64 + 1).read_to_end(&mut bytes));
     let held = read.map_err(|error| Stop::Trouble(input::failed(word, &error)))?;
     if held > length {
-        return Err(wrong(format!("more than {length} bytes, the most that the {what}s of a log have")));
+        return Err(wrong(format!("more than {length} bytes, the most that the {what}s of a log may have")));
     }
     if held % size != 0 {
         let (whole, over) = (held / size, held % size);
-        return Err(wrong(format!("{held} bytes are no whole number of {what}s of {size} bytes: {whole}, and {over} over")));
+        return Err(wrong(format!("{held} bytes are not a whole number of {what}s of {size} bytes: {whole}, and {over} over")));
     }
     bytes.resize(length, 0);
     Ok((bytes, held / size))
@@ -146,8 +146,8 @@ impl fmt::Display for Fault {
     fn fmt(&self, f: &mut fmt::Formatter<'_>) -> fmt::Result {
         f.write_str("the log is not good: ")?;
         match self {
-            Fault::Start => f.write_str("the start is no position"),
-            Fault::Positions { owed, held } => write!(f, "its moves lead to {owed} positions, the start with them, and there are {held}"),
+            Fault::Start => f.write_str("the start is not a position"),
+            Fault::Positions { owed, held } => write!(f, "its moves lead to {owed} positions, counting the start, but there are {held}"),
             Fault::Action { number, why } => write!(f, "action {number} does not stand: {why}"),
         }
     }

@@ -9,15 +9,17 @@ pub const ABOUT: &str = "FEN keys, explanations, PGN games, rulings, stored logs
 pub const TEXT: &[&str] = &[
     "A chess archive files each position once, under its FEN text. Every judgement of this program, keys, numbers, offsets, names and \
      rulings, is the proved archive's.",
-    "Where a file is wanted, - is standard input. Messages go to standard error and begin with `menkhodur: `. Answers go out as soon as a \
-     read brings less than it could, so that a slow pipe gets each at once; where the reader of a pipe has gone, the program ends quietly.",
+    "Where a file is expected, - is standard input. Messages go to standard error and begin with `menkhodur: `. Answers go out as soon as a \
+     read brings less than it could, so that a slow pipe gets each one at once; if the reader of a pipe has gone, the program ends quietly.",
 ];
 
 pub const TROUBLE: &str = "trouble: an option, a file that could not be read to its end, or a write that failed";
 
 /// Options that every command takes.
-pub const COMMON: &[Flag] =
-    &[Flag { name: "help", value: None, about: "say this; -h too" }, Flag { name: "version", value: None, about: "say the version" }];
+pub const COMMON: &[Flag] = &[
+    Flag { name: "help", value: None, about: "print this help; also -h" },
+    Flag { name: "version", value: None, about: "print the version" },
+];
 
 const LOG: &[Argument] = &[
     Argument { name: "ACTIONS", takes: Takes::File, least: 1, most: Some(1), about: "the used bytes of a log's actions, 4 for each" },
@@ -39,18 +41,18 @@ pub const COMMANDS: &[Command] = &[
             takes: Takes::File,
             least: 0,
             most: None,
-            about: "FEN texts, one a line; standard input if none is named",
+            about: "FEN texts, one per line; standard input if none is named",
         }],
         flags: &[keys::CHECK, keys::STRICT, keys::JSON],
         text: &[
             "Prints for each line, in order, its key, which is the one FEN of its position, or `! N OFFSET`: 18, fewer than four fields, \
-             at the line's length; 19, the first byte that is none of a placement; 20, the start of a field that is no side. Offsets count \
+             at the line's length; 19, the first byte that may not stand in a placement; 20, the start of a field that is not a side. Offsets count \
              the bytes of the line from 0. A line of more than 131071 bytes gives `! long`.",
             "With --check the lines are a store's own keys. Only those that are not their own key are printed, `FILE:LINE: TEXT -> KEY` if \
-             the text is a second name of a position, `FILE:LINE: TEXT ! N OFFSET reason` if it is refused.",
-            "With --strict a text that is accepted, and that the PGN standard would not have, is refused too, as `! strict OFFSET NAME`.",
+             the text is a second name for a position, `FILE:LINE: TEXT ! N OFFSET reason` if it is refused.",
+            "With --strict a text that is accepted, but that the PGN standard would not allow, is refused too, as `! strict OFFSET NAME`.",
             "An empty line is a text like any other, and a carriage return is part of its line. A last line without a newline counts if it \
-             has a byte; one that a failed read cut does not. The last line of standard error counts the lines that were written whole.",
+             has a byte; one cut short by a failed read does not. The last line of standard error counts the lines that were written whole.",
             "An object of --json has file, line and text, and key, or number, offset and reason, or strict, offset and reason. Where a text \
              is not UTF-8, text_hex has its bytes.",
         ],
@@ -69,22 +71,22 @@ pub const COMMANDS: &[Command] = &[
             takes: Takes::Text,
             least: 1,
             most: None,
-            about: "the text; several words are joined by single spaces, and - alone reads texts, one a line, from standard input",
+            about: "the text; several words are joined by single spaces, and - alone reads texts, one per line, from standard input",
         }],
         flags: &[explain::JSON],
         text: &[
             "Prints whether the text is accepted; if not, why, with a caret under the byte; if so, the board, the key, the side to move, the \
              castling rights and the en passant square. Then come warnings, each with a name and a caret: what the rules of the archive let \
              pass and the PGN standard, section 16.1, would not. Warnings do not change the exit status; `menkhodur keys --strict` refuses \
-             what is warned of.",
-            "In the texts shown, a byte that is no printable ASCII is \\xNN, and a long text is cut around the caret.",
+             whatever has a warning.",
+            "In the texts shown, a byte that is not printable ASCII is \\xNN, and a long text is cut around the caret.",
             "An object of --json has text and accepted, and number, offset and reason, or key, ranks (from the eighth), side, castling, \
              en_passant and warnings, each with name, offset and reason.",
         ],
         statuses: &["the text is accepted", "it is refused"],
         examples: &[Example {
             command: "menkhodur explain 'rnbqkbnr/pppppppp/8/8/8/8/PPPPPPP/RNBQKBNR w KQkq - 0 1'",
-            about: "a rank with a pawn too few",
+            about: "a rank with one pawn too few",
         }],
         run: explain::run,
     },
@@ -100,21 +102,21 @@ pub const COMMANDS: &[Command] = &[
         }],
         flags: &[pgn::MOVES, pgn::JSON],
         text: &[
-            "Prints for each game a line: its index, its line in the file, its number of moves and that of the moves in its variations; or its \
+            "Prints for each game a line: its index, its line in the file, its number of moves and the number in its variations; or its \
              index, its line, and `! N LINE:COLUMN reason`, with the line and a caret under the byte: 21, a comment or bracket left open; 22, \
-             brackets deeper than 8 levels; 23, something that is no token, a result in brackets, a stray closing bracket. Columns count \
+             brackets deeper than 8 levels; 23, something that is not a token, a result in brackets, a stray closing bracket. Columns count \
              bytes from 1. Where several files are named, each line begins with `FILE: `.",
             "A game ends with its result, or at the next tag pairs. Tag pairs, lines that begin with %, and comments that belong to no game are \
              passed over. A line that begins with `[Event \"` begins a game even in a comment that was left open. What a move says is not \
-             asked, only that it may be one.",
-            "A game with a line of more than 131071 bytes gives `! long LINE`. One that a failed read cut is not told. The last line of \
+             checked, only that it may be a move.",
+            "A game with a line of more than 131071 bytes gives `! long LINE`. One cut short by a failed read is left out. The last line of \
              standard error counts the games that were written whole.",
             "An object of --json has file, game and line, and moves and variations (with --moves also list, each move with its level), or \
              number, at (the line), column, text and reason.",
         ],
         statuses: &["no game was refused", "some game was"],
         examples: &[
-            Example { command: "menkhodur pgn games.pgn", about: "one line a game" },
+            Example { command: "menkhodur pgn games.pgn", about: "one line per game" },
             Example { command: "menkhodur pgn --moves - <game.pgn", about: "the moves of a game, each with the level of its brackets" },
         ],
         run: pgn::run,
@@ -128,7 +130,7 @@ pub const COMMANDS: &[Command] = &[
             "Prints the game, each move by its name from the stored lists, with offers and resignations; the result; the ruling by the \
              crate's count and by that of article 9.3 of the Laws; and what they rest on: both counts, where each began and by what, and the \
              earlier positions of the run that equal the last, by the log's move numbers, with their FEN.",
-            "A log that is not good is told so on standard error, with the first action that does not stand. With --at the actions behind N \
+            "If a log is not good, standard error says so, with the first action that does not stand. With --at the actions after N \
              need not stand.",
             "The object of --json has actions, moves, result, claim and laws_claim in words and as numbers, count with count_since, laws_count \
              with laws_since, equals, equal and last, and as game the objects of `menkhodur show`.",
@@ -139,12 +141,12 @@ pub const COMMANDS: &[Command] = &[
     },
     Command {
         name: "show",
-        about: "a stored log as text, one action a line",
+        about: "a stored log as text, one action per line",
         arguments: LOG,
         flags: &[show::JSON],
         text: &[
             "Prints a line for the start, as action 0, and for each action: its number, how many moves have been made, the side, the move's \
-             name or what else was done, the length of the list of the position after it, and that position's key. Of a log that is not good \
+             name or what else was done, the length of the list of the position after it, and that position's key. If a log is not good, \
              only what stands is printed, and standard error tells what does not.",
             "An object of --json has action, moves, side, kind (start, move, offer, accept, declare, resign), key, in_check and list; that of a \
              move has name, null if no text names it, and coordinates.",
@@ -171,11 +173,11 @@ pub const COMMANDS: &[Command] = &[
             "Prints a line for each of these that differs, in this order: the squares of the start, keyed by number (a1 is 0, e4 is 28, h8 is \
              63), side, white, black, ep, then the first action that differs, keyed action and its index from 0. A line is its key, then the \
              first and the second game's number: a man from 1, the white pawn, to 12, the black king; the side to move, 0 or 1; castling \
-             rights, 1 for the king's side and 2 for the queen's; the file of en passant from 1; and of an action its code in a roll + 16 \
+             rights, 1 for the king's side and 2 for the queen's; the file of en passant from 1; and for an action its code in a roll + 16 \
              times its move, 0 if there is none. Nothing is printed exactly if the rolls are equal, byte for byte.",
-            "With --names each line goes on, behind a tab, with the same in words, as in `e4: white pawn, nothing`.",
-            "Of a roll that is refused only the number is printed: 5, a number of the start out of range; 13, more actions or moves than a log \
-             has; 17, all else. Where both would be refused it is the first one's. Standard error tells which roll, and why.",
+            "With --names each line is followed, after a tab, by the same in words, as in `e4: white pawn, nothing`.",
+            "For a roll that is refused only the number is printed: 5, a number of the start out of range; 13, more actions or moves than a log \
+             has; 17, anything else. If both would be refused, it is the first one's. Standard error tells which roll, and why.",
         ],
         statuses: &["the rolls are equal", "they differ"],
         examples: &[Example { command: "menkhodur diff --names here.roll there.roll", about: "two sites' copies of a game" }],
@@ -183,7 +185,7 @@ pub const COMMANDS: &[Command] = &[
     },
     Command {
         name: "completion",
-        about: "a script by which a shell completes the words of this program",
+        about: "a script with which a shell completes the words of this program",
         arguments: &[Argument {
             name: "SHELL",
             takes: Takes::OneOf(&["bash", "zsh", "fish"]),

@@ -9,7 +9,7 @@ pub fn tell(parts: &[&[u8]]) {
     let _ = io::stderr().write_all(&message);
 }
 
-/// What the system says of an error, without its number.
+/// What the system says about an error, without its number.
 pub fn system(error: &io::Error) -> String {
     let told = error.to_string();
     told.split(" (os error ").next().unwrap_or_default().to_string()

@@ -17,7 +17,7 @@ fn an_accepted_text_is_shown_with_its_board() {
   1  R N B Q K B N R
      a b c d e f g h
 
-  key         rnbqkbnr/pppppppp/8/8/4P3/8/PPPP1PPP/RNBQKBNR b KQkq e3 0 1, which the text is
+  key         rnbqkbnr/pppppppp/8/8/4P3/8/PPPP1PPP/RNBQKBNR b KQkq e3 0 1, the same as the text
   to move     black
   castling    white both sides, black both sides
   en passant  e3
@@ -32,7 +32,7 @@ fn an_accepted_text_is_shown_with_its_board() {
 fn a_warning_stands_under_its_byte_and_leaves_the_status() {
     let ran = run(&["explain", "8/8/8/8/8/8/PPPPPPP/8 w Kk e4"], b"");
     let text = ran.text();
-    assert!(text.starts_with("accepted, with 3 warnings: the PGN standard (16.1) would not have this text\n"), "{text}");
+    assert!(text.starts_with("accepted, with 3 warnings: the PGN standard (16.1) would not allow this text\n"), "{text}");
     for owed in [
         "\nwarning short-rank, at byte 19: rank 2 has 7 of 8 files; the others stay empty\n  8/8/8/8/8/8/PPPPPPP/8 w Kk e4\n                     ^\n",
         "\nwarning en-passant-rank, at byte 28: ",

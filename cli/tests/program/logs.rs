@@ -301,9 +301,9 @@ fn the_first_action_that_does_not_stand_is_told() {
 
 #[test]
 fn a_start_that_is_none_and_positions_too_few_or_too_many_are_told() {
-    see_fault(40, 0, "the start is no position", |_, p| p[0] = 13);
+    see_fault(40, 0, "the start is not a position", |_, p| p[0] = 13);
     see_fault(40, 39, "action 39 does not stand: the position after it is missing", |_, p| p.truncate(POSITION_BYTES * 20));
-    see_fault(40, 41, "its moves lead to 21 positions, the start with them, and there are 22", |_, p| p.extend([0; POSITION_BYTES]));
+    see_fault(40, 41, "its moves lead to 21 positions, counting the start, but there are 22", |_, p| p.extend([0; POSITION_BYTES]));
 }
 
 #[test]
@@ -323,13 +323,13 @@ fn files_of_another_size_are_trouble() {
         (folder.file("empty", ""), folder.file("odd", [1; POSITION_BYTES + 1]), folder.file("start", [0; POSITION_BYTES]));
     let none = folder.path("none");
     let ruling = |a: &str, p: &str, told: &str| expect(&["ruling", a, p], "", ("", &format!("menkhodur: {told}\n"), 2));
-    ruling(&odd, &start, &format!("{odd}: 581 bytes are no whole number of actions of 4 bytes: 145, and 1 over"));
-    ruling(&empty, &odd, &format!("{odd}: 581 bytes are no whole number of positions of 580 bytes: 1, and 1 over"));
-    ruling(&empty, &empty, &format!("{empty}: it is empty, and a log has a start"));
+    ruling(&odd, &start, &format!("{odd}: 581 bytes are not a whole number of actions of 4 bytes: 145, and 1 over"));
+    ruling(&empty, &odd, &format!("{odd}: 581 bytes are not a whole number of positions of 580 bytes: 1, and 1 over"));
+    ruling(&empty, &empty, &format!("{empty}: it is empty, but a log has a start"));
     ruling(&none, &start, &format!("{none}: No such file or directory"));
     ruling(&folder.path(""), &start, &format!("{}: Is a directory", folder.path("")));
-    ruling("/dev/zero", &start, &format!("/dev/zero: more than {ACTIONS_PART} bytes, the most that the actions of a log have"));
-    ruling(&empty, "/dev/zero", &format!("/dev/zero: more than {POSITIONS_PART} bytes, the most that the positions of a log have"));
+    ruling("/dev/zero", &start, &format!("/dev/zero: more than {ACTIONS_PART} bytes, the most that the actions of a log may have"));
+    ruling(&empty, "/dev/zero", &format!("/dev/zero: more than {POSITIONS_PART} bytes, the most that the positions of a log may have"));
     // 580 zeros are an empty board with an empty list: a stalemate.
     let ran = run(&["ruling", &empty, &start], b"");
     assert!(ran.text().contains("\nresult       stalemate, after 0 actions and 0 moves\n"), "{}", ran.text());
@@ -342,8 +342,8 @@ fn a_number_of_actions_must_be_one_of_the_log() {
     let ruling =
         |at: &str, told: &str| expect(&game.words(&["ruling", "--at", at]), "", ("", &format!("menkhodur: --at {at}: {told}\n"), 2));
     ruling(&(MAX_ACTIONS + 1).to_string(), &format!("the log has {MAX_ACTIONS} actions"));
-    ruling("-1", "a number of actions is wanted");
-    ruling("x", "a number of actions is wanted");
+    ruling("-1", "a number of actions is needed");
+    ruling("x", "a number of actions is needed");
 }
 
 // A king that goes to e8 as a king: document 01's form has no text for it where e8 is also reached plainly (docs/DECISIONS.md).

@@ -8,19 +8,19 @@ const COMMANDS: [&str; 8] = ["keys", "explain", "pgn", "ruling", "show", "diff",
 #[test]
 fn what_is_not_known_is_trouble_and_named() {
     for (words, told) in [
-        (vec![], "a command is wanted: keys, explain, pgn, ruling, show, diff, completion, man; see menkhodur --help"),
+        (vec![], "a command is needed: keys, explain, pgn, ruling, show, diff, completion, man; see menkhodur --help"),
         (vec!["nope"], "unknown command nope; see menkhodur --help"),
         (vec!["--nope"], "unknown option --nope; see menkhodur --help"),
         (vec!["keys", "--nope"], "unknown option --nope; see menkhodur keys --help"),
         (vec!["keys", "-x"], "unknown option -x; see menkhodur keys --help"),
-        (vec!["keys", "--check=1"], "no value is taken by --check; see menkhodur keys --help"),
+        (vec!["keys", "--check=1"], "no value is allowed for --check; see menkhodur keys --help"),
         (vec!["keys", "--at", "1"], "unknown option --at; see menkhodur keys --help"),
         (vec!["explain"], "missing FEN; see menkhodur explain --help"),
         (vec!["ruling"], "missing ACTIONS; see menkhodur ruling --help"),
         (vec!["show", "a"], "missing POSITIONS; see menkhodur show --help"),
         (vec!["show", "a", "b", "c"], "one word too many: c; see menkhodur show --help"),
-        (vec!["ruling", "a", "b", "--at"], "a value (N) is wanted by --at; see menkhodur ruling --help"),
-        (vec!["completion", "csh"], "completion: csh is none of bash, zsh and fish"),
+        (vec!["ruling", "a", "b", "--at"], "a value (N) is needed for --at; see menkhodur ruling --help"),
+        (vec!["completion", "csh"], "completion: csh is not bash, zsh or fish"),
     ] {
         expect(&words, "", ("", &format!("menkhodur: {told}\n"), 2));
     }

@@ -17,7 +17,7 @@ use Rattle.action.specs.declared.Action.the-variants.{OfferDraw, AcceptD
 use Rattle.action.specs.declared.Stored.the-variants.{Nothing}
 use Rattle.action.specs.Layout.{fields, colourCheck, movesHere, standsAlone, actionOfFields, actionOf}
 
--- what is not accepted is 5
+-- what is not accepted is answered 5
 five-else : (ok : Bool) (v : ℕ) → (inRangeOr5 ok v .number ≡ 0 → ⊥) → inRangeOr5 ok v .number ≡ 5
 five-else true v h = absurd (h refl)
 five-else false v h = refl
@@ -42,7 +42,7 @@ not-four s h = rw (ne-eqb _ _ h) refl
 pub no-kind : (k c n : ℕ) → (k ≡ 1 → ⊥) → (k ≡ 2 → ⊥) → (k ≡ 3 → ⊥) → (k ≡ 4 → ⊥) → (k ≡ 5 → ⊥) → actionOfFields k c n ≡ Nothing
 no-kind k c n a b d e f = rw (ne-eqb _ _ a, ne-eqb _ _ b, ne-eqb _ _ d, ne-eqb _ _ e, ne-eqb _ _ f) refl
 
--- four bytes, by their kind
+-- four bytes, kind by kind
 module _ (s : List ℕ) (four : length s ≡ 4) where
   of-four : actionOf s ≡ actionOfFields (getD s 0 0) (getD s 1 0) (ofBytes (getD s 2 0) (getD s 3 0))
   unfolding actionOf

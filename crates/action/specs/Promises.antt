@@ -1,4 +1,4 @@
--- What is promised of actions and their bytes, each as a statement that can be read by itself.
+-- What is promised about actions and their bytes, each as a statement that can be read by itself.
 -- Assumes nothing.
 use Prim.Native.Nat.{ℕ}
 use mathlib.Core.Path.{_≡_}

@@ -77,7 +77,7 @@ module _ (s : List ℕ) (four : length s ≡ actionSize) where
   abbrev number : ℕ
   number = ofBytes (getD s 2 0) (getD s 3 0)
 
-  -- by the kind: a move first, then the four others, then none
+  -- kind by kind: a move first, then the four others, then none
   not-counted : (kind ≡ 1 → ⊥) → counts (actionOf s) ≡ 0
   not-counted no-move = go (eqb kind 2) refl (eqb kind 3) refl (eqb kind 4) refl (eqb kind 5) refl
     where
@@ -104,7 +104,7 @@ count-more acts i = rw (add-one i) (go (leb (moveAt acts i) lastMove))
     go true = omega arith
     go false = omega arith
 
--- a turn of the loop over the stored actions
+-- an iteration of the loop over the stored actions
 pub count-turn : (acts : List ℕ) (i : ℕ) → actionSize * i + actionSize ≤ length acts
     → movesIn acts (i + 1) ≡ movesIn acts i
     + oneIfMove (getD acts (actionSize * i) 0) (getD acts (actionSize * i + 1) 0)

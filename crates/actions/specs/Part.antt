@@ -15,7 +15,7 @@ use Rattle.action.specs.Layout.{actionSize, actionOf}
 abbrev pub actionAt : List ℕ → ℕ → Stored
 actionAt acts i = actionOf (item actionSize acts i)
 
--- the number of the move that is held, or one that is no move's
+-- the number of the move that is held, or one that belongs to no move
 abbrev pub noMove : ℕ
 noMove = lastMove + 1
 

@@ -16,7 +16,7 @@ ghost use Rattle.actions.specs.CodeCount.{oneIfMove};
 // More than any move's number.
 pub const NO_MOVE: u64 = LAST_MOVE + 1;
 
-// Action `i`; where the part ends before it does, what there is of it.
+// Action `i`, or as much of it as lies in the part.
 fn at(acts: &[u8], i: usize) -> &[u8]
     ensures { λ r. ⌜ now r ≡ item actionSize (now (acts .entry)) i ⌝ }
 {
@@ -81,7 +81,7 @@ fn one_if_move(kind: u8, colour: u8, number: u16) -> usize
     1
 }
 
-// How many of the first `n` actions are moves: with no branch and no part cut out, so that the actions are taken many at a time.
+// How many of the first `n` actions are moves: without a branch and without slicing, so that many actions are taken at a time.
 pub fn moves_in(acts: &[u8], n: usize) -> usize
     ensures { λ r. ⌜ r ≡ movesIn (now (acts .entry)) n ⌝ }
 {

@@ -1,4 +1,4 @@
--- A bound on all numbers of a list, tested with no branch: what each is over the bound by is gathered bit by bit, and nothing is gathered exactly if
+-- A bound on all numbers of a list, tested without a branch: by how much each is over it is gathered bit by bit, and nothing is gathered exactly if
 -- all are within it.
 -- Assumes nothing.
 use mathlib.Core.Path.{_≡_, refl, ap, sym, _∙_}
@@ -40,11 +40,11 @@ over-none x n = go (leb x n) refl
         let h : x - n ≡ 0 → ⊥ = λ z. omega (arith, leb-false x n e) in
         rw e (ne-eqb _ _ h)
 
--- a number is looked at before those that are left
+-- a number is looked at before the rest
 pub gather : (a x n : ℕ) (left : Bool) → eqb (bitOr a (x - n)) 0 && left ≡ eqb a 0 && (leb x n && left)
 gather a x n left = rw (or-none a (x - n), over-none x n) (and-assoc (eqb a 0) (leb x n) left)
 
--- a turn of the loop over the list, and its end
+-- an iteration of the loop over the list, and its end
 pub gather-turn : (n : ℕ) (s : List ℕ) (a i : ℕ) → i < length s
     → eqb (bitOr a (getD s i 0 - n)) 0 && allAtMost n (drop (i + 1) s) ≡ eqb a 0 && allAtMost n (drop i s)
 unfolding allAtMost
@@ -59,7 +59,7 @@ bound-at n [] i e = zero-le
 bound-at n (x ∷ xs) zero e = most-head n x xs e
 bound-at n (x ∷ xs) (suc i) e = bound-at n xs i (most-tail n x xs e)
 
--- of two lists one after the other, and of a list taken by parts
+-- for two lists one after the other, and for a list taken in parts
 bound-both : (n : ℕ) (xs ys : List ℕ) → allAtMost n (xs ++ ys) ≡ allAtMost n xs && allAtMost n ys
 unfolding allAtMost
 bound-both n [] ys = refl
@@ -71,7 +71,7 @@ bound-parts n s i m =
     ∙ bound-both n (take m (drop i s)) (drop m (drop i s))
     ∙ ap (λ (l : List ℕ). allAtMost n (take m (drop i s)) && allAtMost n l) (drop-drop m i s)
 
--- behind a part that is within the bound, it is enough to look from any place in that part on
+-- behind a part that is within the bound, it is enough to start looking at any place in that part
 pub bound-overlap : (n : ℕ) (s : List ℕ) (i j m : ℕ) → i ≤ j → j ≤ i + m → allAtMost n (take m (drop i s)) ≡ true
     → allAtMost n (drop j s) ≡ allAtMost n (drop i s)
 bound-overlap n s i j m h k e = go (allAtMost n (drop j s)) refl

@@ -1,4 +1,4 @@
--- What any writer tells of its text's length: kept by ours, and not where a length is invented, since the numbers and the bytes leave no choice of one.
+-- What any writer says about its text's length: ours keep it, and one that invents a length does not, since the numbers and the bytes leave no choice.
 -- Assumes nothing.
 use mathlib.Core.Path.{_≡_, refl, sym, ap, _∙_}
 use mathlib.Core.Bool.{Bool, true, false, cond}
@@ -70,7 +70,7 @@ pub passed-or : (t : Bool) (n : ℕ) → (n ≡ outputTooShort → ⊥) → cond
 passed-or true n h e = omega arith
 passed-or false n h e = h e
 
--- ---- a length invented
+-- ---- an invented length
 
 -- just behind a text the room is as it was, and inside a longer one the room does not matter
 behind : (text out : List ℕ) → getD (overwrite text out) (length text) 0 ≡ getD out (length text) 0

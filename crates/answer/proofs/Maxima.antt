@@ -1,4 +1,4 @@
--- The largest number of a list, turn by turn, and what it says of each number: all are at most n exactly if the largest is.
+-- The largest number of a list, step by step, and what it says about each number: all are at most n exactly if the largest is.
 -- Assumes nothing.
 use mathlib.Core.Path.{_≡_, refl, sym, ap, _∙_}
 use mathlib.Core.Bool.{Bool, true, false, _&&_}
@@ -18,7 +18,7 @@ max-assoc a b c = omega arith
 max-zero : (a : ℕ) → max a 0 ≡ a
 max-zero a = omega arith
 
--- the start of the loop, a turn, and its end
+-- the start of the loop, an iteration, and its end
 pub max-none : (a : ℕ) → max 0 a ≡ a
 max-none a = omega arith
 
@@ -49,7 +49,7 @@ unfolding largest allAtMost
 largest-at-most n [] = le-leb 0 n (omega arith)
 largest-at-most n (x ∷ s) = leb-max x (largest s) n ∙ ap (λ (t : Bool). leb x n && t) (largest-at-most n s)
 
--- of two lists one after the other, and of a list taken by parts
+-- for two lists one after the other, and for a list taken in parts
 pub largest-both : (xs ys : List ℕ) → largest (xs ++ ys) ≡ max (largest xs) (largest ys)
 unfolding largest
 largest-both [] ys = sym (max-none (largest ys))

@@ -1,4 +1,4 @@
--- Laws of tests that are joined, and of lists of numbers with a bound: head, tail, parts, stores, and a loop that goes up the list.
+-- Laws of tests that are joined, and of lists of numbers with a bound: head, tail, parts, stores, and a loop over the list.
 -- Assumes nothing.
 use mathlib.Core.Path.{_≡_, refl}
 use mathlib.Core.Bool.{Bool, true, false, _&&_, _||_, true≢false, false≢true}
@@ -63,7 +63,7 @@ most-set n [] i v h e = e
 most-set n (x ∷ xs) zero v h e = most-cons n v xs h (most-tail n x xs e)
 most-set n (x ∷ xs) (suc i) v h e = most-cons n x (set xs i v) (most-head n x xs e) (most-set n xs i v h (most-tail n x xs e))
 
--- a turn of a loop over the list, its early end, and its end
+-- an iteration of a loop over the list, its early end, and its end
 pub most-turn : (n : ℕ) (s : List ℕ) (i : ℕ) → i < length s → getD s i 0 ≤ n → allAtMost n (drop i s) ≡ allAtMost n (drop (i + 1) s)
 unfolding allAtMost
 most-turn n s i h k = rw (add-one i, drop-cons s i 0 h) (simp (le-leb _ _ k))

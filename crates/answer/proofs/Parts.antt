@@ -65,7 +65,7 @@ module _ (l : List ℕ) (at : ℕ) (xs : List ℕ) (fits : at + length xs ≤ le
   pub written-next : (i v : ℕ) → at + length xs ≡ i → i < length l → set (written l at xs) i v ≡ written l at (xs ++ (v ∷ []))
   written-next i v e h = set-written (written l at xs) i v (rw length-written h) ∙ written-behind i (v ∷ []) e (omega arith)
 
--- the turns of loops that write bytes, and zeros
+-- the iterations of loops that write bytes, and zeros
 pub bytes-turn : (l bytes : List ℕ) (at i : ℕ) → at + length bytes ≤ length l → i < length bytes
     → set (written l at (take i bytes)) (at + i) (getD bytes i 0) ≡ written l at (take (i + 1) bytes)
 bytes-turn l bytes at i h k =

@@ -1,4 +1,4 @@
--- A writer that is lent what is left of a part from a place on writes its bytes over the part there, and so puts its text behind another.
+-- A writer that is lent the rest of a part from some place on writes its bytes over the part there, and so puts its text behind another.
 -- Assumes nothing.
 use mathlib.Core.Path.{_≡_, refl, _∙_}
 use mathlib.Core.Bool.{Bool, true, false, cond}
@@ -28,7 +28,7 @@ put-written at check l bytes w passed fits e =
     let wrote : w ≡ bytes ++ drop (length bytes) (drop at l) = e ∙ rw (all, passed, le-leb _ _ room) in
     rw (none, wrote, append-nil, drop-drop (length bytes) at l, append-assoc (take at l) bytes (drop (at + length bytes) l))
 
--- the length is told, whether the text fits or not
+-- the length is told whether or not the text fits
 value-told : (text : List ℕ) (room : ℕ) → writeAnswer 0 text room .value ≡ length text
 unfolding writeAnswer
 value-told text room = go (leb (length text) room)

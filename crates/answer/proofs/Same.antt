@@ -1,4 +1,4 @@
--- Laws of `same`: what it tells of two lists, and a loop that goes up both.
+-- Laws of `same`: what it says about two lists, and a loop over both.
 -- Assumes nothing.
 use mathlib.Core.Path.{_≡_, refl, ap, ap₂, _∙_}
 use mathlib.Core.Bool.{Bool, true, false, false≢true, _&&_, and-true, and-assoc}
@@ -48,7 +48,7 @@ xor-none x y = go (eqb x y) refl
         let other : bitXor x y ≡ 0 → ⊥ = λ z. eqb-false x y e (omega (arith, xor-add-and x y, and-le-l x y, and-le-r x y)) in
         rw e (ne-eqb _ _ other)
 
--- a turn of a loop over both lists that gathers where they differ, and its end
+-- an iteration of a loop over both lists that gathers where they differ, and its end
 module _ (l m : List ℕ) (d i : ℕ) where
   pub same-turn : i < length l → i < length m
       → eqb (bitOr d (bitXor (getD l i 0) (getD m i 0))) 0 && same (drop (i + 1) l) (drop (i + 1) m) ≡ eqb d 0 && same (drop i l) (drop i m)

@@ -1,4 +1,4 @@
--- What any writer of texts answers and leaves in its room, by its three ways: refused before 7, too short, written. And the copy, byte by byte.
+-- What any writer of texts answers and leaves in its room, in its three cases: refused before 7, too short, written. And the copy, byte by byte.
 -- Assumes nothing.
 use mathlib.Core.Path.{_≡_, refl, ap}
 use mathlib.Core.Bool.{Bool, true, false}
@@ -31,7 +31,7 @@ pub write-fits : (text out : List ℕ) → length text ≤ length out → Writte
 unfolding writeAnswer writeBytes
 write-fits text out h = record { answer = simp (le-leb _ _ h); bytes = simp (le-leb _ _ h) }
 
--- a turn's store takes the copy of i bytes to the copy of one more
+-- the store of one iteration takes the copy of i bytes to the copy of one more
 pub store : (src dst : List ℕ) (i : ℕ) → i < length src → i < length dst
     → set (take i src ++ drop i dst) i (getD src i 0) ≡ take (suc i) src ++ drop (suc i) dst
 store [] dst i h k = absurd (not-suc-le-zero h)

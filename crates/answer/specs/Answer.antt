@@ -8,7 +8,7 @@ use lib.ListN.{length, drop}
 use Rattle.answer.specs.declared.Answer.{Answer}
 use Rattle.answer.specs.declared.Placed.{Placed}
 
--- 1: `InvalidFen`, given by nothing any more: order 2 put 18, 19 and 20 in its place
+-- 1: `InvalidFen`, no longer answered: order 2 put 18, 19 and 20 in its place
 abbrev pub invalidFen : ℕ
 invalidFen = 1
 
@@ -72,7 +72,7 @@ noClaim = 15
 abbrev pub partTooShort : ℕ
 partTooShort = 16
 
--- order 1: a roll cut short or too long, with a number not shortest or out of range; bytes that are no actions
+-- order 1: a roll cut short or too long, with a number not in its shortest form or out of range; bytes that are not actions
 abbrev pub badRoll : ℕ
 badRoll = 17
 
@@ -80,7 +80,7 @@ badRoll = 17
 abbrev pub tooFewTokens : ℕ
 tooFewTokens = 18
 
--- order 2: a byte of a FEN text's placement that is none of a placement
+-- order 2: a byte in a FEN text's placement that may not stand there
 abbrev pub badPlacement : ℕ
 badPlacement = 19
 
@@ -128,7 +128,7 @@ abbrev pub inRangeOr5 : Bool → ℕ → Answer
 inRangeOr5 ok v = cond ok (accepted v) (refused outOfRange)
 
 -- a writer whose checks before 7 gave `check` (0: all passed) and whose text is `text`: that refusal; 7 with the length of the text where the
--- room is shorter; else 0 with that length
+-- room is shorter; otherwise 0 with that length
 unfoldable pub writeAnswer : ℕ → List ℕ → ℕ → Answer
 writeAnswer check text room = cond (eqb check 0) (cond (leb (length text) room) (accepted (length text)) (tooShort (length text))) (refused check)
 

@@ -1,5 +1,5 @@
 -- What document 01, "Where a promise would be hollow", asks of each public function: any two results that its contract permits are equal. `Learnt` is the
--- contract itself, as the toolchain reads it off the source (`proofs.F.Reads`): of the arguments, the result, and what is lent as it is at exit.
+-- contract itself, as the toolchain reads it off the source (`proofs.F.Reads`): about the arguments, the result, and what is lent as it is at exit.
 -- Assumes nothing.
 use Prim.Native.Nat.{ℕ}
 use mathlib.Core.List.{List}

@@ -4,7 +4,7 @@ use mathlib.Core.List.{List, _++_}
 use Prim.Native.Nat.{ℕ, _+_, _*_}
 use lib.ListN.{length, take, drop}
 
--- item k of a part; where the part ends before it does, what there is of it
+-- item k of a part, or as much of it as lies in the part
 abbrev pub item : ℕ → List ℕ → ℕ → List ℕ
 item size part k = take size (drop (size * k) part)
 
@@ -12,7 +12,7 @@ item size part k = take size (drop (size * k) part)
 abbrev pub written : List ℕ → ℕ → List ℕ → List ℕ
 written part at bytes = take at part ++ bytes ++ drop (at + length bytes) part
 
--- the first n bytes of a part, or all there are, and what is left behind them
+-- the first n bytes of a part, or all there are, and what is left after them
 abbrev pub frontOf : List ℕ → ℕ → List ℕ
 frontOf part n = take n part
 

@@ -1,4 +1,4 @@
--- What this crate promises of answers and of any writer of texts, each as a statement that can be read by itself.
+-- What this crate promises about answers and about any writer of texts, each as a statement that can be read by itself.
 -- Assumes nothing.
 use Prim.Native.Nat.{ℕ, _≤_, _<_}
 use mathlib.Core.Path.{_≡_}
@@ -20,7 +20,7 @@ pub record WritesItsText (check : ℕ) (text out : List ℕ) : Type 0 where
 abbrev pub AcceptedWritesItsText : Type 0
 AcceptedWritesItsText = (check : ℕ) (text out : List ℕ) → writeAnswer check text (length out) .number ≡ 0 → WritesItsText check text out
 
--- The same and the lengths told, of any writer: of what it answers to the length of a room, and the bytes that it leaves in a room.
+-- The same and the lengths told, for any writer: what it answers to the length of a room, and the bytes that it leaves in a room.
 
 -- 0: the room is long enough for the text, the value is its length, and exactly its bytes are changed
 pub record Fitted (text out : List ℕ) (value : ℕ) (exit : List ℕ) : Type 0 where
@@ -45,14 +45,14 @@ pub record ItsText (text : List ℕ) (answer : ℕ → Answer) (bytes : List ℕ
 abbrev pub WritersKeepItsText : Type 0
 WritersKeepItsText = (check : ℕ) (text : List ℕ) → (check ≡ outputTooShort → ⊥) → ItsText text (writeAnswer check text) (writeBytes check text)
 
--- a length invented: the numbers and the bytes are those of another writer, and some room is told another value
+-- an invented length: the numbers and the bytes are those of another writer, and some room is told another value
 pub record Invented (theirs : ℕ → Answer) (left : List ℕ → List ℕ) (answer : ℕ → Answer) (bytes : List ℕ → List ℕ) : Type 0 where
   pub numbers : (room : ℕ) → answer room .number ≡ theirs room .number
   pub writes : (out : List ℕ) → bytes out ≡ left out
   pub room : ℕ
   pub another : answer room .value ≡ theirs room .value → ⊥
 
--- does not keep it with any text where the other keeps it, be the invented value any function of the room's length
+-- such a writer does not keep it with any text where the other keeps it, whatever function of the room's length the invented value is
 abbrev pub InventedLengthFails : Type 0
 InventedLengthFails =
     (theirs answer : ℕ → Answer) (left bytes : List ℕ → List ℕ) (their-text text : List ℕ)

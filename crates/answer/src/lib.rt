@@ -13,7 +13,7 @@ pub struct Answer {
     pub value: u64,
 }
 
-// The same of a text, with the offset of what is wrong in it, 0 if nothing is.
+// The same for a text, with the offset of what is wrong in it, 0 if nothing is.
 #[repr(C)]
 pub struct Placed {
     pub number: u64,
@@ -144,7 +144,7 @@ pub fn rest(s: &[u8], n: usize) -> &[u8]
     if n <= s.len() { &s[n..] } else { &s[..0] }
 }
 
-// Where two texts of one length differ is gathered with no branch, so that the bytes are taken many at a time.
+// Differences between two texts of one length are gathered without a branch, so that many bytes are compared at a time.
 pub fn same_bytes(a: &[u8], b: &[u8]) -> bool
     ensures { λ r. ⌜ r ≡ same (now (a .entry)) (now (b .entry)) ⌝ }
 {
@@ -167,14 +167,14 @@ pub fn byte_at(s: &[u8], i: usize) -> u8
     if i < s.len() { s[i] } else { 0 }
 }
 
-// Both are known when it is called: no branch, where `||` has one.
+// Both operands are known when it is called: no branch, where `||` has one.
 pub fn either(a: bool, b: bool) -> bool
     ensures { λ r. ⌜ r ≡ either a b ⌝ }
 {
     if a { true } else { b }
 }
 
-// The same of `&&`.
+// The same for `&&`.
 pub fn both(a: bool, b: bool) -> bool
     ensures { λ r. ⌜ r ≡ both a b ⌝ }
 {
@@ -187,7 +187,7 @@ fn over(x: u8, most: u8) -> u8
     if most < x { x - most } else { 0 }
 }
 
-// Whether no byte is over a bound: what is over is gathered with no branch, so that the bytes are taken many at a time.
+// Whether no byte is over a bound: any excess is gathered without a branch, so that many bytes are compared at a time.
 pub fn all_at_most(s: &[u8], most: u8) -> bool
     ensures { λ r. ⌜ r ≡ allAtMost most (now (s .entry)) ⌝ }
 {

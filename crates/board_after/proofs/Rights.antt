@@ -1,4 +1,4 @@
--- The rights after a move: those that a square has by crate castle_rights, and that none are won.
+-- The rights after a move: those that crate castle_rights gives for a square, and that none are gained.
 -- Assumes nothing.
 use mathlib.Core.Path.{_≡_, ap, _∙_}
 use mathlib.Core.Bool.{Bool, true, false, cond, _&&_}
@@ -43,7 +43,7 @@ module _ (colour square : ℕ) (told : Answer) (c : colour < 2) (s : square < 64
   pub gone-small : told .value < 4
   gone-small = omega (arith, gone-is, castles-small colour (square / 8) (square % 8))
 
--- none are left of none, on either side
+-- where there were none, none are left, on either side
 module _ (source dest left right : ℕ) where
   no-rights : (colour : ℕ) → rightsAfter colour 0 source dest ≡ 0
   no-rights colour = omega (arith, rights-fewer colour 0 source dest)

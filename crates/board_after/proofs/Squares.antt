@@ -1,4 +1,4 @@
--- The squares after a move: there are as many, each a piece code, and a move that touches no more than its two squares sets these.
+-- The squares after a move: there are as many, each a piece code, and a move that touches no more than its two squares sets just those.
 -- Assumes nothing.
 use mathlib.Core.Path.{_≡_, refl, ap, sym, _∙_}
 use mathlib.Core.Bool.{Bool, true, false, cond, not, _&&_, _||_, and-true, and-false, false≢true}
@@ -148,7 +148,7 @@ module _ (man source dest kind : ℕ) (h : source < 64) (k : dest < 64) (t : Boo
       ap (λ (x : ℕ). eqb x 1) g
       ∙ sym (ap (λ (u : Bool). eqb (kindOf man) pawn && u) (two-ranks source dest h k ∙ sym e ∙ f) ∙ and-true (eqb (kindOf man) pawn))
 
--- on one rank, squares are two apart as their files are
+-- on one rank, squares are two apart exactly if their files are
 pub two-on-rank : (source dest : ℕ) → source < 64 → dest < 64
     → (eqb (rank source) (rank dest) && twoApart source dest) ≡ (eqb (rank source) (rank dest) && twoApart (file source) (file dest))
 unfolding twoApart agree
@@ -156,7 +156,7 @@ two-on-rank source dest h k =
     agreed (eqb (rank source) (rank dest) && twoApart source dest) (eqb (rank source) (rank dest) && twoApart (file source) (file dest))
     (belows (λ (a b : ℕ). agree (eqb (rank a) (rank b) && twoApart a b) (eqb (rank a) (rank b) && twoApart (file a) (file b))) 64 64 tt source dest h k)
 
--- without a promotion the man is set down that moves, and nothing of nothing
+-- without a promotion the man that moves is set down, and nothing if none moves
 pub kept-man : (man promotion : ℕ) → promotion ≡ 0 → man ≡ setDown man promotion
 unfolding setDown
 kept-man man promotion e = go (eqb man 0) refl

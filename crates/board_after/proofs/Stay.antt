@@ -45,7 +45,7 @@ module _ (man source dest : ℕ) (c : castles man source dest ≡ true) where
   unfolding castles
   two-files = both-right (eqb (rank source) (rank dest)) _ (both-right (eqb (kindOf man) king) _ c)
 
--- the squares after a move, by which rule it falls under
+-- the squares after a move, by the rule that it falls under
 module _ (l : List ℕ) (source dest promotion : ℕ) where
   abbrev man : ℕ
   man = manOn l source

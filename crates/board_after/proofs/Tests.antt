@@ -83,7 +83,7 @@ module _ (p q : List ℕ) (m : ℕ) (hp : length p ≡ recordSize) (hq : length 
       (v ∙ er)
       ∙ as-given
 
--- the numbers of a record after a move are as many as those of the one before it
+-- a record after a move has as many numbers as the one before it
 after-long : (p : List ℕ) (m : ℕ) → recordSize ≤ length p → length (recordAfter (take recordSize p) m) ≡ recordSize
 unfolding recordAfter numbers afterParts
 after-long p m h =

@@ -67,7 +67,7 @@ unfoldable pub pawnRemoved : List ℕ → ℕ → ℕ → ℕ → List ℕ
 pawnRemoved squares man source dest =
     cond (takesInPassing squares man source dest) (set squares (squareOf (rank source) (file dest)) 0) squares
 
--- the man that is set down: the one that moves, or the piece that it is promoted to, in its colour; of an empty source nothing
+-- the man that is set down: the one that moves, or the piece that it is promoted to, in its colour; for an empty source, nothing
 unfoldable pub setDown : ℕ → ℕ → ℕ
 setDown man promotion = cond (eqb man 0) 0 (cond (eqb promotion 0) man (promotion + colourStep man))
 
@@ -129,7 +129,7 @@ afterParts b source dest promotion =
 abbrev pub boardAfter : BoardBuilder → ℕ → BoardBuilder
 boardAfter b m = afterParts b (sourceOf m) (destOf m) (promotionOf m)
 
--- the same of the 68 numbers of a record
+-- the same for the 68 numbers of a record
 unfoldable pub recordAfter : List ℕ → ℕ → List ℕ
 recordAfter l m = numbers (boardAfter (boardOf l) m)
 

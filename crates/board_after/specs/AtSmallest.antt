@@ -22,7 +22,7 @@ pub record Rows : Type 0 where
   -- "piece moved": a white knight b1c3, and it takes what stands there
   pub moved : boardAfter (board (one 1 2) 0 0 0 0) (move 1 18) ≡ board (one 18 2) 1 0 0 0
   pub takes : boardAfter (board (two 1 2 18 7) 0 0 0 0) (move 1 18) ≡ board (one 18 2) 1 0 0 0
-  -- "or promoted": a7a8=Q; of whatever man moves: a black knight b1c3 with a promotion to a queen
+  -- "or promoted": a7a8=Q; whatever man moves: a black knight b1c3 with a promotion to a queen
   pub promoted : boardAfter (board (one 48 1) 0 0 0 0) (move 48 56 + 4096 * 5) ≡ board (one 56 5) 1 0 0 0
   pub any-promoted : boardAfter (board (one 1 8) 1 0 0 0) (move 1 18 + 4096 * 5) ≡ board (one 18 11) 0 0 0 0
   -- "rook in castling": e1g1 with the rook on h1, and e8c8 with the rook on a8

@@ -1,4 +1,4 @@
--- How the log asks whether a stored record is the one after a move: of bytes that hold a record in front.
+-- How the log asks whether a stored record is the one after a move: for bytes that have a record in front.
 -- Assumes nothing.
 use mathlib.Core.Bool.{Bool, _&&_}
 use mathlib.Core.List.{List}
@@ -10,7 +10,7 @@ use Rattle.board_builder.specs.declared.BoardBuilder.{BoardBuilder}
 use Rattle.board_builder.specs.BoardBuilder.{numbers, recordSize}
 use Rattle.board_after.specs.After.{recordAfter}
 
--- these numbers are the record after a move from the record in the first 68 bytes of p; fewer bytes hold none
+-- these numbers are the record after a move from the record in the first 68 bytes of p; fewer bytes hold no record
 unfoldable pub comesFrom : List ℕ → ℕ → List ℕ → Bool
 comesFrom p m record68 = leb recordSize (length p) && same record68 (recordAfter (take recordSize p) m)
 

@@ -1,4 +1,4 @@
--- What is promised of the board after a move, each as a statement that can be read by itself.
+-- What is promised about the board after a move, each as a statement that can be read by itself.
 -- Assumes nothing.
 use mathlib.Core.Path.{_≡_}
 use mathlib.Core.Bool.{Bool, true, false, cond, _&&_}
@@ -21,7 +21,7 @@ use Rattle.board_after.specs.After.{afterAnswer}
 abbrev pub AfterInRange : Type 0
 AfterInRange = (b : BoardBuilder) (m : ℕ) → inRange b ≡ true → m ≤ lastMove → inRange (boardAfter b m) ≡ true
 
--- the same of its 68 numbers
+-- the same for its 68 numbers
 abbrev pub RecordAfterInRange : Type 0
 RecordAfterInRange = (l : List ℕ) (m : ℕ) → numbersInRange l ≡ true → m ≤ lastMove → numbersInRange (recordAfter l m) ≡ true
 
@@ -42,7 +42,7 @@ abbrev pub OthersStay : Type 0
 OthersStay = (squares : List ℕ) (source dest promotion s : ℕ) → among s (named squares source dest) ≡ false
     → manOn (squaresAfter squares source dest promotion) s ≡ manOn squares s
 
--- .. and on those named stands what the rule says: of boards of 64 squares, and a source and a destination among them
+-- .. and on those named stands what the rule says: for boards of 64 squares, and a source and a destination among them
 pub record NamedChange (squares : List ℕ) (source dest promotion : ℕ) : Type 0 where
   pub arrives : manOn (squaresAfter squares source dest promotion) dest ≡ setDown (manOn squares source) promotion
   pub leaves : (source ≡ dest → ⊥) → manOn (squaresAfter squares source dest promotion) source ≡ 0

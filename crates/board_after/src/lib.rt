@@ -157,7 +157,7 @@ fn rights_after(color: u8, rights: u8, source: u8, dest: u8) -> u8
     rights_without(color, rights_without(color, rights, source), dest)
 }
 
-// Two ranks on one file are 16 squares: asked first, since it is true of few moves.
+// Two ranks on one file are 16 squares: tested first, since it is true of few moves.
 fn steps_twice(man: u8, source: u8, dest: u8) -> bool
     requires { ⌜ (source < 64) × (dest < 64) ⌝ }
     ensures { λ r. ⌜ r ≡ stepsTwice man source dest ⌝ }
@@ -257,7 +257,7 @@ fn differs(x: u8, y: u8) -> u8
     if x == y { 0 } else { 1 }
 }
 
-// In how many squares two boards differ: counted with no branch, so that they are taken many at a time.
+// In how many squares two boards differ: counted without a branch, so that many squares are compared at a time.
 fn differing(a: &[u8], b: &[u8]) -> u8
     requires { ⌜ (length (now a) ≡ 64) × (length (now b) ≡ 64) ⌝ }
     ensures { λ r. ⌜ r ≡ differing (now (a .entry)) (now (b .entry)) ⌝ }
@@ -331,7 +331,7 @@ fn squares_follow(old: &[u8], source: u8, dest: u8, promotion: u8, new: &[u8]) -
     two_set(old, source, dest, set_down(man, promotion), new)
 }
 
-// Whether both sides' rights follow. Where there were none, none may be left, as in most positions of a game: asked first, for both at once.
+// Whether both sides' rights follow. Where there were none, none may be left, as in most positions of a game: tested first, for both at once.
 fn rights_follow(white: u8, black: u8, source: u8, dest: u8, left: u8, right: u8) -> bool
     requires { ⌜ (source < 64) × (dest < 64) ⌝ }
     ensures { λ r. ⌜ r ≡ (eqb left (rightsAfter 0 white source dest) && eqb right (rightsAfter 1 black source dest)) ⌝ }

@@ -17,7 +17,7 @@ whole-written l xs e =
     let all : length l ≤ 0 + length xs = omega arith in
     ap (λ (r : List ℕ). xs ++ r) (drop-of-length-le l all) ∙ append-nil xs
 
--- one square more
+-- one more square
 pub square-more : (l text p : List ℕ) (i : ℕ) → length p ≡ squares → length l ≡ recordSize → i < squares → text ≡ written l 0 (take i p)
     → set text i (getD p i 0) ≡ written l 0 (take (i + 1) p)
 square-more l text p i long wide h e =

@@ -1,4 +1,4 @@
--- What a record in range says of each of its numbers, for the crates above.
+-- What a record in range says about each of its numbers, for the crates above.
 -- Assumes nothing.
 use mathlib.Core.Path.{_≡_}
 use mathlib.Core.Bool.{true, _&&_}

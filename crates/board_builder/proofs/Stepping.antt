@@ -19,7 +19,7 @@ pub out-of-range-hands-back : OutOfRangeHandsBack
 unfolding step
 out-of-range-hands-back ok new old e = simp e
 
--- for the functions: the three ways of a step
+-- for the functions: the three outcomes of a step
 pub step-record : (ok : Bool) (new old : BoardBuilder) → inRange old ≡ false → stepped outOfRange old ≡ step ok new old
 unfolding step
 step-record ok new old e = simp e

@@ -1,4 +1,4 @@
--- What the builder tells of its record, with 5 where a number of the record, or the one asked with, is out of range.
+-- What the builder says about its record, with 5 where a number of the record, or the number in the question, is out of range.
 -- Assumes nothing.
 use Prim.Native.Nat.{ℕ, _-_}
 use mathlib.Core.Bool.{cond, _&&_}

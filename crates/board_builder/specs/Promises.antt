@@ -1,4 +1,4 @@
--- What this crate promises of the board record and its builder, each as a statement that can be read by itself.
+-- What this crate promises about the board record and its builder, each as a statement that can be read by itself.
 -- Assumes nothing.
 use Prim.Native.Nat.{ℕ}
 use mathlib.Core.Path.{_≡_}

@@ -13,7 +13,7 @@ use Rattle.board_builder.specs.BoardBuilder.{board, inRange}
 abbrev pub stepped : ℕ → BoardBuilder → Stepped
 stepped number b = record { number = number; board = b }
 
--- 0 and the new record where its own numbers and the step's are in range, else 5 and the old record
+-- 0 and the new record where its own numbers and the step's are in range, otherwise 5 and the old record
 unfoldable pub step : Bool → BoardBuilder → BoardBuilder → Stepped
 step ok new old = cond (inRange old && ok) (stepped 0 new) (stepped outOfRange old)
 

@@ -305,7 +305,7 @@ impl BoardBuilder {
         text
     }
 
-    // Writes the record's numbers to the front of `out`, a byte each, or answers 7 with their count.
+    // Writes the record's numbers to the front of `out`, one byte each, or answers 7 with their count.
     pub fn to_bytes(self, out: &mut [u8]) -> Answer
         ensures answer { λ r. ⌜ r ≡ writeAnswer 0 (numbers self) (length (now (out .entry))) ⌝ }
         ensures bytes { λ r. ⌜ now (out .exit) ≡ writeBytes 0 (numbers self) (now (out .entry)) ⌝ }

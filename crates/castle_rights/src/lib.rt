@@ -120,7 +120,7 @@ pub fn to_string(rights: u8, color: u8, out: &mut [u8]) -> Answer
     write_letters(rights, b'k', b'q', out)
 }
 
-// The side on which a rook of this square stands: file a is the queen's, file h the king's.
+// The side that a rook on this square belongs to: file a is the queen's, file h the king's.
 pub fn rook_square_to_castle_rights(square: u8) -> Answer
     ensures { λ r. ⌜ r ≡ rookRights square ⌝ }
 {

@@ -1,4 +1,4 @@
--- A reader of coordinate texts that always refuses keeps neither demand 2 nor the read-back: `e2e4` is read. And the lengths told of a move's text.
+-- A reader of coordinate texts that always refuses keeps neither demand 2 nor the read-back: `e2e4` is read. And the lengths told for a move's text.
 -- Assumes nothing.
 use mathlib.Core.Path.{_≡_, refl, ap, _∙_}
 use mathlib.Core.List.{List}

@@ -28,7 +28,7 @@ pub pair-back : (square : ℕ) → square ≤ 63 → squareNamed (97 + square % 
 unfolding readSquare
 pair-back square h = square-reads-back square (omega arith)
 
--- a promotion's letter names it where it is readable, else nothing
+-- a promotion's letter names it where it is readable, and nothing otherwise
 letter-test : ℕ → Bool
 letter-test p = eqb (promotionNamed (letterOf (p + 6))) (cond (readable p) p 0)
 

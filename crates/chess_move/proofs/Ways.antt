@@ -1,4 +1,4 @@
--- The reader of coordinate texts behind two squares, by its ways, each from what the code knows there, and the two lengths of a written text.
+-- The reader of coordinate texts behind two squares, case by case, each from what the code knows there, and the two lengths of a written text.
 -- Assumes nothing.
 use mathlib.Core.Path.{_≡_}
 use mathlib.Core.List.{List, [], _∷_}
@@ -47,7 +47,7 @@ promoted-none x y p e = simp (eq-eqb _ _ e)
 pub promoted-some : (x y p : ℕ) → (p ≡ 0 → ⊥) → promoted x y p ≡ readAs (numberOf x y p)
 promoted-some x y p n = simp (ne-eqb _ _ n)
 
--- a written text is of four bytes without a promotion and of five with one
+-- a written text has four bytes without a promotion and five with one
 abbrev pub fourBytes : ℕ → ℕ → List ℕ → List ℕ
 fourBytes s d t = (97 + s % 8) ∷ (49 + s / 8) ∷ (97 + d % 8) ∷ (49 + d / 8) ∷ t
 

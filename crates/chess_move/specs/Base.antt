@@ -1,4 +1,4 @@
--- The reader of coordinate texts as it was before order 3: a number, and nothing of where. It stays so that the new answers can be held against it.
+-- The reader of coordinate texts as it was before order 3: a number, but not where. It stays so that the new answers can be compared with it.
 -- Assumes nothing.
 use Prim.Native.Nat.{ℕ, _-_}
 use mathlib.Core.Bool.{Bool, cond, not, _&&_}
@@ -12,7 +12,7 @@ use Rattle.square.specs.Square.{squareOf}
 use Rattle.chess_move.specs.Number.{numberOf}
 use Rattle.chess_move.specs.Coordinate.{promotionNamed}
 
--- the square that a letter a to h and a digit 1 to 8 name, else 2
+-- the square that a letter a to h and a digit 1 to 8 name, otherwise 2
 abbrev pub baseNamed : ℕ → ℕ → Answer
 baseNamed a b = cond (between 97 104 a && between 49 56 b) (accepted (squareOf (b - 49) (a - 97))) (refused invalidSquare)
 

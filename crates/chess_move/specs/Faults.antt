@@ -39,7 +39,7 @@ pub record BadLetter (s : List ℕ) : Type 0 where
   pub none-before : GoodUpTo s 4
   pub bad : among (getD s 4 0) (ascii "qrnb") ≡ false
 
--- what is said of a text
+-- what is said about a text
 pub record SaysWhere (s : List ℕ) : Type 0 where
   -- number and move are as before
   pub number : readMove s .number ≡ baseMove s .number

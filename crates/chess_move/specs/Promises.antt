@@ -1,4 +1,4 @@
--- What is promised of moves and their coordinate texts, each as a statement that can be read by itself.
+-- What is promised about moves and their coordinate texts, each as a statement that can be read by itself.
 -- Assumes nothing.
 use Prim.Native.Nat.{ℕ, _≤_}
 use mathlib.Core.Path.{_≡_}
@@ -55,6 +55,6 @@ pub record Fails (read : Reader) : Type 0 where
 abbrev pub RefusingReaderFails : Type 0
 RefusingReaderFails = (read : Reader) → ((text : List ℕ) → read text .number ≡ 0 → ⊥) → Fails read
 
--- of each move, the promise that crate square has of any writer: the lengths told are those of its text
+-- for each move, the promise that crate answer makes for any writer: the lengths told are those of its text
 abbrev pub MoveTellsItsLength : Type 0
 MoveTellsItsLength = (n : ℕ) → ItsText (moveText n) (writeAnswer (moveCheck n) (moveText n)) (writeBytes (moveCheck n) (moveText n))

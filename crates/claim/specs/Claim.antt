@@ -1,5 +1,5 @@
 -- Whether a draw may be claimed (document 01, "Draws and endings"), read off a log's bytes: at a count of 100 or more, or if the last position equals two
--- earlier ones of the run. The run goes from a position on, and the count is of the moves since one.
+-- earlier ones of the run. The run begins at a position, and the count is of the moves since a position.
 -- Assumes nothing.
 use mathlib.Core.Bool.{Bool, cond, _&&_, _||_}
 use mathlib.Core.List.{List}

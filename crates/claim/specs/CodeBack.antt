@@ -1,4 +1,4 @@
--- What is known of a run, looking back from its end: 0 is not known yet, and is what the run begins with where nothing empties it.
+-- What is known of a run, looking back from its end: 0 means not known yet, and is what the run begins with if nothing empties it.
 -- Assumes nothing.
 use mathlib.Core.Bool.{Bool, cond, not, _&&_}
 use Prim.Native.Nat.{ℕ}

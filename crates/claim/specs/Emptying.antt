@@ -1,5 +1,5 @@
 -- What empties the reversible count and the run of positions (document 01, "Draws and endings"): a move with a pawn on its source, or onto an occupied
--- square, empties both; and so does a change of either side's rights. Two tests that stand apart, since the Laws (9.3) know only the first for the count.
+-- square, empties both; and so does a change of either side's rights. Two separate tests, since the Laws (9.3) know only the first for the count.
 -- Assumes nothing.
 use mathlib.Core.Bool.{Bool, not, _||_}
 use Prim.Native.Nat.{ℕ}

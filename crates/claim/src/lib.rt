@@ -15,7 +15,7 @@ pub const CLAIM_COUNT: usize = 100;
 
 const PAWN: u8 = 1;
 
-// The run goes from position `first` on; the count is of the moves since position `since`.
+// The run begins at position `first`; the count is of the moves since position `since`.
 pub struct Run {
     pub first: usize,
     pub since: usize,
@@ -65,7 +65,7 @@ fn or_else(known: usize, earlier: usize) -> usize
     if known == 0 { earlier } else { known }
 }
 
-// What is known of a run, looking back: 0 is not known yet.
+// What is known of a run, looking back: 0 means not known yet.
 fn run_before(r: Run, earlier: Run) -> Run
     ensures { λ s. ⌜ s ≡ runBefore r earlier ⌝ }
 {

@@ -1,4 +1,4 @@
--- Laws of numbers in decimal: a number below ten is one digit, any other is that of its tens with one digit more behind it.
+-- Laws of numbers in decimal: a number below ten is one digit, any other is that of its tens with one more digit behind it.
 -- Assumes nothing.
 use mathlib.Core.Path.{_≡_, refl, ap, sym, _∙_}
 use mathlib.Core.Bool.{Bool, true, false}
@@ -18,7 +18,7 @@ digits-more : (k n : ℕ) → 10 ≤ n → digits (suc k) n ≡ digits k (n / 10
 unfolding digits
 digits-more k n h = simp (le-ltb _ _ h)
 
--- digits that are enough are as good as any others that are
+-- any two numbers of digits that are enough give the same text
 digits-enough : (j k n : ℕ) → n < 10 ^ suc j → n < 10 ^ suc k → digits (suc j) n ≡ digits (suc k) n
 digits-enough zero k n h l = digits-one zero n h ∙ sym (digits-one k n h)
 digits-enough (suc j) zero n h l = digits-one (suc j) n l ∙ sym (digits-one zero n l)
@@ -53,7 +53,7 @@ decimal-more (suc m) h =
     digits-more (suc m) (suc m) h
     ∙ ap (λ (l : List ℕ). l ++ ((48 + suc m % 10) ∷ [])) (sym (decimal-in m (suc m / 10) few))
 
--- what holds of each digit, and of each number of which it holds of the tens, holds of all
+-- what holds for each digit, and for each number if it holds for its tens, holds for all numbers
 module _ (P : ℕ → Type 0) (one : (n : ℕ) → n < 10 → P n) (more : (n : ℕ) → 10 ≤ n → P (n / 10) → P n) where
   below : (k n : ℕ) → n < k → P n
   below zero n h = absurd (omega arith)

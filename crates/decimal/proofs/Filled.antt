@@ -1,4 +1,4 @@
--- The loop of the writer: it fills 20 bytes from the end, a digit a turn, until one digit is left.
+-- The loop of the writer: it fills 20 bytes from the end, one digit per iteration, until one digit is left.
 -- Assumes nothing.
 use mathlib.Core.Path.{_≡_, ap, sym, _∙_}
 use mathlib.Core.List.{List, [], _∷_, _++_, append-assoc, append-nil}

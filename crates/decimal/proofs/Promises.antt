@@ -1,4 +1,4 @@
--- What is promised of numbers in decimal: they read back, they are digits without a needless zero, and every such text is one.
+-- What is promised about numbers in decimal: they read back, they are digits without a needless zero, and every such text is one.
 -- Assumes nothing.
 use mathlib.Core.Path.{_≡_, refl, ap, sym, _∙_}
 use mathlib.Core.Bool.{Bool, true, false, cond}

@@ -1,11 +1,11 @@
-// A number in decimal, one text a number: for every writer of numbers.
+// A number in decimal, one text per number: for every writer of numbers.
 use answer::Answer;
 ghost use mathlib.Core.Path.{_≡_};
 ghost use lib.ListN.{length};
 ghost use Rattle.answer.specs.Answer.{writeAnswer, writeBytes};
 ghost use Rattle.decimal.specs.Decimal.{decimal};
 
-// A number of 64 bits has at most so many digits.
+// A number of 64 bits has at most this many digits.
 const MOST_DIGITS: usize = 20;
 
 // Writes a number in decimal to the front of `out`, or answers 7 with the text's length.

@@ -107,7 +107,7 @@ one-line : (d : Difference) → linesText (d ∷ []) ≡ lineText d
 unfolding linesText
 one-line d = append-nil (lineText d)
 
--- the first lines of two lists that go on
+-- the first lines of two lists that continue
 equal-heads : (i x y : ℕ) (xs ys : List ℕ) → x ≡ y → actionDifference i (x ∷ xs) (y ∷ ys) ≡ actionDifference (i + 1) xs ys
 unfolding actionDifference
 equal-heads i x y xs ys e = let one : suc i ≡ i + 1 = omega arith in rw (eq-eqb _ _ e, one)
@@ -187,7 +187,7 @@ module _ (n : ℕ) (l : List ℕ) (m : ℕ) (k old bytes : List ℕ) (at to i : 
       = ap linesText (inv .left ∙ ap₂ (actionDifference i) (numbers-end n l i at h) (numbers-end m k i to j) ∙ none-left i) in
       rw (none, inv .same) (put-none refl)
 
-  -- place for it, and its text where it has been put
+  -- space for it, and its text once it has been put
   pub here-fits : (place : ℕ) (line : List ℕ) → actionLine n l m k ≡ line → place + length (actionLine n l m k) ≤ length old
       → place + length line ≤ length bytes
   here-fits place line e h = let s = ap length (inv .same) in let t = ap length e in omega arith

@@ -32,6 +32,6 @@ module _ (i : ℕ) (h : 64 ≤ i) where
       unfolding startKey ascii
       key-file d = simp (le-ltb _ _ h, ne-eqb _ _ a, ne-eqb _ _ b, ne-eqb _ _ d)
 
--- a text that has place, in other words
+-- a text that there is space for, in other words
 pub fits-as : {p q : List ℕ} (n l : ℕ) → p ≡ q → n + length p ≤ l → n + length q ≤ l
 fits-as n l e h = rw e at h

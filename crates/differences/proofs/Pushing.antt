@@ -1,4 +1,4 @@
--- Texts put behind one another: what stands behind a key, a start's line and an action's, with place for each part in what is lent.
+-- Texts put behind one another: what stands behind a key, a start's line and an action's, with space for each part in what is lent.
 -- Assumes nothing.
 use mathlib.Core.Path.{_≡_, refl, sym, ap, _∙_}
 use mathlib.Core.List.{List, [], _∷_, _++_, append-nil, append-assoc}

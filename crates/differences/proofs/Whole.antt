@@ -1,4 +1,4 @@
--- The whole call: what it knows of two rolls that are read, place for the text, and what it answers and leaves.
+-- The whole call: what it knows of two rolls that are read, space for the text, and what it answers and leaves.
 -- Assumes nothing.
 use mathlib.Core.Path.{_≡_, refl, ap, ap₂, sym, _∙_}
 use mathlib.Core.Bool.{true}

@@ -1,5 +1,5 @@
 -- The actions as a roll's text has them: the number of the action at the front of a text and how many bytes it takes there, by its first four bytes. Code 2
--- is a move's, whose number follows in one to three groups of seven bits; a byte that is not there is taken for 0.
+-- is a move's, whose number follows in one to three groups of seven bits; a byte that is not there counts as 0.
 -- Assumes nothing.
 use Prim.Native.Nat.{ℕ, zero, suc, _+_, _*_, _%_}
 use mathlib.Core.Bool.{cond}
@@ -27,7 +27,7 @@ entryNumber l =
     (2 + 16 * threeGroups (numberAt l 1) (numberAt l 2) (numberAt l 3))))
     (numberAt l 0)
 
--- how many bytes the actions at the front of two texts take if they are the same there, byte for byte, and else 0
+-- how many bytes the actions at the front of two texts take if they are the same there, byte for byte, and otherwise 0
 unfoldable pub sameEntry : List ℕ → List ℕ → ℕ
 sameEntry l m =
     cond (eqb (numberAt l 0) (numberAt m 0))
@@ -38,7 +38,7 @@ sameEntry l m =
     (cond (ltb (numberAt l 2) 128) 3
     (cond (eqb (numberAt l 3) (numberAt m 3)) 4 0)) 0)) 0) 1) 0
 
--- of n actions from the front
+-- for n actions from the front
 unfoldable pub textNumbers : ℕ → List ℕ → List ℕ
 textNumbers zero l = []
 textNumbers (suc n) l = entryNumber l ∷ textNumbers n (drop (entrySize l) l)

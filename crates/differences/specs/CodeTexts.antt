@@ -1,4 +1,4 @@
--- A text that is put together, and its two parts: the lines of two starts, which rolls have in front, a byte for each number; and the
+-- A text that is put together, and its two parts: the lines of two starts, which rolls have in front, one byte per number; and the
 -- line of the first action that differs between two texts of actions.
 -- Assumes nothing.
 use Prim.Native.Nat.{ℕ}
@@ -20,6 +20,6 @@ startOf s = take recordSize s
 abbrev pub startLines : List ℕ → List ℕ → List ℕ
 startLines s t = linesText (startDifferences 0 (startOf s) (startOf t))
 
--- of the first n actions of one text and the first m of another
+-- for the first n actions of one text and the first m of another
 abbrev pub actionLine : ℕ → List ℕ → ℕ → List ℕ → List ℕ
 actionLine n l m k = linesText (actionDifference 0 (textNumbers n l) (textNumbers m k))

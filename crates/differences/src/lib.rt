@@ -84,7 +84,7 @@ fn push_start(bytes: &mut [u8], n: usize, i: usize, x: u8, y: u8) -> usize
     push_pair(bytes, behind, x as u64, y as u64)
 }
 
-// The lines of two starts, which a roll has in front, a byte for each number.
+// The lines of two starts, which a roll has in front, one byte per number.
 fn push_starts(first: &[u8], second: &[u8], bytes: &mut [u8]) -> usize
     requires { ⌜ (recordSize ≤ length (now first)) × (recordSize ≤ length (now second)) ⌝ }
     requires { ⌜ length (startLines (now first) (now second)) ≤ length (now bytes) ⌝ }

@@ -16,7 +16,7 @@ use Rattle.roll_text.proofs.Refusals.{Passes, rollPasses, roll-passes}
 use Rattle.differences_text.specs.Calls.{differencesCheck, differencesText}
 use Rattle.differences_text.specs.Promises.{Never16}
 
--- what is no 16
+-- what is not 16
 unfoldable told : ℕ → Bool
 told k = not (eqb k partTooShort)
 

@@ -1,4 +1,4 @@
--- What the call answers, by what the roll reader answers: the first refusal, else the text of two games that are read.
+-- What the call answers, by what the roll reader answers: the first refusal, or otherwise the text of two games that are read.
 -- Assumes nothing.
 use mathlib.Core.Path.{_≡_, refl, ap, ap₂, sym, _∙_}
 use mathlib.Core.Bool.{Bool, true, false}

@@ -10,13 +10,13 @@ use Rattle.roll_text.specs.Roll.{Rolled, refusal, rolled, readRoll}
 use Rattle.roll_text.specs.Calls.{rollAnswer}
 use Rattle.differences_text.specs.Differences.{Difference, startDifferences, actionNumbers, actionDifference, linesText}
 
--- of two games as the roll reader reads them
+-- for two games as the roll reader reads them
 unfoldable pub differences : Rolled → Rolled → List Difference
 differences (refusal k) y = []
 differences (rolled xs n bs) (refusal k) = []
 differences (rolled xs n bs) (rolled ys m cs) = startDifferences 0 xs ys ++ actionDifference 0 (actionNumbers n bs) (actionNumbers m cs)
 
--- of two rolls
+-- for two rolls
 abbrev pub rollDifferences : Limits → List ℕ → List ℕ → List Difference
 rollDifferences L s t = differences (readRoll L s) (readRoll L t)
 
@@ -27,7 +27,7 @@ differencesCheck L s t = firstRefusal (rollAnswer (readRoll L s) .number ∷ rol
 unfoldable pub differencesText : Limits → List ℕ → List ℕ → List ℕ
 differencesText L s t = linesText (rollDifferences L s t)
 
--- the refusals, then 7 with the length needed, else 0 with the length
+-- the refusals, then 7 with the length needed, otherwise 0 with the length
 abbrev pub differencesAnswer : Limits → List ℕ → List ℕ → ℕ → Answer
 differencesAnswer L s t room = writeAnswer (differencesCheck L s t) (differencesText L s t) room
 

@@ -36,7 +36,7 @@ startKey i =
 unfoldable pub ifDiffers : List ℕ → ℕ → ℕ → List Difference
 ifDiffers key x y = cond (eqb x y) [] (difference key x y ∷ [])
 
--- of two starts from number i on
+-- for two starts, from number i on
 unfoldable pub startDifferences : ℕ → List ℕ → List ℕ → List Difference
 startDifferences i [] ys = []
 startDifferences i (x ∷ xs) [] = []
@@ -44,11 +44,11 @@ startDifferences i (x ∷ xs) (y ∷ ys) = ifDiffers (startKey i) x y ++ startDi
 
 -- ---- the actions
 
--- "its roll code + 16 × the move", of the action at the front of some bytes; where it is no move, the move's bytes are 0
+-- "its roll code + 16 × the move", for the action at the front of some bytes; where it is not a move, the move's bytes are 0
 abbrev pub actionNumber : List ℕ → ℕ
 actionNumber bs = codeOf (kindAt bs) (colourAt bs) + 16 * moveNumberAt bs
 
--- of the first n actions of some bytes, 4 bytes each
+-- for the first n actions of some bytes, 4 bytes each
 unfoldable pub actionNumbers : ℕ → List ℕ → List ℕ
 actionNumbers zero bs = []
 actionNumbers (suc n) bs = actionNumber bs ∷ actionNumbers n (drop actionSize bs)

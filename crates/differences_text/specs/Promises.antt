@@ -1,4 +1,4 @@
--- What the order promises of the lines that differ, as statements that can be read by themselves.
+-- What the order promises about the lines that differ, as statements that can be read by themselves.
 -- Assumes nothing.
 use Prim.Native.Nat.{ℕ, suc, _≤_, _<_}
 use mathlib.Core.Path.{_≡_}
@@ -114,7 +114,7 @@ FirstRollFirst = (L : Limits) (s t out : List ℕ) → (readerNumber L s ≡ 0 �
 abbrev pub ThenTheSecond : Type 0
 ThenTheSecond = (L : Limits) (s t out : List ℕ) → readerNumber L s ≡ 0 → (readerNumber L t ≡ 0 → ⊥) → Refuses (teller L) s t out (readerNumber L t)
 
--- of the reader's four numbers 16 cannot happen
+-- of the reader's four numbers, 16 cannot occur
 abbrev pub Never16 : Type 0
 Never16 = (L : Limits) (s t : List ℕ) (room : ℕ) → teller L .answer s t room .number ≡ partTooShort → ⊥
 
@@ -126,7 +126,7 @@ longest = 628
 abbrev pub NoLonger : Type 0
 NoLonger = (L : Limits) (s t : List ℕ) (room : ℕ) → L .most-actions ≤ 10000 → BothRead L s t → teller L .answer s t room .value ≤ longest
 
--- which those of document 01 meet, and two rolls have it
+-- the limits of the contracts meet that bound, and there are two rolls whose text is that long
 abbrev pub LimitsHaveFourDigits : Type 0
 LimitsHaveFourDigits = limits .most-actions ≤ 10000
 

@@ -1,4 +1,4 @@
--- The last action's first byte: a move's and an offer's leave the game going on, and so do bytes that hold no action.
+-- The last action's first byte: a move's and an offer's leave the game going, and so do bytes that hold no action.
 -- Assumes nothing.
 use mathlib.Core.Path.{_≡_, refl, ap, _∙_}
 use mathlib.Core.Bool.{Bool, true, false, cond, _&&_}
@@ -20,7 +20,7 @@ use Rattle.actions.specs.Part.{lastAction}
 use Rattle.actions.proofs.LastAction.{last-none, last-some}
 use Rattle.ending.specs.Ending.{resultOfAction}
 
--- an action that goes on, where its bytes hold it
+-- an action after which the game goes on, where its bytes hold it
 held-goes-on : (a : Action) → resultOfAction (Holds a) ≡ 0 → (held : Bool) → resultOfAction (cond held (Holds a) Nothing) ≡ 0
 held-goes-on a e true = e
 held-goes-on a e false = refl

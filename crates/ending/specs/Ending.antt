@@ -70,7 +70,7 @@ isOfferBy colour Nothing = false
 unfoldable pub offerIn : Position → Stored → Stored → Bool
 offerIn p last before = isOffer last || isOfferBy (1 - side p) before
 
--- the same of a log's first n actions and its position m
+-- the same for a log's first n actions and its position m
 abbrev pub resultAt : List ℕ → List ℕ → ℕ → ℕ → ℕ
 resultAt acts ps n m = resultOf (positionAt ps m) (lastAction acts n)
 

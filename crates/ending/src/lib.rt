@@ -13,7 +13,7 @@ ghost use Rattle.action.specs.declared.Stored.the-variants.{Holds};
 ghost use Rattle.actions.specs.Part.{lastAction};
 ghost use Rattle.ending.specs.Ending.{whiteResigns, blackResigns, resultWithoutMoves, resultOfAction, isOffer, isOfferBy, resultAt, offerAt};
 
-// The results, in the order of `GameResult`; 0 is none.
+// The results, in the order of `GameResult`; 0 means none.
 
 pub const GOES_ON: u64 = 0;
 

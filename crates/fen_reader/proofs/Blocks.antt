@@ -1,4 +1,4 @@
--- Lines by blocks. A byte is looked for in a block with no branch: what is found is gathered, and nothing is gathered exactly if the byte is not there.
+-- Lines by blocks. A byte is looked for in a block without a branch: what is found is gathered, and nothing is gathered exactly if the byte is not there.
 -- Assumes nothing.
 use mathlib.Core.Path.{_≡_, refl, sym, ap, _∙_}
 use mathlib.Core.Bool.{Bool, true, false, cond, not, _&&_, _||_}
@@ -24,7 +24,7 @@ found hit here left = rw (or-none hit (cond here 1 0)) (by (eqb hit 0) here)
     by true false = refl
     by false here = refl
 
--- a turn of the loop over the block, and its end
+-- an iteration of the loop over the block, and its end
 pub found-turn : (b : ℕ) (s : List ℕ) (hit i : ℕ) → i < length s
     → not (eqb (bitOr hit (cond (eqb (getD s i 0) b) 1 0)) 0) || among b (drop (i + 1) s) ≡ not (eqb hit 0) || among b (drop i s)
 unfolding among
@@ -38,7 +38,7 @@ found-end b s hit i h = rw (drop-of-length-le s h) (by (not (eqb hit 0)))
     by true = refl
     by false = refl
 
--- ---- newlines counted by blocks: a block more, and what is left at the end
+-- ---- newlines counted by blocks: one more block, and what is left at the end
 
 pub counted-turn : (s : List ℕ) (at size k n r : ℕ) → k ≡ size → r ≡ length (ended (take k (drop at s)))
     → n + length (ended (drop at s)) ≡ length (ended s) → n + r + length (ended (drop (at + size) s)) ≡ length (ended s)

@@ -1,4 +1,4 @@
--- What a byte's class says: a slash, a digit, a piece's letter, or none of a placement. And the table that the reader fills: it holds each byte's class.
+-- What a byte's class says: a slash, a digit, a piece's letter, or none of these. And the table that the reader fills: it holds each byte's class.
 -- Assumes nothing.
 use mathlib.Core.Path.{_≡_, refl, sym, _∙_}
 use mathlib.Core.Bool.{Bool, true, false}
@@ -78,7 +78,7 @@ pub table-long : length (noteAll signs (replicate 256 noClass)) ≡ 256
 unfolding noteAll ascii
 table-long = refl
 
--- a byte is bad exactly if its class is the noClass one
+-- a byte is bad exactly if its class is noClass
 bad-class : (b : ℕ) → b < 256 → isBad b ≡ eqb (classOf b) noClass
 unfolding among ascii classOf pieceOf
 bad-class b h = agree isBad (λ (x : ℕ). eqb (classOf x) noClass) 256 tt b h

@@ -1,4 +1,4 @@
--- A page read line by line: what the rooms hold after some lines, such that the lines that are left make it the whole page.
+-- A page read line by line: what the rooms hold after some lines, which with the lines that are left makes the whole page.
 -- Assumes nothing.
 use mathlib.Core.Path.{_≡_, refl, sym, ap, subst, _∙_}
 use mathlib.Core.Bool.{Bool, true, false, cond}

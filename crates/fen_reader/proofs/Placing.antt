@@ -1,4 +1,4 @@
--- The placement in one pass: a byte's class says what `placeByte` does, and the classes put together whether every byte was one of a placement.
+-- The placement in one pass: a byte's class says what `placeByte` does, and the classes put together whether every byte may stand in a placement.
 -- Assumes nothing.
 use mathlib.Core.Path.{_≡_, refl, sym, ap, _∙_}
 use mathlib.Core.Bool.{Bool, true, false, _&&_, and-true, and-false}
@@ -86,7 +86,7 @@ pub stored : (pieces : List ℕ) (rank file a c d x r f : ℕ)
     → after pieces rank file (ltb a noClass) d ≡ placement (set pieces (squareOf rank file) x) r f (ltb (bitOr a c) noClass)
 stored pieces rank file a c d x r f e g h k = rw (g, h, k, ← low-both a c, e)
 
--- one byte more
+-- one more byte
 pub turn : (s : List ℕ) (i : ℕ) {p q : Placement} → i < length s → placeAll start (take i s) ≡ p → placeByte p (getD s i 0) ≡ q
     → placeAll start (take (i + 1) s) ≡ q
 unfolding placeAll
@@ -103,7 +103,7 @@ pub bad-placement : (s : List ℕ) (n : ℕ) (b c d : List ℕ) → placeAll sta
 unfolding assembled
 bad-placement s n b c d e = simp e
 
--- the same of a text with enough tokens, of which the first was walked
+-- the same for a text with enough tokens, of which the first was walked
 pub bad-first : (s : List ℕ) (n : ℕ) → NoPlacement s n → 4 ≤ length (tokens s) → readFen s ≡ refusedAt badPlacement (firstBad (take n s))
 bad-first s n h k =
     let first : tokenAt 0 s ≡ take n s = ap (λ (ts : List (List ℕ)). getD ts 0 []) (first-token s .1) ∙ ap (λ (m : ℕ). take m s) (sym (h .place)) in

@@ -1,4 +1,4 @@
--- What the reader's cuts say of the tokens: each cut is at the first space, so that what it leaves has the tokens that follow.
+-- What the reader's cuts say about the tokens: each cut is at the first space, so that what it leaves has the tokens that follow.
 -- Assumes nothing.
 use mathlib.Core.Path.{_≡_, sym, ap, subst, _∙_}
 use mathlib.Core.List.{List, [], _∷_}

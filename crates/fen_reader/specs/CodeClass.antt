@@ -15,7 +15,7 @@ use Rattle.fen_text.specs.Read.{rightsOf}
 use Rattle.fen_reader.specs.declared.placement.Walked.{Walked}
 use Rattle.fen_reader.specs.declared.token.Sides.{Sides}
 
--- what is no class of a byte of a placement
+-- a class that no byte of a placement has
 abbrev pub noClass : ℕ
 noClass = 64
 
@@ -47,7 +47,7 @@ pub record Walk (s : List ℕ) (r : Walked) : Type 0 where
   pub pieces : placeAll start (take (r .end) s) .pieces ≡ r .pieces
   pub good : placeAll start (take (r .end) s) .good ≡ ltb (r .seen) noClass
 
--- the first token of a text ends there, and is no placement
+-- the first token of a text ends there, and is not a placement
 pub record NoPlacement (s : List ℕ) (end : ℕ) : Type 0 where
   pub place : end ≡ placeOf 32 s
   pub bad : placeAll start (take end s) .good ≡ false

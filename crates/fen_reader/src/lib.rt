@@ -49,7 +49,7 @@ fn assemble(at: usize, pieces: [u8; 64], side: &[u8], castling: &[u8], ep: &[u8]
     }
 }
 
-// A text whose first token, which ends at `end`, is no placement: too few tokens are reported first. The place of a bad byte is looked for here alone, so that
+// A text whose first token, which ends at `end`, is not a placement: too few tokens are reported first. A bad byte's place is looked for only here, so that
 // the walk over a good text carries nothing for it.
 fn no_placement(text: &[u8], end: usize) -> Fen
     requires { ⌜ NoPlacement (now text) end ⌝ }

@@ -1,4 +1,4 @@
-// Lines: how many a text has, and where they end. No branch depends on a single byte until a block has a newline: the bytes are taken many at a time.
+// Lines: how many a text has, and where they end. No branch depends on a single byte until a block has a newline: many bytes are taken at a time.
 use crate::token;
 ghost use mathlib.Core.Path.{_≡_};
 ghost use mathlib.Core.Bool.{cond};

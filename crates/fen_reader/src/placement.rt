@@ -1,4 +1,4 @@
-// The placement, read in one pass: a decision over the byte, the square to fill next.
+// The placement, read in one pass: each byte decides what is set down and which square is filled next.
 ghost use mathlib.Core.Path.{_≡_};
 ghost use Prim.Native.Nat.{_<_};
 ghost use lib.ListN.{set};
@@ -101,7 +101,7 @@ fn rank_after(rank: usize, class: u8) -> usize
 }
 
 // The pieces that a text's first token places, where the token ends, and the classes of its bytes put together: by `|`, so that no branch depends on a byte
-// but the token's end.
+// except at the token's end.
 pub struct Walked {
     pub pieces: [u8; 64],
     pub end: usize,
@@ -142,7 +142,7 @@ pub(crate) fn place(text: &[u8]) -> Walked
     }
 }
 
-// The place of the first byte that is none of a placement, or the length where there is none.
+// The place of the first byte that may not stand in a placement, or the length if there is none.
 pub(crate) fn first_bad(token: &[u8]) -> usize
     ensures { λ r. ⌜ r ≡ firstBad (now (token .entry)) ⌝ }
 {

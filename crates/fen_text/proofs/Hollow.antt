@@ -1,4 +1,4 @@
--- Demand 2's read-back, kept by ours, and not by a constant text nor by a reader that always refuses. And the lengths told, kept by ours, and not by a
+-- Demand 2's read-back, kept by ours, but not by a constant text nor by a reader that always refuses. And the lengths told, kept by ours, but not by a
 -- writer that invents one.
 -- Assumes nothing.
 use mathlib.Core.Path.{_≡_, refl, sym, ap, ap₂, _∙_}

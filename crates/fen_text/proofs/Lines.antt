@@ -32,7 +32,7 @@ unfolding placeWhere lines
 lines-next [] h = absurd (omega arith)
 lines-next (x ∷ s) h = next-line (eqb x lineFeed) x s (lines-next s)
 
--- the same of what is left of a text from a place on
+-- the same for what is left of a text from a place on
 pub lines-from : (s : List ℕ) (at end : ℕ) → at < length s → end ≡ at + placeOf lineFeed (drop at s)
     → lines (drop at s) ≡ take (placeOf lineFeed (drop at s)) (drop at s) ∷ lines (drop (end + 1) s)
 lines-from s at end h e =
@@ -65,7 +65,7 @@ unfolding placeWhere ended
 ended-none [] h = refl
 ended-none (x ∷ s) h = none-step (eqb x lineFeed) x (placeOf lineFeed s) (length s) (ended s) (ended-none s) h
 
--- ---- how many: those that are ended, counted from the front, and one more if the last byte is no newline
+-- ---- how many: those that are ended, counted from the front, and one more if the last byte is not a newline
 
 length-ended : (t : Bool) (x : ℕ) (ls : List (List ℕ)) → length (endedBy t x ls) ≡ cond t 1 0 + length ls
 unfolding endedBy ontoEnded
@@ -81,7 +81,7 @@ pub ended-end : (s : List ℕ) (i : ℕ) → length s ≤ i → length (ended (d
 unfolding ended
 ended-end s i h = rw (drop-of-length-le s h)
 
--- of two texts one after the other, and of a text taken by parts
+-- for two texts one after the other, and for a text taken in parts
 ended-both : (a b : List ℕ) → length (ended (a ++ b)) ≡ length (ended a) + length (ended b)
 unfolding ended
 ended-both [] b = omega arith
@@ -118,7 +118,7 @@ count-lines x (y ∷ s) =
     (some-lines (y ∷ s) (omega arith))
     (count-lines y s)
 
--- no more than bytes
+-- no more of them than bytes
 at-most-one : (t : Bool) (x n : ℕ) (ls : List (List ℕ)) → length ls ≤ n → length (joined t x ls) ≤ suc n
 unfolding joined onto
 at-most-one true x n ls h = omega arith
@@ -130,7 +130,7 @@ unfolding lines
 lines-at-most [] = omega arith
 lines-at-most (x ∷ s) = at-most-one (eqb x lineFeed) x (length s) (lines s) (lines-at-most s)
 
--- the same of a text that is not empty, by its last byte
+-- the same for a text that is not empty, by its last byte
 pub count-by-last : (s : List ℕ) → 0 < length s → length (lines s) ≡ length (ended s) + cond (eqb (getD s (length s - 1) 0) lineFeed) 0 1
 count-by-last [] h = absurd (omega arith)
 count-by-last (x ∷ s) h =
@@ -170,7 +170,7 @@ none-in-front b (x ∷ s) (suc n) h e =
     front-step (eqb x b) (placeOf b s) n (placeOf b (drop n s)) (or-left (eqb x b) (among b (take n s)) e)
     (none-in-front b s n (omega arith) (or-right (eqb x b) (among b (take n s)) e))
 
--- ---- what is said of each line, all of one length
+-- ---- what is said about each line, all of one length
 
 pub length-over : (f : List ℕ → List ℕ) (size : ℕ) → ((l : List ℕ) → length (f l) ≡ size) → (ls : List (List ℕ)) → length (overLines f ls) ≡ size * length ls
 unfolding overLines

@@ -1,4 +1,4 @@
--- What order 7 promises of a page: each line has the single reader's answer, rooms are judged by the number of lines, and pages one after the other are
+-- What order 7 promises about a page: each line has the single reader's answer, rooms are judged by the number of lines, and pages one after the other are
 -- the page of both joined.
 -- Assumes nothing.
 use mathlib.Core.Path.{_≡_, refl, sym, ap, _∙_}
@@ -29,7 +29,7 @@ use Rattle.fen_text.specs.PagePromises.{lineAt, AsTheSingleReader, EachL
 use Rattle.fen_text.proofs.Keys.{reads-in-range, refused-is-zero}
 use Rattle.fen_text.proofs.Lines.{length-over, over-append, lines-behind}
 
--- ---- lengths: 68 bytes and two numbers a line
+-- ---- lengths: 68 bytes and two numbers per line
 
 pub record-long : (l : List ℕ) → length (recordOf l) ≡ recordSize
 unfolding numbers
@@ -102,7 +102,7 @@ refused-pages-change-nothing s records told n = go (pageFits s (length records) 
     go true e = absurd (n (simp e))
     go false e = (simp e, simp e)
 
--- what a call answers and leaves that refuses the page, and one that takes it
+-- what a call that refuses the page answers and leaves, and one that takes it
 pub page-refused : (s records told : List ℕ) → pageFits s (length records) (length told) ≡ false
     → (tooShort (lineCount s) ≡ pageAnswer s (length records) (length told))
       × (records ≡ recordsLeft s records (length told)) × (told ≡ toldLeft s (length records) told)
@@ -117,7 +117,7 @@ page-taken s records told e = (simp e, simp e, simp e)
 
 -- ---- each line
 
--- in a list of things of one size, the k-th is what is said of line k
+-- in a list of things of one size, the k-th is what is said about line k
 item-over : (f : List ℕ → List ℕ) (size : ℕ) → ((l : List ℕ) → length (f l) ≡ size)
     → (ls : List (List ℕ)) (past : List ℕ) (k : ℕ) → k < length ls → item size (overLines f ls ++ past) k ≡ f (getD ls k [])
 unfolding overLines

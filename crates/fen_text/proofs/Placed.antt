@@ -27,7 +27,7 @@ unfolding placeAll
 place-append p [] ys = refl
 place-append p (x ∷ xs) ys = place-append (placeByte p x) xs ys
 
--- a letter stands for its piece, and is no slash and no digit: twelve codes, each computed
+-- a letter stands for its piece, and is neither a slash nor a digit: twelve codes, each computed
 letter-piece : (x : ℕ) → x < 13 → (x ≡ 0 → ⊥) → pieceOf (letterOf x) ≡ x
 unfolding pieceOf letterOf
 letter-piece x h n = eqb→eq _ x (below (λ (y : ℕ). eqb (pieceOf (letterOf y)) y) 13 tt x h)

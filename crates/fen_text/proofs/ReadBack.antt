@@ -69,7 +69,7 @@ free-ranks (suc n) pieces ok =
     free-append (runText 0 (rowOf n pieces)) (slashText n ++ ranksText n pieces) (free-run 0 (rowOf n pieces) (row-codes n pieces ok))
     (free-append (slashText n) (ranksText n pieces) (free-slash n) (free-ranks n pieces ok))
 
--- a part that hangs on two numbers, each pair computed
+-- a part that depends on two numbers, each pair computed
 free-part : (f : ℕ → ℕ → List ℕ) (m n : ℕ) → T (every (λ (j : ℕ). every (λ (k : ℕ). not (among 32 (f j k))) n) m) → (j k : ℕ) → j < m → k < n → Free (f j k)
 free-part f m n t j k h l = fails (among 32 (f j k)) (belows (λ (a b : ℕ). not (among 32 (f a b))) m n t j k h l)
 

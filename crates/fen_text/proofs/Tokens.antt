@@ -43,7 +43,7 @@ module _ (test : ℕ → Bool) (s : List ℕ) where
   pub where-start : placeWhere test s ≡ 0 + placeWhere test s
   where-start = omega arith
 
--- the same of a byte
+-- the same for a byte
 pub place-hit : (b : ℕ) (s : List ℕ) (i : ℕ) → i < length s → getD s i 0 ≡ b → i + placeOf b (drop i s) ≡ i
 place-hit b s i h e = where-hit (λ (x : ℕ). eqb x b) s i h (eq-eqb _ _ e)
 

@@ -1,5 +1,5 @@
--- The FEN reader as it was before order 2, and as the crate is: 1 for every refused text, and nothing of where. It stays so that the new answers can
--- be held against it ("which texts are refused stays as in the crate").
+-- The FEN reader as it was before order 2, and as the crate is: 1 for every refused text, but not where. It stays so that the new answers can
+-- be compared with it ("which texts are refused stays as in the crate").
 -- Assumes nothing.
 use Prim.Native.Nat.{ℕ}
 use mathlib.Core.Bool.{cond, _&&_}

@@ -17,7 +17,7 @@ use Rattle.fen_text.specs.Base.{baseFen}
 abbrev pub tokenAt : ℕ → List ℕ → List ℕ
 tokenAt k s = getD (tokens s) k []
 
--- each byte before a place is one of a placement
+-- each byte before a place may stand in a placement
 abbrev pub GoodUpTo : List ℕ → ℕ → Type 0
 GoodUpTo token n = (k : ℕ) → k < n → among (getD token k 0) signs ≡ true
 
@@ -25,7 +25,7 @@ GoodUpTo token n = (k : ℕ) → k < n → among (getD token k 0) signs ≡ true
 abbrev pub TooFew : List ℕ → Type 0
 TooFew s = length (tokens s) < 4
 
--- "a bad placement byte (its place)": enough tokens, and a byte that is none of a placement, with none before it
+-- "a bad placement byte (its place)": enough tokens, and a byte that may not stand in a placement, with no such byte before it
 pub record BadPlacement (s : List ℕ) (at : ℕ) : Type 0 where
   pub enough : 4 ≤ length (tokens s)
   pub within : at < length (tokenAt 0 s)
@@ -46,7 +46,7 @@ pub record BadSide (s : List ℕ) (at : ℕ) : Type 0 where
   pub side : NoSide (tokenAt 1 s)
   pub start : at ≡ placeOf 32 s + 1
 
--- what is said of a text
+-- what is said about a text
 pub record SaysWhere (s : List ℕ) : Type 0 where
   -- accepted exactly if it was before, with the same record, and the offset 0
   pub as-before : baseFen s .number ≡ 0 → readFen s ≡ fenOf (baseFen s .board)
@@ -64,7 +64,7 @@ pub record SaysWhere (s : List ℕ) : Type 0 where
 abbrev pub EveryTextIsToldWhere : Type 0
 EveryTextIsToldWhere = (s : List ℕ) → SaysWhere s
 
--- no number but these, and an all-zero record with each: 1 is given by nothing any more
+-- no number but these, and an all-zero record with each: 1 is no longer answered
 pub data Numbers (s : List ℕ) : Type 0 where
   accepted : readFen s ≡ fenOf (readFen s .board) → Numbers s
   few : readFen s ≡ refusedAt tooFewTokens (readFen s .offset) → Numbers s

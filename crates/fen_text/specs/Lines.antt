@@ -36,7 +36,7 @@ unfolding endedBy
 ended [] = []
 ended (x ∷ xs) = endedBy (eqb x lineFeed) x (ended xs)
 
--- what is said of each line, one after the other
+-- what is said about each line, one after the other
 unfoldable pub overLines : (List ℕ → List ℕ) → List (List ℕ) → List ℕ
 overLines f [] = []
 overLines f (l ∷ ls) = f l ++ overLines f ls

@@ -1,4 +1,4 @@
--- A page of FENs (document 02, order 7): one call takes lines and two lent rooms, 68 bytes and two numbers a line, and puts there the record, answer
+-- A page of FENs (document 02, order 7): one call takes lines and two lent rooms, 68 bytes and two numbers per line, and puts there the record, answer
 -- number and offset that the single reader gives. Either room too short refuses the whole call, with 7 and the number of lines.
 -- Assumes nothing.
 use Prim.Native.Nat.{ℕ, _*_}
@@ -33,14 +33,14 @@ pageRecords s = overLines recordOf (lines s)
 abbrev pub pageTold : List ℕ → List ℕ
 pageTold s = overLines toldOf (lines s)
 
--- the text's lines have their bytes in a room of one length and their numbers in a room of the other
+-- the records of the text's lines fit a room of the first length and their numbers a room of the second
 unfoldable pub pageFits : List ℕ → ℕ → ℕ → Bool
 pageFits s records told = leb (recordSize * lineCount s) records && leb (toldSize * lineCount s) told
 
 unfoldable pub pageAnswer : List ℕ → ℕ → ℕ → Answer
 pageAnswer s records told = cond (pageFits s records told) (accepted (lineCount s)) (tooShort (lineCount s))
 
--- what the call leaves in the room of records, beside a room of so many numbers, and in the room of numbers, beside a room of so many bytes
+-- what the call leaves in the room of records, beside a room of that many numbers, and in the room of numbers, beside a room of that many bytes
 unfoldable pub recordsLeft : List ℕ → List ℕ → ℕ → List ℕ
 recordsLeft s records told = cond (pageFits s (length records) told) (overwrite (pageRecords s) records) records
 

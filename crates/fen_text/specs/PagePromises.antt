@@ -1,4 +1,4 @@
--- What order 7 promises, each as a statement that can be read by itself, of the definitions that the page call's contract cites.
+-- What order 7 promises, each as a statement that can be read by itself, about the definitions that the page call's contract cites.
 -- Assumes nothing.
 use Prim.Native.Nat.{ℕ, _+_, _*_, _≤_, _<_}
 use mathlib.Core.Path.{_≡_}
@@ -29,7 +29,7 @@ abbrev pub EachLineAsTheSingleReader : Type 0
 EachLineAsTheSingleReader =
     (s records told : List ℕ) → pageAnswer s (length records) (length told) .number ≡ 0 → AsTheSingleReader s records told
 
--- the answer: the number of lines, and 0 exactly if both rooms are long enough, else 7
+-- the answer: the number of lines, and 0 exactly if both rooms are long enough, otherwise 7
 pub record Judged (s : List ℕ) (records told : ℕ) : Type 0 where
   pub lines-told : pageAnswer s records told .value ≡ lineCount s
   pub enough : recordSize * lineCount s ≤ records → toldSize * lineCount s ≤ told → pageAnswer s records told .number ≡ 0

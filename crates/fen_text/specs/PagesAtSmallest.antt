@@ -9,7 +9,7 @@ use Rattle.answer.specs.Ascii.{ascii}
 use Rattle.fen_text.specs.Lines.{lines, ended}
 use Rattle.fen_text.specs.Page.{pageAnswer, recordsLeft, toldLeft}
 
--- a room of so many numbers, each 9
+-- a room of n numbers, each 9
 abbrev pub nines : ℕ → List ℕ
 nines n = replicate n 9
 

@@ -14,7 +14,7 @@ use Rattle.square.specs.Piece.{pieceOf}
 use Rattle.board_builder.specs.BoardBuilder.{squares}
 use Rattle.fen_text.specs.Token.{placeWhere}
 
--- the pieces placed so far, the square to fill next, and whether every byte so far was one of a placement
+-- the pieces placed so far, the square to fill next, and whether every byte so far may stand in a placement
 pub record Placement : Type 0 where
   pub pieces : List ℕ
   pub rank : ℕ
@@ -40,7 +40,7 @@ fill code p = placement (set (p .pieces) (squareOf (p .rank) (p .file)) code) (p
 abbrev pub spoil : Placement → Placement
 spoil p = placement (p .pieces) (p .rank) (p .file) false
 
--- the piece of a letter; 0 for a byte that is no letter of a piece
+-- the piece of a letter; 0 for a byte that is not the letter of a piece
 abbrev pub placeCode : ℕ → Placement → Placement
 placeCode code p = cond (eqb code 0) (spoil p) (fill code p)
 
@@ -60,6 +60,6 @@ signs = ascii "/12345678PNBRQKpnbrqk"
 abbrev pub isBad : ℕ → Bool
 isBad b = not (among b signs)
 
--- the place of the first byte that is none of a placement, or the token's length where each is one
+-- the place of the first byte that may not stand in a placement, or the token's length if there is none
 abbrev pub firstBad : List ℕ → ℕ
 firstBad token = placeWhere isBad token

@@ -1,4 +1,4 @@
--- What is promised of FEN texts, each as a statement that can be read by itself. The proofs are in proofs/.
+-- What is promised about FEN texts, each as a statement that can be read by itself. The proofs are in proofs/.
 -- Assumes nothing.
 use Prim.Native.Nat.{ℕ, _≤_}
 use mathlib.Core.Path.{_≡_}
@@ -33,7 +33,7 @@ pub record BackAgain (w : Writer) (read : List ℕ → Fen) (b : BoardBuilder) (
   pub most : w .answer b (length out) .value ≤ 85
   pub back : read (take (w .answer b (length out) .value) (w .room b out)) ≡ fenOf b
 
--- demand 2, of any writer and reader: each record in range, written into a room of 85 bytes or more, reads back
+-- demand 2, for any writer and reader: each record in range, written into a room of 85 bytes or more, reads back
 abbrev pub ReadsBack : Writer → (List ℕ → Fen) → Type 0
 ReadsBack w read = (b : BoardBuilder) (out : List ℕ) → inRange b ≡ true → 85 ≤ length out → BackAgain w read b out
 
@@ -45,7 +45,7 @@ TextReadsBack = (b : BoardBuilder) → inRange b ≡ true → readFen (fenText b
 abbrev pub FenReadsBack : Type 0
 FenReadsBack = ReadsBack fenWriter readFen
 
--- and not by a writer that takes no notice of which record in range it is given (of another it may still say 5), whatever reads ..
+-- and not by a writer that takes no notice of which record in range it is given (for any other record it may still answer 5), whatever reads ..
 abbrev pub OneConstantTextFails : Type 0
 OneConstantTextFails =
     (w : Writer) (read : List ℕ → Fen)
@@ -58,11 +58,11 @@ OneConstantTextFails =
 abbrev pub AlwaysRefusingFails : Type 0
 AlwaysRefusingFails = (w : Writer) (read : List ℕ → Fen) → ((s : List ℕ) → read s .number ≡ 0 → ⊥) → ReadsBack w read → ⊥
 
--- of each record and its text, the promise that crate square has of any writer: the lengths told are those of the text
+-- for each record and its text, the promise that crate answer makes for any writer: the lengths told are those of the text
 abbrev pub TellsLengthsOf : (BoardBuilder → List ℕ) → Writer → Type 0
 TellsLengthsOf text w = (b : BoardBuilder) → ItsText (text b) (w .answer b) (w .room b)
 
--- it is kept by ours, and with no texts at all by a writer that invents a length for any record
+-- it is kept by ours, and for no texts whatever by a writer that invents a length for any record
 abbrev pub FenTellsItsLength : Type 0
 FenTellsItsLength = TellsLengthsOf fenText fenWriter
 

@@ -31,7 +31,7 @@ sideOf (b ∷ c ∷ bs) = 2
 unfoldable pub rightsOf : ℕ → ℕ → List ℕ → ℕ
 rightsOf k q t = rights (cond (among k t) 1 0) (cond (among q t) 1 0)
 
--- the file, from 1, of a square that was read; none where none was
+-- the file, from 1, of a square that was read; none if none was
 abbrev pub fileRead : Pair → ℕ
 fileRead (Square s) = s % 8 + 1
 fileRead BadFile = 0

@@ -27,7 +27,7 @@ runText n (suc x ∷ xs) = digitText n ++ (letterOf (suc x) ∷ runText 0 xs)
 abbrev pub rowOf : ℕ → List ℕ → List ℕ
 rowOf rank pieces = take 8 (drop (rank * 8) pieces)
 
--- what parts a rank from the ranks below it
+-- what separates a rank from the ranks below it
 unfoldable pub slashText : ℕ → List ℕ
 slashText zero = []
 slashText (suc n) = 47 ∷ []

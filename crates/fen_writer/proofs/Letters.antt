@@ -42,7 +42,7 @@ letters-at [] i = refl
 letters-at (x ∷ xs) zero = refl
 letters-at (x ∷ xs) (suc i) = letters-at xs i
 
--- a turn's store takes the copy of i letters to the copy of one more, and the last one ends it
+-- the store of one iteration takes the copy of i letters to the copy of one more, and the last one ends it
 pub letters-turn : (pieces old new : List ℕ) (i b : ℕ) → i < length pieces → i < length old → b ≡ letterOf (getD pieces i 0)
     → new ≡ take i (lettersOn pieces) ++ drop i old → set new i b ≡ take (i + 1) (lettersOn pieces) ++ drop (i + 1) old
 letters-turn pieces old new i b h k e f =

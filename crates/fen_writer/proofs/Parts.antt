@@ -27,7 +27,7 @@ use Rattle.answer.proofs.Pushes.{put-both, put-as}
 abbrev pub letterIf : Bool → ℕ → List ℕ
 letterIf there b = cond there (b ∷ []) []
 
--- which is one byte at most
+-- which is at most one byte
 pub letter-most : (there : Bool) (b : ℕ) {old new : List ℕ} {n r : ℕ} → Put 85 old n (letterIf there b) new r → r ≤ n + 1
 letter-most there b p =
     let one = cond-both (λ (s : List ℕ). length s ≤ 1) there {x = b ∷ []} {y = []} (lit≤ tt) (lit≤ tt) in
@@ -77,7 +77,7 @@ pub black-file : (side file : ℕ) → file < 9 → (file ≡ 0 → ⊥) → (si
 unfolding enPassantText
 black-file side file h e s = simp (ne-eqb _ _ e, ne-eqb _ _ s) (sym (file-text 2 (file - 1) (lit< tt) (omega arith)))
 
--- the numbers of a record in range, and how long their texts are at most
+-- the numbers of a record in range, and the greatest length of their texts
 pub record Small (b : BoardBuilder) : Type 0 where
   pub white : b .«white_castle_rights» < 4
   pub black : b .«black_castle_rights» < 4

@@ -33,7 +33,7 @@ above : (k : ℕ) (pieces : List ℕ) → ranksText (suc k) pieces ≡ runText 0
 unfolding ranksText
 above k pieces = simp (slash k)
 
--- of the ranks that are left the highest is the next
+-- of the ranks that are left, the highest is the next
 next : (left : ℕ) (pieces : List ℕ) → 0 < left
     → ranksText left pieces ≡ runText 0 (rowOf (left - 1) pieces) ++ (cond (ltb 0 (left - 1)) (47 ∷ []) [] ++ ranksText (left - 1) pieces)
 next left pieces h =

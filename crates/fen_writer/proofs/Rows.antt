@@ -79,7 +79,7 @@ row-piece : (run i : ℕ) (row : List ℕ) → i < length row → (getD row i 0 
     → digitText run ++ (getD row i 0 ∷ rowText 0 (drop (i + 1) row)) ≡ rowText run (drop i row)
 row-piece run i row k e = rw (add-one i, drop-cons row i 0 k) (sym (row-letter run (getD row i 0) (drop (suc i) row) e))
 
--- a turn at an empty square, with no run open and with one, and a turn at a letter
+-- an iteration at an empty square, with no run open and with one, and an iteration at a letter
 turn-first : {old row new : List ℕ} {at n run i : ℕ} → Row old at row new n run i → n < 85 → i < length row → getD row i 0 ≡ 0 → run ≡ 0
     → Row old at row (set new (n + 1 - 1) (48 + (run + 1))) (n + 1) (run + 1) (i + 1)
 turn-first {old} {row} {new} {at} {n} {run} {i} r h k e z =
@@ -122,7 +122,7 @@ turn-letter {old} {row} {new} {at} {n} {run} {i} r h k e =
           ∙ r .rest;
     }
 
--- what the three small functions give: the run and the count grow by one at most, and there is a byte to write over
+-- what the three small functions give: the run and the count grow by at most one, and there is a byte to write over
 pub run-most : (run l next : ℕ) → next ≡ cond (eqb l 0) (run + 1) 0 → next ≤ run + 1
 run-most run l next e = rw e (cond-both (λ (m : ℕ). m ≤ run + 1) (eqb l 0) {x = run + 1} {y = 0} (omega arith) (omega arith))
 
@@ -145,7 +145,7 @@ count-least {n = n} {run = run} r l next m e f = go (eqb run 0) refl
         let some = open-count r (eqb-false run 0 z) in
         rw f (cond-both (λ (k : ℕ). 1 ≤ k) (ltb 1 next) {x = n} {y = n + 1} some (omega arith))
 
--- the turn, by what the three small functions give
+-- the iteration, by what the three small functions give
 pub row-turn : {old row new : List ℕ} {at n run i : ℕ} → Row old at row new n run i → n < 85 → i < length row → (l next m b : ℕ) → l ≡ getD row i 0
     → next ≡ cond (eqb l 0) (run + 1) 0 → m ≡ cond (ltb 1 next) n (n + 1) → b ≡ cond (eqb l 0) (48 + next) l
     → Row old at row (set new (m - 1) b) m next (i + 1)

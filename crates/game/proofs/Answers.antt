@@ -81,7 +81,7 @@ alone a = go (eqb a 0) refl
     go true e = sym (eqb-true a 0 e)
     go false e = refl
 
--- a refusal that stands first decides, and where it does not stand the rest does
+-- a refusal that comes first decides, and without it the rest decides
 by-first : (a : ℕ) (l k : List ℕ) → (a ≡ 0 → firstRefusal l ≡ firstRefusal k) → firstRefusal (a ∷ l) ≡ firstRefusal (a ∷ k)
 unfolding firstRefusal
 by-first a l k same = go (eqb a 0) refl
@@ -101,7 +101,7 @@ module _ (acts ps : List ℕ) (n m : ℕ) where
   pub open-ready : openCheck acts ps n m ≡ 0 → Ready acts ps n m
   open-ready h = log-ready acts ps n m (open-log h)
 
-  -- the calls' checks in one row: 16, 9, 10, the call's own, 13
+  -- the calls' checks in order: 16, 9, 10, the call's own, 13
   in-a-row : (c : Call)
       → callAnswer limits acts ps n m c
       ≡ firstRefusal (openCheck acts ps n m ∷ (ownChecks (historyOf acts ps n) c ++ (unless (roomFor limits (historyOf acts ps n) c) logFull ∷ [])))

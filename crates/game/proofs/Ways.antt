@@ -129,7 +129,7 @@ module _ (acts ps : List ℕ) (n m x : ℕ) (e : x ≡ logCheck limits acts ps n
       passed-by (logCheck limits acts ps n m) x 0 over e z
       (held (eqb (resultAt acts ps n m) 0) gameOver 0 [] (eq-eqb (resultAt acts ps n m) 0 (sym f ∙ y)) none-left)
 
--- then the own check of a call without a move, then 13
+-- then the call's own check, for a call without a move, then 13
 module _ (acts ps : List ℕ) (n m x : ℕ) (action : Action) (e : x ≡ openCheck acts ps n m) where
   abbrev full : List ℕ
   full = unless (ltb n (limits .most-actions)) logFull ∷ []

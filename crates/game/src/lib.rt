@@ -55,7 +55,7 @@ fn open_check(acts: &[u8], ps: &[u8], n: usize, m: usize) -> u64
     ACCEPTED
 }
 
-// Then the call's own checks, of a call without a move, then 13.
+// Then the call's own checks, for a call without a move, then 13.
 fn other_answer(acts: &[u8], ps: &[u8], n: usize, m: usize, action: Action) -> u64
     ensures { λ r. ⌜ r ≡ otherAnswer (now (acts .entry)) (now (ps .entry)) n m action ⌝ }
 {
@@ -239,7 +239,7 @@ pub fn start(acts: &[u8], ps: &mut [u8], b: BoardBuilder, in_check: u8, list: &[
     counts(ACCEPTED, 0, 0)
 }
 
-// How the game has ended, 1 to 7 in the order of `GameResult`, or 0 while it goes on.
+// How the game has ended, 1 to 7 in the order of `GameResult`, or 0 if it has not.
 pub fn result(acts: &[u8], ps: &[u8], n: u64, m: u64) -> Answer
     ensures { λ r. ⌜ r ≡ resultAnswer limits (now (acts .entry)) (now (ps .entry)) n m ⌝ }
 {

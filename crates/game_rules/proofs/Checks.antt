@@ -1,4 +1,4 @@
--- What an answer of 0 says: each check of the call passed. And what follows of an accepted history: its position is in range, its counts are within the
+-- What an answer of 0 says: each check of the call passed. And what follows for an accepted history: its position is in range, its counts are within the
 -- limits, the action of a call that it accepts is in range, and it accepts no call where no action stands.
 -- Assumes nothing.
 use mathlib.Core.Path.{_≡_, refl, ap, sym, _∙_}

@@ -1,4 +1,4 @@
--- A log is good exactly when the one-pass test says so. Forth: the history that sound bytes are read as is accepted and leaves them. Back: an accepted
+-- A log is good exactly when the one-pass test says so. One way: the history that sound bytes are read as is accepted and leaves them. The other: an accepted
 -- history that leaves the bytes is the one that they are read as.
 -- Assumes nothing.
 use mathlib.Core.Path.{_≡_, refl, ap, ap₂, sym, _∙_}
@@ -55,7 +55,7 @@ positions-grow ps k =
     (λ m p e. used-grows positionSize (suc k) ps ∙ ap (λ (x : List ℕ). take (positionSize * suc k) ps ++ x) e)
     (λ c no e. rw (no, no-bytes-made c no) (sym (append-nil _)))
 
--- one action more
+-- one more action
 module _ (L : Limits) (acts ps : List ℕ) (i : ℕ) where
   next : Position
   next = positionAt ps (suc (movesIn acts i))
@@ -135,7 +135,7 @@ pub record Reads (L : Limits) (acts ps : List ℕ) (n m : ℕ) (h : History) : T
   pub count : movesIn acts n ≡ m
   pub ok : sound L acts ps n ≡ true
 
--- one call more, whose bytes stand behind what was read
+-- one more call, whose bytes stand behind what was read
 module _ (L : Limits) (acts ps : List ℕ) (n m : ℕ) (h : History) (c : Call) (a : Accepted L h) (e : answer L h c ≡ 0) where
   -- the position that stands behind is the call's
   call-back : take (length (positionMade c)) (drop (positionSize * suc m) ps) ≡ positionMade c → callOf (Holds (actionMade c)) (positionAt ps (suc m)) ≡ c

@@ -1,4 +1,4 @@
--- Each move of a good log, and each that is answered 0, came with the record after it.
+-- Each move of a good log, and each move that is answered 0, came with the record after it.
 -- Assumes nothing.
 use mathlib.Core.Path.{_≡_, sym, _∙_}
 use mathlib.Core.List.{List}

@@ -1,6 +1,6 @@
--- A log that stores its first action and merely says yes to later ones. Begun on empty parts, it stores one offer. Then a resignation is told yes: its
+-- A log that stores its first action and merely says yes to later ones. Begun on empty parts, it stores one offer. Then it says yes to a resignation: its
 -- action is not there, and whatever is counted after it, the result query does not say that White resigned. Where it counts on, the log that it leaves is
--- not good; where it gives back the counts that it was given, it is the good log of before.
+-- not good; where it gives back the counts that it was given, it is the good log from before.
 -- Assumes nothing.
 use mathlib.Core.Path.{_≡_, refl, ap, sym, _∙_}
 use mathlib.Core.Bool.{Bool, true, false, cond, not, _&&_, false≢true}
@@ -49,18 +49,18 @@ offered = called few (atStart .acts) (atStart .ps) (atStart .counts .actions) (a
 abbrev history : History
 history = after (begun bare) (offerDraw 0)
 
--- the calls made: the offer, and the resignation that is told yes
+-- the calls made: the offer, and the resignation that gets a yes
 abbrev resigned : History
 resigned = after history (resign 0)
 
--- an answer 0 with the resignation's result, and the result query answers so of the log that is left, with k actions counted
+-- an answer 0 with the resignation's result, and the result query answers so for the log that is left, with k actions counted
 saysResigned : Answer → Bool
 saysResigned a = eqb (a .number) 0 && eqb (a .value) (result resigned)
 
 toldSo : ℕ → Bool
 toldSo k = saysResigned (resultAnswer few (offered .acts) (offered .ps) k 0)
 
--- what is computed: the offer is in the log, a resignation is not, no counts within the limits make the result query say it, and two actions are not good
+-- what is computed: the offer is in the log, a resignation is not, no counts within the limits make the result query say so, and two actions are not good
 record Seen : Type 0 where
   was-accepted : Accepted few history
   is-held : Holding (offered .acts) (offered .ps) 1 0 history
@@ -90,7 +90,7 @@ not-stored k m g =
     let z : _≡_ {A = ℕ} 0 5 = sym (seen .not-there) ∙ ap (λ (l : List ℕ). getD l actionSize 0) (rw two at (g .action-bytes)) ∙ seen .wanted in
     omega arith
 
--- a query that is answered 0 passed the log's checks, so that its counts are within the limits
+-- a query that is answered 0 passed the log's checks, so its counts are within the limits
 told-passed : (a v : ℕ) → told a v .number ≡ 0 → a ≡ 0
 told-passed a v e = go (eqb a 0) refl
   where

@@ -25,7 +25,7 @@ use Rattle.game_rules.specs.Promises.{StartIsGood, KeepsGood, AcceptedIs
 use Rattle.game_rules.proofs.Checks.{log-says, call-says, start-says}
 use Rattle.game_rules.proofs.Decide.{positions-room, length-action-part, length-position-part, good-history, good-is-decided}
 
--- a start leaves its position, and a call one more action and what it has of a position
+-- a start leaves its position, and a call one more action, and its position if it has one
 pub holding-begun : (acts ps : List ℕ) (p : Position) → positionCheck p ≡ 0 → Holding acts (written ps 0 (positionBytes p)) 0 0 (begun p)
 unfolding actions moves actionPart positionPart
 holding-begun acts ps p e =

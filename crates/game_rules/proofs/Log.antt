@@ -1,4 +1,4 @@
--- What the bytes of a log say of the history that they are read as: the position on the board, the last actions, the result, a standing offer.
+-- What the bytes of a log say about the history that they are read as: the position on the board, the last actions, the result, a standing offer.
 -- Assumes nothing.
 use mathlib.Core.Path.{_≡_, refl, ap, ap₂, sym, _∙_}
 use mathlib.Core.Bool.{Bool, true, false, cond, _&&_}
@@ -98,7 +98,7 @@ made-back b p =
     go true false false false false true c n = alone (leb c 1 && eqb n 0) (Resign c) refl
     go true false false false false false c n = tt
 
--- the tests of one step, apart
+-- the tests of one step, separately
 module _ (L : Limits) (acts ps : List ℕ) (i : ℕ) where
   sound-before : sound L acts ps (suc i) ≡ true → sound L acts ps i ≡ true
   unfolding sound

@@ -1,5 +1,5 @@
--- The way back: an accepted history, played through the calls on parts that are long enough, is answered 0 at each call and leaves its bytes and counts.
--- And the queries then answer what the rules say of it.
+-- The converse: an accepted history, played through the calls on parts that are long enough, is answered 0 at each call and leaves its bytes and counts.
+-- And the queries then answer what the rules say about it.
 -- Assumes nothing.
 use mathlib.Core.Path.{_≡_, refl, ap, ap₂, sym, subst, _∙_}
 use mathlib.Core.Bool.{true, cond, _&&_}

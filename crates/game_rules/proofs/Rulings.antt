@@ -1,4 +1,4 @@
--- The count and the run, read off the bytes, are those of the history: the count is of the moves since a position, the run goes from one on.
+-- The count and the run, read off the bytes, are those of the history: the count is of the moves since a position, the run begins at one.
 -- Assumes nothing.
 use mathlib.Core.Path.{_≡_, refl, ap, sym, _∙_}
 use mathlib.Core.Bool.{Bool, true, false, cond}

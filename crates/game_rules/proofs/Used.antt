@@ -19,7 +19,7 @@ use Rattle.game_rules.specs.Promises.{SameUsed, LooksAtNothingPast}
 use Rattle.game_rules.proofs.Checks.{log-says}
 use Rattle.game_rules.proofs.Decide.{good-history, good-is-decided}
 
--- what is asked for only where a check passed
+-- what matters only where a check passed
 pub where-passed : {A : Type 0} (a : ℕ) (x y z : A) → (a ≡ 0 → x ≡ y) → cond (eqb a 0) x z ≡ cond (eqb a 0) y z
 where-passed a x y z e = go (eqb a 0) refl
   where

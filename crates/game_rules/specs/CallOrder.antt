@@ -13,7 +13,7 @@ use Rattle.game_rules.specs.Limits.{Limits}
 use Rattle.game_rules.specs.Rules.{Call, makeMove, offerDraw, acceptDraw, declareDraw, resign}
 use Rattle.game_rules.specs.Calls.{callAnswer}
 
--- limits of no action and no move: 13 stands against every call
+-- limits of no action and no move: every call breaks 13
 abbrev pub noRoom : Limits
 noRoom = record { most-actions = 0; most-moves = 0 }
 
@@ -39,7 +39,7 @@ abbrev pub pawnMore : Position
 pawnMore = record { board = 1 ∷ replicate 63 0 ++ (1 ∷ 0 ∷ 0 ∷ 0 ∷ []); check = 0; moves = [] }
 
 pub record ChecksInOrder : Type 0 where
-  -- a part without a position: it is too short, no good log, and has no move to play
+  -- a part without a position: it is too short, is not a good log, and has no move to play
   pub gives-16 : answered [] (makeMove 1 allWrong) ≡ partTooShort
   -- an in-check byte of 2 and an empty list: not good, and the game would be over
   pub gives-9 : answered (positionBytes (onEmpty 0 2 [])) (makeMove 1 allWrong) ≡ notGood

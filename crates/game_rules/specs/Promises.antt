@@ -1,4 +1,4 @@
--- What is promised of the log, each as a statement that can be read by itself. All hold for any limits.
+-- What is promised about the log, each as a statement that can be read by itself. All hold for any limits.
 -- Assumes nothing.
 use mathlib.Core.Path.{_≡_}
 use mathlib.Core.Bool.{true, cond, not, _&&_}
@@ -23,7 +23,7 @@ use Rattle.game_rules.specs.Calls.{resultAnswer, claimAnswer}
 abbrev pub GoodIsDecided : Type 0
 GoodIsDecided = (L : Limits) (acts ps : List ℕ) (n m : ℕ) → (isGood L acts ps n m ≡ true) ↔ Good L acts ps n m
 
--- the history of a good log is one, and it is the one that the contracts read off the bytes ..
+-- a good log has only one history, and it is the one that the contracts read off the bytes ..
 abbrev pub OneHistory : Type 0
 OneHistory = (L : Limits) (acts ps : List ℕ) (n m : ℕ) (h : History) → Accepted L h → Holding acts ps n m h → historyOf acts ps n ≡ h
 
@@ -89,7 +89,7 @@ unfoldable pub AllAnswered0 : Limits → History → List ℕ → List ℕ → T
 AllAnswered0 L (begun p) acts ps = played L (begun p) acts ps .counts .number ≡ 0
 AllAnswered0 L (after h c) acts ps = AllAnswered0 L h acts ps × (played L (after h c) acts ps .counts .number ≡ 0)
 
--- the way back: an accepted history, played on any parts that are long enough, is answered 0 at each call and leaves its bytes and counts
+-- the converse: an accepted history, played on any parts that are long enough, is answered 0 at each call and leaves its bytes and counts
 abbrev pub AcceptedPlays : Type 0
 AcceptedPlays = (L : Limits) (h : History) (acts ps : List ℕ) → longEnough L acts ps ≡ true → Accepted L h
     → AllAnswered0 L h acts ps
@@ -138,7 +138,7 @@ abbrev pub StoresCalls : LogCall → Type 0
 StoresCalls call = (L : Limits) (acts ps : List ℕ) (n m : ℕ) (h : History) (c : Call) → Accepted L h → Holding acts ps n m h
     → call L acts ps n m c .counts .number ≡ 0 → StoredSo L h c (call L acts ps n m c)
 
--- demand 2's rulings: what the log that is left then answers is what the rules say of the calls made
+-- demand 2's rulings: what the log that is left then answers is what the rules say about the calls made
 abbrev pub RuledLeft : Limits → Left → History → Type 0
 RuledLeft L x h = RuledAsPlayed L (x .acts) (x .ps) (x .counts .actions) (x .counts .moves) h
 
@@ -153,7 +153,7 @@ CallsAreStored = StoresCalls called
 abbrev pub CallsAreRuledOn : Type 0
 CallsAreRuledOn = RulesOnCalls called
 
--- a log that stores its first action and merely says yes to later ones, to those that must be refused too; `later` is what it counts after them
+-- a log that stores its first action and merely says yes to later ones, even to those that must be refused; `later` is what it counts after them
 abbrev pub firstOnly : (ℕ → ℕ → Call → ℕ × ℕ) → LogCall
 firstOnly later L acts ps n m c =
     cond (eqb n 0) (called L acts ps n m c) (record { counts = counts 0 (later n m c .0) (later n m c .1); acts = acts; ps = ps })

@@ -1,4 +1,4 @@
--- A move in the pass: what the last action alone settles, why the list's length need not be asked, and that each accepted action leaves a position.
+-- A move in the pass: what the last action alone settles, why the list's length need not be tested, and that each accepted action leaves a position.
 -- Assumes nothing.
 use mathlib.Core.Path.{_≡_, refl, ap, sym, _∙_}
 use mathlib.Core.Bool.{Bool, true, false, cond, _&&_, and-false}

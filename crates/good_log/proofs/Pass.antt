@@ -63,7 +63,7 @@ module _ (L : Limits) (acts ps : List ℕ) where
           absurd (false≢true (sym e ∙ sound-more i (n - suc i) (rw g f)))
       go false f = refl
 
--- a turn of the pass, with k the step's answer
+-- a step of the pass, with k the step's answer
 module _ (acts ps : List ℕ) (n m i k : ℕ) (here : k ≡ stepTo acts ps m i) (less : m < notSound) where
   pub turn-out : m < k → i < n → isGood limits acts ps n m ≡ false
   unfolding isGood
@@ -92,7 +92,7 @@ module _ (acts ps : List ℕ) (n m i k : ℕ) (here : k ≡ stepTo acts ps m i) 
   unfolding sound
   sound-turn was fits = rw (add-one i, was, turn-on fits .1)
 
-  -- a step that does not pass, of an action within the moves in all
+  -- a step that does not pass, for an action within the moves in all
   turn-off : m < k → movesIn acts (suc i) ≤ m → nextSound limits acts ps i ≡ false
   turn-off over fits = go (nextSound limits acts ps i) refl
     where
@@ -156,7 +156,7 @@ pub record Passing (acts ps : List ℕ) (n m i k : ℕ) : Type 0 where
   pub going : Going acts ps n m i k
   pub goes-on : i < n → resultOfAction (lastAction acts i) ≡ 0
 
--- an action that is no move and may stand has not ended the game, or is the last
+-- an action that is not a move and may stand has not ended the game, or is the last
 other-goes-on : (acts ps : List ℕ) (n i k : ℕ) → otherMayStand acts ps n i k ≡ true → i + 1 < n → resultOfAction (lastAction acts (i + 1)) ≡ 0
 other-goes-on acts ps n i k e more =
     rw (add-one i)

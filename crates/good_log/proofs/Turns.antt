@@ -33,7 +33,7 @@ board-fits p h = go (numbersInRange (p .board)) refl
     go true e = refl
     go false e = absurd (omega (arith, simp e at h))
 
--- the record after one in range has the other side to move, so that to ask for that record is enough
+-- the record after one in range has the other side to move, so it is enough to ask for that record
 turned : (p q : Position) (m : ℕ) → numbersInRange (p .board) ≡ true → comesAfter p m q ≡ not (eqb (side q) (side p)) && comesAfter p m q
 turned p q m h = go (comesAfter p m q) refl
   where
@@ -60,7 +60,7 @@ module _ (p : List ℕ) (fits : recordFits p ≡ true) where
     unfolding positionOf
     turns-is = leads-is ∙ turned (positionOf p) (positionOf q) m here
 
-    -- the two ways of a move that may lead on
+    -- the two cases of a move that may lead on
     pub no-lead : AllBytes p → restFitsWith p m ≡ false → false ≡ moveLeads p m q
     no-lead b e = rw (by-rest-with p m b here, e)
 

@@ -18,7 +18,7 @@ use Rattle.ending.specs.Ending.{resultOfAction, resultAt, offerAt}
 use Rattle.claim.specs.Claim.{claimAt}
 use Rattle.game_rules.specs.Rules.{unless, comesAfter}
 
--- the own checks of an action without a move, after the first n actions with position m on the board; a move is no such action
+-- an action's own checks, where it has no move, after the first n actions with position m on the board; a move is not such an action
 abbrev pub otherCheck : List ℕ → List ℕ → ℕ → ℕ → Action → ℕ
 otherCheck acts ps n m (MakeMove x) = notListed
 otherCheck acts ps n m (OfferDraw c) = colourCheck c
@@ -30,11 +30,11 @@ abbrev pub otherFits : List ℕ → List ℕ → ℕ → ℕ → Stored → Bool
 otherFits acts ps n m (Holds a) = eqb (otherCheck acts ps n m a) 0
 otherFits acts ps n m Nothing = false
 
--- action i, which is no move, was accepted with k moves made before it
+-- action i, which is not a move, was accepted with k moves made before it
 abbrev pub otherSound : List ℕ → List ℕ → ℕ → ℕ → Bool
 otherSound acts ps i k = eqb (resultAt acts ps i k) 0 && otherFits acts ps i k (lastAction acts (suc i))
 
--- the same of one of n actions: if it ended the game, it is the last
+-- the same for one of n actions: if it ended the game, it is the last
 abbrev pub otherMayStand : List ℕ → List ℕ → ℕ → ℕ → ℕ → Bool
 otherMayStand acts ps n i k = otherSound acts ps i k && (eqb (suc i) n || eqb (resultOfAction (lastAction acts (suc i))) 0)
 

@@ -42,7 +42,7 @@ fn colour_check(colour: u8) -> u64
     number_unless(colour <= action::BLACK, OUT_OF_RANGE)
 }
 
-// An action's own checks, where it has no move, after the first `n` actions with position `m` on the board: 5 for an offer or a resignation, else 14 or 15.
+// An action's own checks (not a move's) after the first `n` actions with position `m` on the board: 5 for offers and resignations, otherwise 14 or 15.
 pub fn other_check(acts: &[u8], ps: &[u8], n: usize, m: usize, action: Action) -> u64
     ensures { λ r. ⌜ r ≡ otherCheck (now (acts .entry)) (now (ps .entry)) n m action ⌝ }
 {
@@ -65,7 +65,7 @@ fn other_fits(acts: &[u8], ps: &[u8], i: usize, k: usize, stored: Stored) -> boo
 }
 
 // Whether a position whose record is in range lists a move, and what stands after it has the record after the move, whose side is the other one. That
-// what stands there is a position is asked when a move leaves it.
+// what stands there is a position is tested when a move leaves it.
 fn move_leads(p: &[u8], m: u64, q: &[u8]) -> bool
     requires { ⌜ (m ≤ lastMove) × (recordFits (now p) ≡ true) ⌝ }
     ensures { λ r. ⌜ r ≡ moveLeads (now (p .entry)) m (now (q .entry)) ⌝ }
@@ -76,7 +76,7 @@ fn move_leads(p: &[u8], m: u64, q: &[u8]) -> bool
     board_after::leads_to(p, m as u16, q)
 }
 
-// Whether move `x` was accepted as the next one, with `k` made before it and `m` in all. Whether the list before it was empty is not asked: no such list
+// Whether move `x` was accepted as the next one, with `k` made before it and `m` in all. Whether the list before it was empty is not tested: no such list
 // has it. By `<=` and not `==`, so that the compiler sees that the position after it lies in the part.
 fn move_may_stand(ps: &[u8], m: usize, k: usize, x: u64) -> bool
     requires { ⌜ (m ≤ limits .most-moves) × (x ≤ lastMove) × (recordFits (item positionSize (now ps) k) ≡ true) ⌝ }
@@ -99,7 +99,7 @@ fn other_is_sound(acts: &[u8], ps: &[u8], i: usize, k: usize) -> bool
     other_fits(acts, ps, i, k, actions::last(acts, i + 1))
 }
 
-// The same for one of `n` actions: if it ends the game, it must be the last. Asked here, so that no move has to look back at the action before it.
+// The same for one of `n` actions: if it ends the game, it must be the last. Tested here, so that no move has to look back at the action before it.
 fn other_may_stand(acts: &[u8], ps: &[u8], n: usize, i: usize, k: usize) -> bool
     requires { ⌜ i < limits .most-actions ⌝ }
     ensures { λ r. ⌜ r ≡ otherMayStand (now (acts .entry)) (now (ps .entry)) n i k ⌝ }
@@ -114,7 +114,7 @@ fn other_may_stand(acts: &[u8], ps: &[u8], n: usize, i: usize, k: usize) -> bool
 }
 
 // Whether some sequence of accepted calls from a start makes the log. Each position is looked at when a move leaves it, with its list, and the last one at
-// the end; but of the records only the first: each other one is in range since it is the one after a move. No turn finds its action past the part: it is
+// the end; but of the records only the first: each other one is in range since it is the one after a move. No action lies past the part: that is
 // tested so that the compiler sees that the action's bytes are there.
 fn is_good(acts: &[u8], ps: &[u8], n: usize, m: usize) -> bool
     requires { ⌜ (n ≤ limits .most-actions) × (m ≤ limits .most-moves)

@@ -1,5 +1,5 @@
 -- The host's calls of document 02, order 13: `menkhodur_san_read`, `menkhodur_san_name` and the two of the standard's form. A call is its arguments, its
--- result and what is lent as it is at exit, with what the function's contract says of them, as the toolchain reads it off the source (`Reads.Learnt`).
+-- result and what is lent as it is at exit, with what the function's contract says about them, as the toolchain reads it off the source (`Reads.Learnt`).
 -- Assumes nothing.
 use Prim.Native.Nat.{ℕ}
 use mathlib.Core.List.{List}

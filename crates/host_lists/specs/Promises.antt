@@ -1,4 +1,4 @@
--- Document 02, order 13, of any two calls that a host makes, over the contract of the function itself: `Learnt` is what the contract says of a call.
+-- Document 02, order 13, for any two calls that a host makes, over the contract of the function itself: `Learnt` is what the contract says about a call.
 -- Assumes nothing.
 use Prim.Native.Nat.{ℕ}
 use mathlib.Core.Path.{_≡_}
@@ -22,7 +22,7 @@ pub record OneMove {Learnt : Naming} (c d : NameCall Learnt) : Type 0 where
   pub move : nameMove c ≡ nameMove d
   pub room : roomLent c ≡ roomLent d
 
--- "a list in another order gives the same move": one answer, refusals too
+-- "a list in another order gives the same move": one answer, refusals included
 abbrev pub ReadsInAnyOrder : Reading → Type 0
 ReadsInAnyOrder Learnt = (c d : ReadCall Learnt) → OneText c d → Reordered (readList c) (readList d) → readAnswer c ≡ readAnswer d
 

@@ -47,7 +47,7 @@ unfolding bytesOf
 lines-within [] = omega arith
 lines-within (l ∷ ls) = omega (arith, lines-within ls)
 
--- ---- which lines go: none into a short room, one more into a room with place for it
+-- ---- which lines go: none into a short room, one more into a room with space for it
 
 pub none-goes : (room : ℕ) (ls : List (List ℕ)) → room < longestLine → going room ls ≡ []
 unfolding going
@@ -104,7 +104,7 @@ module _ (text out₀ out : List ℕ) (taken ready accepted refused : ℕ) (g : 
   pub page-room : out ≡ keyRoom text out₀
   page-room = g .room ∙ ap (λ (ls : List (List ℕ)). overwrite (overLines keyLine ls) out₀) (sym all-gone)
 
--- it ends where no line that is left is ended, or where there is no place
+-- it ends where no line that is left is ended, or where there is no space
 pub left-unended : (text : List ℕ) (taken end room : ℕ) → taken ≤ length text → end ≡ lineEnd text taken → length text ≤ end
     → going room (ended (drop taken text)) ≡ []
 unfolding going
@@ -112,7 +112,7 @@ left-unended text taken end room h e k =
     let past : length (drop taken text) ≤ placeOf lineFeed (drop taken text) = rw (length-drop taken text) (omega arith) in
     ap (going room) (ended-none (drop taken text) past)
 
--- ---- one line more
+-- ---- one more line
 
 module _ (text out₀ out : List ℕ) (taken ready accepted refused end : ℕ) (put : Lined) (out' : List ℕ)
     (g : Gone text out₀ out taken ready accepted refused) (place : longestLine ≤ length out - ready) (e : end ≡ lineEnd text taken) (k : end < length text)

@@ -36,7 +36,7 @@ line-refused s f e n =
     let other : readFen s .number ≡ 0 → ⊥ = λ z. n (ap (λ (g : Fen). g .number) e ∙ z) in
     simp (ne-eqb _ _ other, e)
 
--- ---- what a writer leaves that is lent a room from a place on
+-- ---- what a writer that is lent a room from some place on leaves
 
 module _ (l bytes w : List ℕ) (at room check : ℕ) (a : Answer) (passed : check ≡ 0) (fits : at + length bytes ≤ length l)
     (ea : a ≡ writeAnswer check bytes room) (ew : w ≡ writeBytes check bytes (take (length l - at) (drop at l))) where

@@ -1,4 +1,4 @@
--- Every run is the whole: a page call takes whole lines from the front of what is held, and pages one after the other are said as the page of both joined.
+-- Every run is the whole: a page call takes whole lines from the front of what is held, and pages one after the other are answered like both joined.
 -- Assumes nothing.
 use mathlib.Core.Path.{_≡_, refl, sym, ap, subst, _∙_}
 use mathlib.Core.Bool.{Bool, true, false}
@@ -116,7 +116,7 @@ fronted (l ∷ gone) rest s e =
         let f : take (placeOf lineFeed s) s ∷ ended (drop (suc (placeOf lineFeed s)) s) ≡ l ∷ (gone ++ rest) = sym (ended-next s h) ∙ e in
         fronted-more l s gone rest h (sym (head-is _ _ _ _ f)) (more (tail-is _ _ _ _ f))
 
--- ---- those that go out are some from the front, and all if there is place behind them
+-- ---- those that go out are some from the front, and all if there is space behind them
 
 going-front : (room : ℕ) (ls : List (List ℕ)) → (rest : List (List ℕ)) × (ls ≡ going room ls ++ rest)
 unfolding going

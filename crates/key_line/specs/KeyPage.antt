@@ -1,5 +1,5 @@
--- What the program keys writes for its input: the lines of its lines, joined. And what becomes of one room of bytes: the lines in it that are ended are
--- answered, from the front, each while a line of the longest kind has place in the room for the answers.
+-- What the program keys writes for its input: the answers to its lines, joined. And what becomes of one room of bytes: the lines in it that are ended are
+-- answered, from the front, as long as a line of the longest kind fits in the room for the answers.
 -- Assumes nothing.
 use Prim.Native.Nat.{ℕ, _+_, _-_}
 use mathlib.Core.Bool.{cond}
@@ -13,7 +13,7 @@ use Rattle.key_line.specs.declared.Lined.{Lined}
 use Rattle.key_line.specs.declared.page.Paged.{Paged}
 use Rattle.key_line.specs.KeyLine.{keyLine}
 
--- the whole of an input
+-- for a whole input
 unfoldable pub keysText : List ℕ → List ℕ
 keysText s = overLines keyLine (lines s)
 

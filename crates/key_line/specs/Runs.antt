@@ -1,4 +1,4 @@
--- The program's run as its reads and writes make it, and what it comes to, whatever the reads bring and however long the room for the answers is.
+-- The program's run as its reads and writes make it, and what it amounts to, whatever the reads bring and however long the room for the answers is.
 -- Assumes nothing.
 use Prim.Native.Nat.{ℕ, _≤_, _<_, _+_}
 use mathlib.Core.Path.{_≡_}
@@ -19,11 +19,11 @@ pub data Run : List ℕ → List ℕ → List ℕ → Type 0 where
   comes : (some input output held : List ℕ) → Run input output held → Run (input ++ some) output (held ++ some)
   goes : (room : ℕ) (input output held : List ℕ) → Run input output held → Run input (output ++ putOut held room) (drop (keyPage held room .taken) held)
 
--- at any time what has gone out, and what is to be said of what is held, is what is to be said of the whole input
+-- at any time what has gone out, followed by the answer to what is held, is the answer to the whole input
 abbrev pub EveryRunIsTheWhole : Type 0
 EveryRunIsTheWhole = (input output held : List ℕ) → Run input output held → output ++ keysText held ≡ keysText input
 
--- a page call that leaves place for one more line has taken every line that is ended
+-- a page call that leaves space for one more line has taken every line that is ended
 abbrev pub TakesAllThatHavePlace : Type 0
 TakesAllThatHavePlace =
     (s : List ℕ) (room : ℕ) → length (putOut s room) + longestLine ≤ room → ended (drop (keyPage s room .taken) s) ≡ []

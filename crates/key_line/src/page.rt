@@ -1,4 +1,4 @@
-// One room of bytes to its output: the lines in it that are ended, each answered by a line.
+// From one room of bytes to its output: the lines in it that are ended, each answered by a line.
 use crate::LONGEST;
 use crate::put_line;
 ghost use mathlib.Core.Path.{_≡_};

@@ -40,7 +40,7 @@ fn put_lines(input: &[u8], from: usize, end: usize, out: &mut [u8], run: Run) ->
     next
 }
 
-// The rest of a line that did not fit the input's room is passed over, and told once its end is there.
+// The rest of a line that did not fit the input's room is passed over, and reported once its end is there.
 fn put_after_long(input: &[u8], end: usize, out: &mut [u8], run: Run) -> Run
     requires { ⌜ end ≤ length (now input) ⌝ }
     requires { ⌜ run .ready ≤ length (now out) ⌝ }
@@ -82,7 +82,7 @@ fn to_front(input: &mut [u8], from: usize, end: usize)
     }
 }
 
-// A page more: `more` bytes came in behind those held. A line that fills the whole room, or went on from one that did, is not held.
+// One more page: `more` bytes came in behind those held. A line that fills the whole room, or continues one that did, is not held.
 fn put_page(input: &mut [u8], more: usize, out: &mut [u8], run: Run) -> Run
     requires { ⌜ 0 < length (now input) ⌝ }
     requires { ⌜ run .held + more ≤ length (now input) ⌝ }
@@ -136,7 +136,7 @@ fn is_cut(run: Run) -> bool {
     0 < run.held
 }
 
-// A line that a failed read cut is no line: with its end missing it would be filed as another position.
+// A line that a failed read cut short does not count: with its end missing it would be filed as another position.
 fn stopped(name: &[u8], run: Run) -> Run
     ensures ready { λ r. ⌜ r .ready ≤ run .ready ⌝ }
     ensures held { λ r. ⌜ r .held ≤ 0 ⌝ }
@@ -210,7 +210,7 @@ fn begun(run: Run) -> Run
     next
 }
 
-// Every line of one input. A proved loop ends, and nothing says that an input does: the turns are counted down from a number that none uses up.
+// Every line of one input. A proved loop ends, and nothing says that an input does: the reads are counted down from a number that no input uses up.
 pub(crate) fn put_input(fd: i32, name: &[u8], input: &mut [u8], out: &mut [u8], run: Run) -> Run
     requires { ⌜ 0 < length (now input) ⌝ }
     requires { ⌜ run .ready ≤ length (now out) ⌝ }

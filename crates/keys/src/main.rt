@@ -41,7 +41,7 @@ fn put_file(path: &[u8], input: &mut [u8], out: &mut [u8], run: Run) -> Run
     next
 }
 
-// The file that argument `i` names; the one that ends the options names none.
+// The file that argument `i` names; the one that ends the options names no file.
 fn put_argument(i: usize, end: usize, input: &mut [u8], out: &mut [u8], run: Run) -> Run
     requires { ⌜ 0 < length (now input) ⌝ }
     requires { ⌜ run .ready ≤ length (now out) ⌝ }

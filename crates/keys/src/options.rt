@@ -38,7 +38,7 @@ fn begins_with_dash(word: &[u8]) -> bool {
     false
 }
 
-// What one argument asks for, which stands before `--`.
+// What one argument before `--` asks for.
 fn asked_by(word: &[u8], i: usize) -> Asked {
     if same_bytes(word, b"-h") {
         return Asked::Help;

@@ -1,4 +1,4 @@
-// The lines that wait for standard output, and what is counted of them.
+// The lines that wait for standard output, and the counts of them.
 use crate::line::newline_at;
 use crate::tell;
 use key_line::LONGEST;
@@ -7,14 +7,14 @@ ghost use mathlib.Core.Path.{_≡_};
 ghost use Prim.Native.Nat.{_+_, _≤_};
 ghost use lib.ListN.{length};
 
-// How often the number of lines is told on standard error.
+// After how many lines their number is told on standard error.
 const TOLD: u64 = 1_000_000;
 
 // What is carried from page to page.
 pub(crate) struct Run {
     // bytes of an unended line at the front of the input
     pub(crate) held: usize,
-    // the line that goes on did not fit the input's room
+    // the line that continues did not fit the input's room
     pub(crate) long: bool,
     // bytes that wait in `out`, whole lines
     pub(crate) ready: usize,
@@ -143,7 +143,7 @@ fn told(lines: u64) -> u64 {
     lines - lines % TOLD
 }
 
-// The run with `n` bytes more in `out`, the lines of so many texts accepted and refused.
+// The run with `n` more bytes in `out`, the lines of that many texts accepted and refused.
 pub(crate) fn counted(run: Run, n: usize, accepted: u64, refused: u64, out: &[u8]) -> Run
     requires { ⌜ run .ready + n ≤ length (now out) ⌝ }
     ensures { λ r. ⌜ r .ready ≤ length (now (out .entry)) ⌝ }

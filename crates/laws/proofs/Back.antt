@@ -1,5 +1,5 @@
--- The position since which the Laws' count goes, looked for from the last action back: while none was irreversible, what is before says it. In the run
--- none was.
+-- The position from which the Laws' count runs, looked for back from the last action: as long as none was irreversible, what comes before decides. In the
+-- run none was.
 -- Assumes nothing.
 use mathlib.Core.Path.{_≡_, refl, ap, sym, _∙_}
 use mathlib.Core.Bool.{Bool, true, false, cond, _&&_}

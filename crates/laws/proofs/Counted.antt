@@ -1,4 +1,4 @@
--- The Laws' count of the history that a log's bytes are read as: of the moves since the position that the bytes tell. Of any bytes.
+-- The Laws' count of the history that a log's bytes are read as: of the moves since the position that the bytes tell. For any bytes.
 -- Assumes nothing.
 use mathlib.Core.Path.{_≡_, refl}
 use mathlib.Core.Bool.{Bool, true, false, cond}

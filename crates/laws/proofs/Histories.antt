@@ -1,4 +1,4 @@
--- The two counts and the two rulings over histories: never under, where they differ, where they are the same; what is shown is what the queries say.
+-- The two counts and the two rulings over histories: which is never lower, where they differ, where not; what is shown is what the queries say.
 -- Assumes nothing.
 use mathlib.Core.Path.{_≡_, refl, sym, ap, _∙_}
 use mathlib.Core.Bool.{Bool, true, false, cond, not, _&&_, _||_, true≢false}

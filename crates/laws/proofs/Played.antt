@@ -1,4 +1,4 @@
--- Both queries are of the calls that made the log, and look at nothing past its used part.
+-- Both queries answer for the calls that made the log, and look at nothing past its used part.
 -- Assumes nothing.
 use mathlib.Core.Path.{_≡_, refl, ap}
 use mathlib.Core.Bool.{cond, not, _&&_}

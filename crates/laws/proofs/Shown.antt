@@ -1,4 +1,4 @@
--- What the code shows of a log that passed its checks is what the rules say of its history; and the Laws' query.
+-- What the code shows for a log that passed its checks is what the rules say about its history; and the Laws' query.
 -- Assumes nothing.
 use mathlib.Core.Path.{_≡_, refl, sym, ap, _∙_}
 use mathlib.Core.Bool.{Bool, true, false, cond, not, true≢false}

@@ -10,7 +10,7 @@ use Rattle.claim.specs.Emptying.{irreversible, rightsDiffer}
 use Rattle.claim.specs.Claim.{claimCount}
 use Rattle.game_rules.specs.Rules.{Call, makeMove, offerDraw, acceptDraw, declareDraw, resign, History, begun, after, current, ruling, repeats}
 
--- a move that was made: from which position, which, to which
+-- a move that was made: the position before it, the move, the position after it
 pub record Made : Type 0 where
   pub from : Position
   pub move : ℕ

@@ -1,4 +1,4 @@
--- What is promised of the two counts and the two rulings, each as a statement that can be read by itself.
+-- What is promised about the two counts and the two rulings, each as a statement that can be read by itself.
 -- Assumes nothing.
 use mathlib.Core.Path.{_≡_}
 use mathlib.Core.Bool.{true, cond, not, _&&_}
@@ -15,7 +15,7 @@ use Rattle.game_rules.specs.Promises.{SameUsed}
 use Rattle.laws.specs.Laws.{movesMade, lawsCount, lawsClaimStands, rightsKept}
 use Rattle.laws.specs.Ruling.{equalsAt, ruledOn, rulingAnswer, lawsAnswer}
 
--- the Laws' count is never under the crate's
+-- the Laws' count is never lower than the crate's
 abbrev pub NeverUnder : Type 0
 NeverUnder = (h : History) → ruling h .count ≤ lawsCount h
 
@@ -57,7 +57,7 @@ pub record AsTheQueries (L : Limits) (acts ps : List ℕ) (n m : ℕ) : Type 0 w
 abbrev pub RulingsAreAsTheQueries : Type 0
 RulingsAreAsTheQueries = (L : Limits) (acts ps : List ℕ) (n m : ℕ) → AsTheQueries L acts ps n m
 
--- on a log that some accepted calls made, with parts that are long enough, both queries are of those calls
+-- on a log that some accepted calls made, with parts that are long enough, both queries answer for those calls
 pub record RuledAsPlayed (L : Limits) (acts ps : List ℕ) (n m : ℕ) (h : History) : Type 0 where
   pub ruling-told : rulingAnswer L acts ps n m ≡ ruledOn h
   pub laws-told : lawsAnswer L acts ps n m ≡ accepted (cond (not (ended h) && lawsClaimStands h) 1 0)

@@ -32,7 +32,7 @@ pub struct Ruled {
     pub laws_claim: u64,
 }
 
-// Whether the move `m` to position `k` moved a pawn or captured. In the run, which goes from position `first` on, none did: there nothing is looked up.
+// Whether the move `m` to position `k` moved a pawn or captured. In the run, which begins with position `first`, none did: there nothing is looked up.
 fn counts_anew(ps: &[u8], first: usize, k: usize, m: u64) -> bool
     requires { ⌜ 0 < k ⌝ }
     ensures { λ r. ⌜ r ≡ (leb k first && irreversible (positionAt (now (ps .entry)) (k - 1)) m) ⌝ }
@@ -43,7 +43,7 @@ fn counts_anew(ps: &[u8], first: usize, k: usize, m: u64) -> bool
     claim::is_irreversible(position::at(ps, k - 1), m)
 }
 
-// The position since which the Laws' count goes: back from the last action to one that moved a pawn or captured. The run goes from position `first` on.
+// The position from which the Laws' count runs: back from the last action to one that moved a pawn or captured. The run of positions begins with `first`.
 fn since(acts: &[u8], ps: &[u8], n: usize, first: usize) -> usize
     requires { ⌜ runAt (now acts) (now ps) n .first ≡ first ⌝ }
     ensures { λ r. ⌜ r ≡ lawsSince (now (acts .entry)) (now (ps .entry)) n ⌝ }
@@ -84,7 +84,7 @@ fn number_if(test: bool, number: u64) -> u64
     if test { number } else { 0 }
 }
 
-// 1 by a count, 2 by equal positions, 3 by both; 0 where the game does not go on.
+// 1 by a count, 2 by equal positions, 3 by both; 0 if the game has ended.
 fn reason(going: bool, count: usize, equals: u64) -> u64
     ensures { λ r. ⌜ r ≡ cond going (cond (leb claimCount count) 1 0 + cond (leb 2 equals) 2 0) 0 ⌝ }
 {

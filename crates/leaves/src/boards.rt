@@ -1,4 +1,4 @@
-// Boards, as the getters tell them.
+// Boards, as the getters report them.
 use board_builder::BoardBuilder;
 use crate::put;
 

@@ -3,7 +3,7 @@ use answer::Answer;
 use crate::put;
 use square::Pair;
 
-// The original has one error for every pair that is no square.
+// The original has one error for every pair that is not a square.
 fn answer(pair: Pair) -> Answer {
     match pair {
         Pair::Square(s) => answer::accepted_byte(s),

@@ -1,4 +1,4 @@
--- A game as a host plays it, by the game itself: what stands on the board, the counts and the run have the host's lists and are otherwise the same; and
+-- A game as a host plays it, beside the game itself: what stands on the board, the counts and the run have the host's lists and are otherwise the same; and
 -- two positions with one host's lists are equal exactly if their records are.
 -- Assumes nothing.
 use Prim.Native.Nat.{ℕ, suc, _-_}

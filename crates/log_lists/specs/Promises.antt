@@ -11,11 +11,11 @@ use Rattle.laws.specs.Ruling.{ruledOn}
 use Rattle.san_lists.specs.Lists.{Reordered}
 use Rattle.log_lists.specs.Relisted.{Host, callOf, gameOf}
 
--- the same lists but for their order
+-- the same lists except for their order
 abbrev pub SameLists : Host → Host → Type 0
 SameLists host other = (board : List ℕ) → Reordered (host board) (other board)
 
--- what the queries are answered by: the result, a standing offer, both claims, and all that a ruling shows
+-- what the answers to the queries depend on: the result, a standing offer, both claims, and all that a ruling shows
 pub record SameRulings (h k : History) : Type 0 where
   pub results : result h ≡ result k
   pub offers : offerStands h ≡ offerStands k
@@ -26,7 +26,7 @@ pub record SameRulings (h k : History) : Type 0 where
 abbrev pub SortedAlikeRulesAlike : Type 0
 SortedAlikeRulesAlike = (host other : Host) → SameLists host other → (h : History) → SameRulings (gameOf host h) (gameOf other h)
 
--- and every call after that is answered alike, refusals too
+-- and every call after that is answered alike, refusals included
 abbrev pub SortedAlikeAnswersAlike : Type 0
 SortedAlikeAnswersAlike =
     (host other : Host) → SameLists host other → (L : Limits) (h : History) (c : Call)

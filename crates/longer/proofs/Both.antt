@@ -1,4 +1,4 @@
--- All that two limits have alike, of any two in order, and of document 01's and those of the contracts.
+-- All that is the same under two limits, for any two in order, and for document 01's and those of the contracts.
 -- Assumes nothing.
 use native.Mathlib.Omega.{arith}
 use Rattle.game_rules.specs.Limits.{limits}

@@ -1,5 +1,5 @@
--- Logs under two limits. Room for a call is all that depends on the limits: a call that has room under both is answered alike, whatever its own checks are,
--- and one that has room under neither or only under the larger is 13 where all other checks pass.
+-- Logs under two limits. Room for a call is all that depends on the limits: a call that has room under both is answered the same, whatever its own checks,
+-- and one that has room under neither or only under the larger is answered 13 where all other checks pass.
 -- Assumes nothing.
 use mathlib.Core.Path.{_≡_, refl, ap, sym, _∙_}
 use mathlib.Core.Bool.{Bool, true, false, cond, not, _||_}
@@ -47,7 +47,7 @@ more-room L M o n m c e = go (isMove c) refl
         let less : m < L .most-moves = ltb-true m (L .most-moves) here in
         rw (f, actions-too, lt-ltb m (M .most-moves) (omega (arith, less, o .moves))) refl
 
--- ---- the answer to a call after a history: the game's end and the call's own checks, which know no limit, and then 13
+-- ---- the answer to a call after a history: the game's end and the call's own checks, which depend on no limit, and then 13
 
 unfoldable before : History → Call → ℕ
 before h c = firstRefusal (unless (not (ended h)) gameOver ∷ ownChecks h c)
@@ -197,7 +197,7 @@ module _ (L M : Limits) (o : NoLonger L M) (acts ps : List ℕ) (n m : ℕ) (lon
       let moved : m ≡ movesIn acts n = eqb-true m (movesIn acts n) (both-left (eqb m (movesIn acts n)) _ (log-says L acts ps n m e .good)) in
       rw (actions-at acts ps n, moves-at acts ps n, ← moved) refl
 
-  -- calls: the log's check, alike under both; then, where it passes, the answer after its history
+  -- calls: the log's check, the same under both; then, where it passes, the answer after its history
   call-is : (K : Limits) (c : Call) → logCheck K acts ps n m ≡ 0 → callAnswer K acts ps n m c ≡ answer K (historyOf acts ps n) c
   unfolding callAnswer
   call-is K c e =

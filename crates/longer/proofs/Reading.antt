@@ -21,7 +21,7 @@ use Rattle.roll_text.specs.Roll.{Acts, halted, putAction, next, readActions}
 use Rattle.roll_text.specs.Roll.{refusal, withActions, withCount, withFront, readRoll}
 use Rattle.longer.specs.TwoLimits.{NoLonger}
 
--- ---- an entry: whether the moves are full is asked at a move's code only, and answered with 13
+-- ---- an entry: whether there is room for a move is tested only at a move's code, and answered with 13
 
 coded-alike : (f g : Bool) (s : List ℕ) (x : Number) → (f ≡ false → g ≡ false) → (coded f s x ≡ Stop logFull → ⊥) → coded f s x ≡ coded g s x
 unfolding coded

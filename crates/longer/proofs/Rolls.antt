@@ -1,4 +1,4 @@
--- The two calls for rolls under two limits: what is not 13 under the smaller is alike, and what is longer is 13 under it with nothing changed.
+-- The two calls for rolls under two limits: what is not 13 under the smaller is the same, and what is longer is 13 under it with nothing changed.
 -- Assumes nothing.
 use mathlib.Core.Path.{_≡_, refl, ap, sym, _∙_}
 use mathlib.Core.Bool.{Bool, true, false, cond, false≢true}
@@ -62,7 +62,7 @@ module _ (L M : Limits) (o : NoLonger L M) (s mine theirs : List ℕ) (small : a
   as-mine : judged L s (length mine) ≡ readRoll L s
   as-mine = judged-long L s (length mine) (p .smaller)
 
-  -- of one roll: the answers, the counted actions and what is left
+  -- for one roll: the answers, the counted actions and what is left
   alike-of : readRoll L s ≡ readRoll M s → ReadAlike L M s mine theirs
   alike-of e =
       let to-mine : judged L s (length mine) ≡ readRoll M s = as-mine ∙ e in
@@ -221,7 +221,7 @@ module _ (b : BoardBuilder) (part : List ℕ) (n : ℕ) where
           (λ z. isnt (rw e z)))
       by false e = rw e refl
 
-  -- more than L allows, of a record in range
+  -- more than L allows, for a record in range
   behind-13 : (L : Limits) → inRange b ≡ true → within L n (movesIn part n) ≡ false → behind L ≡ logFull
   unfolding behind
   behind-13 L e f = by (ltb (L .most-actions) n) (ltb (L .most-moves) (movesIn part n)) refl refl

@@ -28,7 +28,7 @@ actionsOfMore = replicate 8 0
 abbrev pub positionsOfMore : List ℕ
 positionsOfMore = startBytes ++ replicate positionSize 0
 
--- what is answered to a roll of the empty record, by its count and actions
+-- the answer to a roll of the empty record, given its count and actions
 abbrev pub reading : Limits → List ℕ → ℕ
 reading L s = rollReader L .answer (replicate recordSize 0 ++ s) (length actionsOfMore) .number
 
@@ -36,7 +36,7 @@ pub record RollsAtSmallest : Type 0 where
   -- one offer
   pub at-it : reading few (1 ∷ 4 ∷ []) ≡ 0
   pub at-it-too : reading more (1 ∷ 4 ∷ []) ≡ 0
-  -- one action more, one move more: 13, and under the larger limits a roll
+  -- one more action, one more move: 13, but under the larger limits a roll
   pub one-action-more : reading few (2 ∷ 4 ∷ 4 ∷ []) ≡ logFull
   pub accepted-action : reading more (2 ∷ 4 ∷ 4 ∷ []) ≡ 0
   pub one-move-more : reading few (1 ∷ 2 ∷ 0 ∷ []) ≡ logFull
@@ -75,7 +75,7 @@ pub record LogsAtSmallest : Type 0 where
   pub offer-too : calling more (offerDraw 0) ≡ 0
   pub not-in-the-list : calling few (makeMove 1 (onEmpty 1 0 [])) ≡ notListed
   pub not-in-the-list-too : calling more (makeMove 1 (onEmpty 1 0 [])) ≡ notListed
-  -- after an offer there is no room for a second under the smaller; a count of two is no log of it
+  -- after an offer there is no room for a second under the smaller; a count of two is not a log under it
   pub second : callAnswer few (2 ∷ replicate 7 0) positionsOfMore 1 0 (offerDraw 0) ≡ logFull
   pub second-made : callAnswer more (2 ∷ replicate 7 0) positionsOfMore 1 0 (offerDraw 0) ≡ 0
   pub counted-two : resultAnswer few (2 ∷ 0 ∷ 0 ∷ 0 ∷ 2 ∷ 0 ∷ 0 ∷ 0 ∷ []) positionsOfMore 2 0 .number ≡ notGood

@@ -1,5 +1,5 @@
--- What order 11 of document 02 promises of two programs, one with limits L and one with limits M that allow no less, each as a statement that can be read
--- by itself. They are stated of any two limits in order, and at the end of document 01's and those of the contracts.
+-- What order 11 of document 02 promises about two programs, one with limits L and one with limits M that allow no less, each as a statement that can be read
+-- by itself. They are stated for any two limits in order, and at the end for document 01's and those of the contracts.
 -- Assumes nothing.
 use mathlib.Core.Path.{_≡_}
 use mathlib.Core.Bool.{Bool, true, false}
@@ -66,7 +66,7 @@ abbrev pub withinOf : Limits → Limits → List ℕ → List ℕ → Bool
 withinOf L M s theirs =
     within L (rollReader M .answer s (length theirs) .actions) (movesIn (rollReader M .part s theirs) (rollReader M .answer s (length theirs) .actions))
 
--- a roll that M accepts is refused by L with 13 if it has more actions or moves, and is read alike if it has not
+-- a roll that M accepts is refused by L with 13 if it has more actions or moves, and is read alike if not
 abbrev pub LongerRollsAre13 : Limits → Limits → Type 0
 LongerRollsAre13 L M =
     (s mine theirs : List ℕ) → allAtMost 255 s ≡ true → actionsLength L ≤ length mine → rollReader M .answer s (length theirs) .number ≡ 0
@@ -101,7 +101,7 @@ LongerGamesAre13 L =
 
 -- ---- logs
 
--- the games that L lets be played are those of M that are within L
+-- the games that may be played under L are those under M that are within L
 abbrev pub SameGames : Limits → Limits → Type 0
 SameGames L M = (h : History) → Accepted L h ↔ (Accepted M h × (within L (actions h) (moves h) ≡ true))
 
@@ -112,12 +112,12 @@ SameGood L M = (acts ps : List ℕ) (n m : ℕ) → within L n m ≡ true → Go
 abbrev pub StartsAlike : Limits → Limits → Type 0
 StartsAlike L M = (acts ps : List ℕ) (p : Position) → longEnough M acts ps ≡ true → started L acts ps p ≡ started M acts ps p
 
--- a log of which L is told: what it is answered, on parts of the larger size
+-- a log within L: what it is answered, on parts of the larger size
 pub record AnsweredAlike (L M : Limits) (acts ps : List ℕ) (n m : ℕ) : Type 0 where
   pub checks : logCheck L acts ps n m ≡ logCheck M acts ps n m
   -- a call that does not reach L's limits: the same number, counts and bytes, accepted or refused
   pub calls : (c : Call) → roomAfter L n m c ≡ true → called L acts ps n m c ≡ called M acts ps n m c
-  -- a call that reaches them: 13, with nothing changed, if M accepts it, and else M's refusal
+  -- a call that reaches them: 13, with nothing changed, if M accepts it, and otherwise M's refusal
   pub full : (c : Call) → roomAfter L n m c ≡ false → callAnswer M acts ps n m c ≡ 0
       → called L acts ps n m c ≡ record { counts = counts logFull n m; acts = acts; ps = ps }
   pub refusals : (c : Call) → (callAnswer M acts ps n m c ≡ 0 → ⊥) → called L acts ps n m c ≡ called M acts ps n m c
@@ -134,7 +134,7 @@ LogsAlike L M = (acts ps : List ℕ) (n m : ℕ) → longEnough M acts ps ≡ tr
 abbrev pub LongerLogsAre9 : Limits → Type 0
 LongerLogsAre9 L = (acts ps : List ℕ) (n m : ℕ) → longEnough L acts ps ≡ true → within L n m ≡ false → logCheck L acts ps n m ≡ notGood
 
--- ---- all of it, of two limits
+-- ---- all of it, for two limits
 
 pub record BothAlike (L M : Limits) : Type 0 where
   pub reads : ReadsAlike L M

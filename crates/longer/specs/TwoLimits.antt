@@ -15,10 +15,10 @@ pub record NoLonger (L M : Limits) : Type 0 where
   pub actions : L .most-actions ≤ M .most-actions
   pub moves : L .most-moves ≤ M .most-moves
 
--- so many actions and so many moves are within the limits
+-- these numbers of actions and moves are within the limits
 abbrev pub within : Limits → ℕ → ℕ → Bool
 within L n m = leb n (L .most-actions) && leb m (L .most-moves)
 
--- a call after so many of each does not reach them: there is room for one more action, and for a move for one more move
+-- a call after that many of each does not reach them: there is room for one more action and, if it is a move, for one more move
 abbrev pub roomAfter : Limits → ℕ → ℕ → Call → Bool
 roomAfter L n m c = ltb n (L .most-actions) && (not (isMove c) || ltb m (L .most-moves))

@@ -1,4 +1,4 @@
-// What the host links: each function hands on to a proved one of the crates below, with that one's contract (HOST-ABI.md; host/menkhodur.h).
+// What the host links: each function passes its arguments to a proved one in the crates below, with that one's contract (HOST-ABI.md; host/menkhodur.h).
 use answer::Answer;
 use answer::Placed;
 use board_builder::BoardBuilder;

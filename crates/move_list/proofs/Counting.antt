@@ -1,4 +1,4 @@
--- Entries that alone pass a test, over any list; and two tests that agree on what is listed.
+-- Entries that are the only ones to pass a test, over any list; and two tests that agree on what is listed.
 -- Assumes nothing.
 use Prim.Native.Nat.{ℕ, suc, _≤_}
 use mathlib.Core.Path.{_≡_, refl, sym, ap, _∙_}
@@ -40,7 +40,7 @@ count-listed f m fm (x ∷ xs) e = go (count-listed f m fm xs) (f x) (eqb x m) r
     go ih false true p q k = absurd (false≢true (sym p ∙ ap f (eqb-true x m q) ∙ fm))
     go ih false false p q k = ih k
 
--- A test that only m passes finds m alone where a wider one finds just one entry.
+-- A test that only m passes finds only m where a wider one finds just one entry.
 pub sole : (f g : ℕ → Bool) (m : ℕ) (l : List ℕ) → ((x : ℕ) → f x ≡ true → x ≡ m) → f m ≡ true → g m ≡ true → count g l ≡ 1 → among m l ≡ true
     → (count f l ≡ 1) × (firstOf f l ≡ m)
 sole f g m l only fm gm one e =

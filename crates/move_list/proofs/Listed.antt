@@ -27,7 +27,7 @@ pub listed-end : (m : ℕ) (l : List ℕ) (i : ℕ) → length l ≤ i → among
 unfolding among
 listed-end m l i h = rw (drop-of-length-le l h)
 
--- what is listed is at most what every entry is at most
+-- a bound on every entry is a bound on what is listed
 pub listed-most : (n m : ℕ) (l : List ℕ) → allAtMost n l ≡ true → among m l ≡ true → m ≤ n
 unfolding among
 listed-most n m [] a e = absurd (false≢true e)

@@ -12,14 +12,14 @@ use Rattle.chess_move.specs.Number.{lastMove}
 abbrev pub longestList : ℕ
 longestList = 255
 
--- what a number is over a bound, 0 up to it
+-- by how much a number is over a bound, 0 if it is not
 abbrev pub over : ℕ → ℕ → ℕ
 over x most = x - most
 
 unfoldable pub listInRange : List ℕ → Bool
 listInRange moves = leb (length moves) longestList && allAtMost lastMove moves
 
--- how many entries pass a test, equal ones counted each; and the first of them, or 0
+-- how many entries pass a test, equal ones each counted; and the first of them, or 0
 unfoldable pub count : (ℕ → Bool) → List ℕ → ℕ
 count f [] = 0
 count f (x ∷ xs) = cond (f x) (suc (count f xs)) (count f xs)

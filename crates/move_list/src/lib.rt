@@ -6,14 +6,14 @@ ghost use Rattle.move_list.specs.MoveList.{over, listInRange};
 // The most entries that a list may have.
 pub const LONGEST_LIST: usize = 255;
 
-// What an entry is over a bound, 0 up to it.
+// By how much an entry is over a bound, 0 if it is not.
 pub fn over(x: u16, most: u16) -> u16
     ensures { λ r. ⌜ r ≡ over x most ⌝ }
 {
     if most < x { x - most } else { 0 }
 }
 
-// Whether no entry is over a bound: what is over is gathered with no branch, so that the entries are taken many at a time.
+// Whether no entry is over a bound: any excess is gathered without a branch, so that many entries are compared at a time.
 fn all_at_most(moves: &[u16], most: u16) -> bool
     ensures { λ r. ⌜ r ≡ allAtMost most (now (moves .entry)) ⌝ }
 {

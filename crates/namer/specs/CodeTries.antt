@@ -23,7 +23,7 @@ pub record Found (o : Option (List ℕ)) (bytes : List ℕ) (r : ℕ) : Type 0 w
   pub some-if : (r ≡ 0 → ⊥) → o ≡ some (take r bytes)
   pub none-if : r ≡ 0 → o ≡ none
 
--- a text that is tried: it, if it names the move
+-- a text that is tried: the text itself, if it names the move
 abbrev pub tried : Bool → BoardBuilder → List ℕ → ℕ → List ℕ → Option (List ℕ)
 tried form b moves m text = cond (names (formOf form) b moves m text) (some text) none
 
@@ -38,7 +38,7 @@ isKing pieces m = eqb (kindAt pieces (sourceOf m)) 6
 abbrev pub kingName : BoardBuilder → ℕ → Option (List ℕ)
 kingName b m = cond (isKing (b .pieces) m) (castlingName (b .«side_to_move») m) none
 
--- the checks 5, 6 and 11, in this order: the number of the first that fails, else 0
+-- the checks 5, 6 and 11, in this order: the number of the first that fails, or 0
 unfoldable pub firstCheck : Bool → Bool → Bool → ℕ
 firstCheck board list listed = cond board (cond list (cond listed 0 notListed) badList) outOfRange
 

@@ -44,7 +44,7 @@ module _ (s : List ℕ) (stop : Bool) (level : ℕ) where
   sequence-after p (Found from size deep) q = over-on p q
   sequence-after p (Ended total number place) q = over-on p q
 
--- what a walker promises of the case that it came to
+-- what a walker promises in the case that it came to
 module _ {s : List ℕ} {stop : Bool} {level start moves : ℕ} {w : Walked} {at count : ℕ} (e : w ≡ On at count) where
   pub sequence-on : Sequenced s stop level start moves w → Sequenced s stop level start moves (On at count)
   sequence-on p = subst (Sequenced s stop level start moves) e p

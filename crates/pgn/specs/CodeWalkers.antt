@@ -56,11 +56,11 @@ Varied s stop level start moves (On at count) = Came s stop level start moves at
 Varied s stop level start moves (Found from size deep) = Over s stop level start moves (Found from size deep)
 Varied s stop level start moves (Ended count number place) = Over s stop level start moves (Ended count number place)
 
--- if the number is not 0, a move of so many bytes stands one blank behind a place
+-- if the number is not 0, a move of that many bytes stands one blank behind a place
 abbrev pub Near : List ℕ → ℕ → ℕ → Type 0
 Near s place size = (size ≡ 0 → ⊥) → (place + 1 < length s) × (tokenAt s place ≡ Passed 0) × (tokenAt s (place + 1) ≡ Move (size - 1))
 
--- ---- the answers; a whole walk never leaves off on its way, and one that counts never stops at a move
+-- ---- the answers; a whole walk never breaks off halfway, and one that counts never stops at a move
 
 unfoldable pub countOf : Walked → PgnCount
 countOf (On at count) = endCount count 0 0

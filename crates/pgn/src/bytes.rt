@@ -45,7 +45,7 @@ pub(crate) fn starts_move(b: u8) -> bool
     )
 }
 
-// Six arms become one look at a bit, with no branch; six tests in a row would not.
+// The six arms become a test of one bit, without a branch; six tests in a row would not.
 fn is_sign(b: u8) -> bool
     ensures { λ r. ⌜ r ≡ isSign b ⌝ }
 {

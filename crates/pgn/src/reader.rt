@@ -1,4 +1,4 @@
-// A small reader that keeps a text and a place in it together. Each function takes it apart and hands on.
+// A small reader that keeps a text and a place in it together. Each function takes it apart and passes the parts on.
 use crate::next;
 use pgn_text::PgnMove;
 ghost use mathlib.Core.Path.{_≡_};

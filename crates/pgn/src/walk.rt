@@ -19,7 +19,7 @@ ghost use Rattle.pgn.specs.CodeWalkers.{atResult, toldFrom, Near, Sequen
 
 pub(crate) const DEEPEST: u64 = 8;
 
-// Where a walker is done: on from an offset, with the moves counted so far; at a move, by its start, its length and its level; or at the end of the
+// Where a walker has stopped: to go on from an offset, with the moves counted so far; at a move, by its start, its length and its level; or at the end of the
 // whole walk, with the moves counted, an answer number and its offset.
 pub(crate) enum Walked {
     On(usize, usize),

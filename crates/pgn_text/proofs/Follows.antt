@@ -1,4 +1,4 @@
--- From place to place: open brackets matter to a walk by their number only, but for the offset of one left open.
+-- From place to place: open brackets matter to a walk only by their number, except for the offset of one left open.
 -- Assumes nothing.
 use mathlib.Core.Path.{_≡_, refl, ap, sym, _∙_}
 use mathlib.Core.Bool.{Bool, true, false, cond}
@@ -60,7 +60,7 @@ alike-walk zero at (b ∷ bs) os ps e =
     alike-met at (λ n os'. walk n (at + 1) os' bs) (λ n os'. walk n (at + 1) os' bs) (λ n qs rs k. alike-walk n (at + 1) bs qs rs k) (token b bs) os ps e
 alike-walk (suc n) at (b ∷ bs) os ps e = alike-walk n (at + 1) bs os ps e
 
--- ---- the walk from a place in the text is the walk there, but for that
+-- ---- the walk from a place in the text is the walk there, with that exception
 pub from-place : (text : List ℕ) (at : ℕ) (os : List ℕ) → at ≤ length text → length os ≤ deepest
     → Alike (walk 0 at os (drop at text)) (walkFrom text at (length os))
 unfolding walkFrom

@@ -1,4 +1,4 @@
--- What is promised of walking is not kept by a call that finds no move or always refuses, nor by a check that always refuses. Tried on `e4` and on nothing.
+-- What is promised about walking is not kept by a call that finds no move or always refuses, nor by a check that always refuses. Tried on `e4` and on nothing.
 -- Assumes nothing.
 use mathlib.Core.Path.{_≡_, refl, sym, ap, _∙_}
 use mathlib.Core.List.{List, [], _∷_, _++_}

@@ -141,7 +141,7 @@ module _ (s : List ℕ) (b : ℕ) where
   unfolding plain glyph
   glyph-plain = either-plain (eqb (runLength Digits s) 0) Unknown (Passed (runLength Digits s)) refl refl
 
-  -- a result, a number, or nothing that is known
+  -- a result, a number, or something unknown
   last-of : Token
   last-of = cond (isResult b s) Result (cond (isDigit b) (number s) Unknown)
 
@@ -190,7 +190,7 @@ module _ (b : ℕ) (p r o : List ℕ) where
       (glyph-same k p r o h) (last-same k h q)
       (isWhite b) (startsMove b) (eqb b 123) (eqb b 59) (eqb b 36) (eqb b 40) (eqb b 41) e
 
--- ---- results are tried with a look at what follows: `0` and `1` before `-` or `/` that are no result are a number before an unknown token
+-- ---- results are tried with a look at what follows: `0` and `1` before `-` or `/`, if not a result, are a number before an unknown token
 stuck : (t : Bool) (k : ℕ) → cond t Result (Passed (0 + 0)) ≡ Passed k → k ≡ 0
 stuck true k e = let z : _≡_ {A = ℕ} 0 1 = cc in absurd (omega arith)
 stuck false k e = let q : 0 + 0 ≡ k = cc in omega arith
@@ -374,7 +374,7 @@ module _ (start size level : ℕ) where
   unfolding first
   first-of w f = ap first (f .is)
 
-  -- a place from which a move is found is one, and the walk there finds it
+  -- a place from which a move is found is in range, and the walk there finds the move
   at-place : (t u : Bool) (offset : ℕ) (v w : Walk) → cond t (ended tooDeep offset) (cond u (ended unknownToken offset) v) ≡ found start size level w
       → (t ≡ false) × (v ≡ found start size level w)
   at-place true u offset v w e = let z : _≡_ {A = ℕ} 0 1 = cc in absurd (omega arith)

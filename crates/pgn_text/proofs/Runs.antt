@@ -1,4 +1,4 @@
--- How far a run goes: within the text; whether a text begins with another; and loops that go up the text.
+-- How far a run goes: within the text; whether a text begins with another; and loops over the text.
 -- Assumes nothing.
 use mathlib.Core.Path.{_≡_, refl}
 use mathlib.Core.Bool.{Bool, true, false, _&&_}

@@ -25,7 +25,7 @@ NextMove text offset level start size at-level = next (ascii text) offset level 
 pub record TokensAtSmallest : Type 0 where
   -- move numbers: digits, then any periods; a period that follows no digits is unknown
   pub numbers : (Accepts "1" 0) × (Accepts "12...e4" 1) × (Refuses "." 23 0) × (Refuses "1. .e4" 23 3)
-  -- moves: the bytes that start one, and the bytes that one runs on over
+  -- moves: the bytes that start one, and the bytes that continue one
   pub starts : (Accepts "a b c d e f g h N B R Q K O" 14) × (Refuses "i" 23 0) × (Refuses "P" 23 0) × (Refuses "x" 23 0) × (Refuses "-" 23 0)
   pub runs : (Accepts "e8=Q+!? exd6# O-O-O KzZ09" 4) × (Refuses "e4." 23 2)
   -- comments: a brace comment to its brace, not nested; a semicolon comment to LF or the end; brackets in them are not counted
@@ -33,7 +33,7 @@ pub record TokensAtSmallest : Type 0 where
   pub lines : (Accepts "; (e4" 0) × (Accepts "e4 ;{e5" 1)
   -- `$` and digits; `$` without a digit is unknown, at the `$`
   pub glyphs : (Accepts "e4$1$23" 1) × (Refuses "e4 $" 23 3) × (Refuses "$e4" 23 0)
-  -- results: tried at the place itself, before numbers, with no look at what follows; outside brackets one ends the walk
+  -- results: tried at the place itself, before numbers, without a look at what follows; outside brackets one ends the walk
   pub results : (Accepts "e4 1-0 )}" 1) × (Accepts "0-1 e4" 0) × (Accepts "1/2-1/2x" 0) × (Accepts "* $" 0) × (Accepts "1-00" 0)
   pub no-results : (Refuses "10-1" 23 2) × (Refuses "1/2" 23 1) × (Refuses "0-2" 23 1)
   pub in-brackets : (Refuses "(*)" 23 1) × (Refuses "(e4 1-0)" 23 4)
@@ -52,7 +52,7 @@ pub record PlacesAtSmallest : Type 0 where
   pub from-start : (NextMove "e4 (d4) e5" 0 0 0 2 0) × (NextMove "e4 (d4) e5" 2 0 4 2 1) × (NextMove "e4 (d4) e5" 6 1 8 2 0) × (NoMove "e4 (d4) e5" 10 0 0 0)
   -- as if the text began there: in a move, in a comment
   pub as-if-begun : (NextMove "Nbd2" 1 0 1 3 0) × (NextMove "{e4}" 1 0 1 2 0) × (NoMove "{e4}" 3 0 23 3)
-  -- the level of a place is first, then its offset; an offset equal to the length is no fault
+  -- the level of a place is first, then its offset; an offset equal to the length is not a fault
   pub no-place : (NoMove "e4" 5 9 22 5) × (NoMove "e4" 3 8 23 3) × (NoMove "e4" 2 0 0 0) × (NoMove "" 1 0 23 1)
   -- a bracket opened before the place has the place's offset, one opened behind it its own
   pub open-before : (NoMove "e4 1." 2 1 21 2) × (NoMove "e4 (" 2 1 21 3) × (NoMove "e4 {" 2 1 21 3) × (NoMove "e4 ()" 2 1 21 2)

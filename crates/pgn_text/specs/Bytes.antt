@@ -44,7 +44,7 @@ unfoldable pub onward : Bool → ℕ → ℕ
 onward true n = n + 1
 onward false n = 0
 
--- over how many bytes of a text's front the run goes
+-- how many bytes at the front of a text the run covers
 unfoldable pub runLength : Run → List ℕ → ℕ
 runLength run [] = 0
 runLength run (b ∷ bs) = onward (inRun run b) (runLength run bs)

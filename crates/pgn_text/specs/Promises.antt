@@ -1,4 +1,4 @@
--- What the order promises of moves taken one by one, of any check and any call for the next move, so that a wrong one can be tried on it.
+-- What the order promises about moves taken one by one, for any check and any call for the next move, so that a wrong one can be tried on it.
 -- Assumes nothing.
 use Prim.Native.Nat.{ℕ, zero, suc, _+_, _≤_, _<_}
 use mathlib.Core.Path.{_≡_}
@@ -45,7 +45,7 @@ endOffset (found start size level w) = endOffset w
 abbrev pub ChecksTheWalk : Check → Type 0
 ChecksTheWalk check = (text : List ℕ) → (check text .number ≡ endNumber (walkFrom text 0 0)) × (check text .offset ≡ endOffset (walkFrom text 0 0))
 
--- of a text that the check accepts: the check has counted the moves that there are, and walking from the start gives exactly them, in text order, and
+-- for a text that the check accepts: the check has counted the moves that there are, and walking from the start gives exactly them, in text order, and
 -- then that none is left
 pub record WalkedAsCounted (check : Check) (next : Next) (text : List ℕ) : Type 0 where
   pub counted : check text .moves ≡ length (movesOf (walkFrom text 0 0))

@@ -1,6 +1,6 @@
 // What PGN move text says (document 02, order 8): definitions and theorems in specs/ and proofs/. The code that meets them is in crate pgn.
 
-// Bytes that a token runs on over.
+// Bytes that continue a token.
 pub enum Run {
     Digits,
     Periods,

@@ -1,4 +1,4 @@
--- The search's answer in words: two earlier positions that equal the last, both ways.
+-- The search's answer in words: two earlier positions that equal the last, in both directions.
 -- Assumes nothing.
 use mathlib.Core.Path.{_≡_, refl, _∙_}
 use mathlib.Core.Bool.{Bool, true, false}

@@ -34,7 +34,7 @@ times-most ps q first (suc k) = go (times-most ps q first k) (equal (positionAt 
     go h true = omega (arith, h)
     go h false = omega (arith, h)
 
--- one number more at the end, by how many there were
+-- one more number at the end, by how many there were
 module _ (i : ℕ) (f : Places) where
   pub told-other : (l : List ℕ) (t : Bool) → f ≡ placesTold l → t ≡ false → f ≡ placesTold (l ++ cond t (i ∷ []) [])
   told-other l t is e = rw (e, append-nil l) is
@@ -84,7 +84,7 @@ pub told-none : (ps : List ℕ) (q : Position) (first : ℕ) → placesTold [] �
 unfolding placesOf positionsFrom
 told-none ps q first = let e : first - first ≡ 0 = omega arith in rw e refl
 
--- the public answer, by its three ways
+-- the public answer, in its three cases
 module _ (ps : List ℕ) (first last : ℕ) where
   pub places-not-there : length ps < positionSize * last + positionSize → equalPlaces ps first last ≡ placesTold []
   unfolding equalPlaces

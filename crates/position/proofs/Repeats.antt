@@ -46,13 +46,13 @@ earlier-grows ps q first i (suc k) h =
     go more true e = omega (arith, earlier-equal ps q first (i + k) (omega arith) e)
     go more false e = omega (arith, earlier-other ps q first (i + k) (omega arith) e)
 
--- what a comparison of two parts says of the positions there
+-- what a comparison of two parts says about the positions there
 pub equal-at : (ps : List ℕ) (i last : ℕ) (x y : List ℕ) (r t : Bool)
     → x ≡ item positionSize ps i → y ≡ item positionSize ps last → r ≡ equal (positionOf x) (positionOf y) → r ≡ t
     → equal (positionAt ps i) (positionAt ps last) ≡ t
 equal-at ps i last x y r t ex ey e h = cc
 
--- the turns of the search
+-- the iterations of the search
 module _ (ps : List ℕ) (q : Position) (first i : ℕ) where
   pub turn-equal : first ≤ i → equal (positionAt ps i) q ≡ true → earlier ps q first i ≡ 0 → earlier ps q first (i + 1) ≤ 1
   turn-equal h e z = omega (arith, earlier-equal ps q first i h e)
@@ -75,7 +75,7 @@ module _ (ps : List ℕ) (q : Position) (first i : ℕ) where
   pub one-found : (last : ℕ) → i ≡ last → earlier ps q first i ≤ 1 → leb 2 (earlier ps q first last) ≡ false
   one-found last e h = rw (← e) (lt-leb 2 (earlier ps q first i) (omega arith))
 
--- the public answer, by its three ways
+-- the public answer, in its three cases
 module _ (ps : List ℕ) (first last : ℕ) where
   pub not-there : length ps < positionSize * last + positionSize → equalsTwoEarlier ps first last ≡ false
   unfolding equalsTwoEarlier

@@ -27,7 +27,7 @@ pub record IsItem (size : ℕ) (bs : List ℕ) (k : ℕ) (part : List ℕ) : Typ
   pub is : part ≡ item size bs k
   pub whole : length part ≡ size
 
--- so many moves of two bytes from a place on
+-- a number of moves of two bytes each, from a place on
 unfoldable pub movesFrom : List ℕ → ℕ → ℕ → List ℕ
 movesFrom p at zero = []
 movesFrom p at (suc k) = ofBytes (getD p at 0) (getD p (at + 1) 0) ∷ movesFrom p (at + 2) k
@@ -46,7 +46,7 @@ unfoldable pub positionOf : List ℕ → Position
 positionOf p =
     record { board = take recordSize p; check = getD p checkAt 0; moves = movesFrom p movesAt (getD p lengthAt 0) }
 
--- position k of the part; and so many positions from one on, newest first
+-- position k of the part; and a number of positions from one on, newest first
 abbrev pub positionAt : List ℕ → ℕ → Position
 positionAt ps k = positionOf (item positionSize ps k)
 

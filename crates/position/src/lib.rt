@@ -31,7 +31,7 @@ fn position(ps: &[u8], k: usize) -> &[u8]
     &ps[at..at + POSITION_SIZE]
 }
 
-// Position `k`; where the part ends before it does, what there is of it.
+// Position `k`, or as much of it as lies in the part.
 pub fn at(ps: &[u8], k: usize) -> &[u8]
     ensures { λ r. ⌜ now r ≡ item positionSize (now (ps .entry)) k ⌝ }
 {
@@ -100,7 +100,7 @@ pub struct Places {
     pub second: u64,
 }
 
-// What is told of the numbers so far, with `i` after them where position `i` is equal.
+// What is told about the numbers so far, with `i` after them where position `i` is equal.
 fn with_place(found: Places, is_equal: bool, i: usize) -> Places
     requires { ⌜ found .count < 18446744073709551615 ⌝ }
     ensures { λ r. ⌜ ((l : List ℕ) → found ≡ placesTold l → r ≡ placesTold (l ++ cond «is_equal» (i ∷ []) [])) ⌝ }

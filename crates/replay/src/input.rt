@@ -16,7 +16,7 @@ pub(crate) struct Line {
     pub ended: bool,
 }
 
-// A block more, if all of the last has been read.
+// One more block, if all of the last one has been read.
 fn refill(block: &mut [u8], input: Input) -> Input
     requires { ⌜ (input .at ≤ input .end) × (input .end ≤ length (now block)) ⌝ }
     ensures { λ r. ⌜ (r .at ≤ r .end) × (r .end ≤ length (now (block .entry))) ⌝ }

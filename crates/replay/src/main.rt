@@ -46,7 +46,7 @@ ghost use lib.ListN.{length};
 // Bytes behind each part that a call must not touch.
 const SPARE: usize = 100;
 
-// One entry more than a list may have, so that 6 can be seen.
+// One more entry than a list may have, so that 6 can be seen.
 const LONGEST_LIST: usize = 256;
 
 const BLOCK: usize = 65_536;
@@ -186,7 +186,7 @@ fn read_position(line: &[u8], k: usize, list: &mut [u16], run: Run) -> Given
     }
 }
 
-// A number of a board is set for one line only.
+// A number of a board is set for only one line.
 fn unpoked(run: Run) -> Run {
     let mut next = run;
     next.poked = RECORD_SIZE;
@@ -527,7 +527,7 @@ fn first_run() -> Run {
     }
 }
 
-// One line and what came of it. It does not go on at the input's end, and at a line that has no newline or is longer than its room.
+// One line and what came of it. The run stops at the input's end, and at a line that has no newline or is longer than its room.
 struct Turn {
     goes_on: bool,
     input: Input,
@@ -564,7 +564,7 @@ fn play_next(
     }
 }
 
-// A proved loop ends, and nothing says that an input does: the turns are counted down from a number that none uses up.
+// A proved loop ends, and nothing says that an input does: the lines are counted down from a number that no input uses up.
 fn play_all(block: &mut [u8], line: &mut [u8], acts: &mut [u8], ps: &mut [u8], list: &mut [u16]) {
     let mut run = first_run();
     let mut from = Input { at: 0, end: 0 };

@@ -111,7 +111,7 @@ pub(crate) fn has_its_words(line: &[u8]) -> bool {
     }
 }
 
-// Whether the line is of texts.
+// Whether the line is one about texts.
 pub(crate) fn is_text(line: &[u8]) -> bool {
     match letter(line) {
         b'F' | b'C' | b'p' | b'S' | b'N' => true,
@@ -134,7 +134,7 @@ fn no_number() -> Number {
     }
 }
 
-// The number with one digit more behind it.
+// The number with one more digit behind it.
 fn with_digit(value: u64, b: u8) -> Number {
     if b < b'0' {
         return no_number();

@@ -1,4 +1,4 @@
--- What a look at a roll answers, by the stage that gives it: that of a read with a part that is just long enough.
+-- What a look at a roll answers, by the stage that gives it: it is the answer of a read with a part that is just long enough.
 -- Assumes nothing.
 use mathlib.Core.Path.{_≡_, refl, ap, sym, _∙_}
 use mathlib.Core.Bool.{true}

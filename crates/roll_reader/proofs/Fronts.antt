@@ -54,7 +54,7 @@ number-stopped : (k : ℕ) → frontNumber (stopped k) ≡ k
 unfolding frontNumber
 number-stopped k = refl
 
--- ---- a turn of the loop over the numbers
+-- ---- an iteration of the loop over the numbers
 
 module _ (i : ℕ) (s t : List ℕ) (x : Number) (most : ℕ) (h : i < 68) (rest : t ≡ drop i s) (is : x ≡ readNumber t) (bound : most ≡ getD largestNumbers
     i 0) where

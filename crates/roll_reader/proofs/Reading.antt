@@ -1,4 +1,4 @@
--- An action read, and the turns of the two passes over the actions.
+-- An action read, and the iterations of the two passes over the actions.
 -- Assumes nothing.
 use mathlib.Core.Path.{_≡_, refl, ap, sym, _∙_}
 use mathlib.Core.Bool.{Bool, true, false}
@@ -26,7 +26,7 @@ use Rattle.roll_text.proofs.Forth as forth
 -- ---- one action
 
 module _ (full : Bool) (s : List ℕ) (first : Number) (is : first ≡ readNumber s) where
-  -- whatever the code's number is
+  -- whatever the code's number
   at-code : (x : Number) → first ≡ x → readEntry full s ≡ coded full s x
   at-code x e = ap (coded full s) (sym is ∙ e)
 
@@ -72,7 +72,7 @@ plain-inside full s code size e =
     let o = forth.coded-plain full s (readNumber s) code size e in
     (number-within s code size (o .is) .inside, o .is-code)
 
--- ---- a turn: m actions are left, `left` moves may come, the text is read up to `at`
+-- ---- an iteration: m actions are left, `left` moves may come, the text is read up to `at`
 
 turn-of : (m left : ℕ) (s : List ℕ) → 0 < m → readActions m left s ≡ next (readEntry (eqb left 0) s) left s (λ l t. readActions (m - 1) l t)
 unfolding readActions
@@ -157,7 +157,7 @@ pub number-acts : (bs : List ℕ) → actsNumber (acts bs) ≡ 0
 unfolding actsNumber
 number-acts bs = refl
 
--- the first pass, a turn further
+-- the first pass, one iteration further
 pub judged-move : (total n i left at : ℕ) (s : List ℕ) (move size : ℕ) → MoveTurn (n - i) left at s move size
     → total ≡ actsNumber (readActions (n - i) left (drop at s)) → total ≡ actsNumber (readActions (n - (i + 1)) (left - 1) (drop (at + size) s))
 judged-move total n i left at s move size t e =

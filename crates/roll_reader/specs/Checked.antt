@@ -1,4 +1,4 @@
--- What a look at a roll answers that hands out no action: the reader's number, or 0 with how many actions the roll has.
+-- What a look at a roll that hands out no action answers: the reader's number, or 0 with how many actions the roll has.
 -- Assumes nothing.
 use Rattle.answer.specs.declared.Answer.{Answer}
 use Rattle.answer.specs.Answer.{accepted, refused}

@@ -84,7 +84,7 @@ fn is_code(code: u64) -> bool
     }
 }
 
-// The action at the front of a text; `full`: no more moves may come.
+// The action at the front of a text; `full` means that no more moves may come.
 fn read_entry(s: &[u8], full: bool) -> Entry
     ensures { λ r. ⌜ r ≡ readEntry full (now (s .entry)) ⌝ }
 {
@@ -274,7 +274,7 @@ fn judge_numbers(s: &[u8]) -> u64
     0
 }
 
-// The same, at once where all is well: the numbers of a record in range are one byte each.
+// The same, in one step if all is well: the numbers of a record in range are one byte each.
 fn judge_record(s: &[u8]) -> u64
     ensures { λ r. ⌜ r ≡ frontNumber (readNumbers largestNumbers (now (s .entry))) ⌝ }
 {

@@ -44,7 +44,7 @@ alone most c m a = go (leb c most) (eqb m 0) refl refl
     go true false e f = simp (e, f)
     go false u e f = simp e
 
--- whichever colours a kind has: x tells whether the colour is one of them
+-- whichever colours a kind has: x says whether the colour is one of them
 coded : (x b : Bool) (c m : ℕ) → (c ≤ 1 → b ≡ x) → (1 < c → x ≡ false)
     → cond x (eqb m 0) false ≡ cond (leb c 1) (cond (eqb m 0) b false) false
 coded x b c m small large = go (leb c 1) refl

@@ -1,4 +1,4 @@
--- Of any programs that read back and write back: one roll a game, and one game a roll.
+-- For any programs that read back and write back: one roll per game, and one game per roll.
 -- Assumes nothing.
 use mathlib.Core.Path.{_≡_, ap, ap₂, sym, _∙_}
 use mathlib.Core.List.{List, _++_}

@@ -35,7 +35,7 @@ pub check-passes : (L : Limits) (b : BoardBuilder) (part : List ℕ) (n : ℕ) �
 unfolding writeCheck
 check-passes L b part n w = simp (le-ltb _ _ (w .long), w .start, le-ltb _ _ (w .few), le-ltb _ _ (w .few-moves), w .held)
 
--- ours, of a game that can be written: accepted, and these are the bytes
+-- ours, for a game that can be written: accepted, and these are the bytes
 pub record Wrote (L : Limits) (b : BoardBuilder) (part : List ℕ) (n : ℕ) (out : List ℕ) : Type 0 where
   pub answer : rollWriter L .answer b part n (length out) ≡ accepted (length (gameText b part n))
   pub room : rollWriter L .room b part n out ≡ overwrite (gameText b part n) out

@@ -133,7 +133,7 @@ module _ (test : ℕ → Bool) (p : Passes test) where
   unfolding readRoll
   roll-passes L s = with-front-told L (readNumbers largestNumbers s) (numbers-told largestNumbers s)
 
--- what is no refusal with 0
+-- what is not a refusal with 0
 unfoldable pub told : ℕ → Bool
 told k = not (eqb k 0)
 

@@ -44,7 +44,7 @@ pub record ReadingAtSmallest : Type 0 where
   pub shortest-before-13 : readingGives (startedWith (131 ∷ 0 ∷ [])) ≡ badRoll
   -- a move past the limit, its number cut short: 13 stands at its code
   pub move-gives-13 : readingGives (startedWith (1 ∷ 2 ∷ [])) ≡ logFull
-  -- what is no code, and a move past the limit behind it
+  -- what is not a code, and a move past the limit behind it
   pub code-gives-17 : readingGives (startedWith (2 ∷ 7 ∷ 2 ∷ [])) ≡ badRoll
   pub too-short : readingGives (startedWith (1 ∷ [])) ≡ badRoll
   pub too-long : readingGives (startedWith (1 ∷ 4 ∷ 0 ∷ [])) ≡ badRoll
@@ -53,7 +53,7 @@ pub record ReadingAtSmallest : Type 0 where
 abbrev pub writingGives : BoardBuilder → List ℕ → ℕ → ℕ → ℕ
 writingGives b part n room = writeAnswer (writeCheck fewest b part n) (gameText b part n) room .number
 
--- a side that is none
+-- a record whose side is out of range
 abbrev pub noSide : BoardBuilder
 noSide = board (replicate squares 0) 2 0 0 0
 

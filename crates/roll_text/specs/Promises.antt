@@ -1,4 +1,4 @@
--- What the order promises of rolls, as statements that can be read by themselves.
+-- What the order promises about rolls, as statements that can be read by themselves.
 -- Assumes nothing.
 use Prim.Native.Nat.{ℕ, _*_, _≤_, _<_}
 use mathlib.Core.Path.{_≡_}
@@ -70,7 +70,7 @@ OneGame = (L : Limits) (numbers : List ℕ) (n : ℕ) (bs others : List ℕ) (m 
 abbrev pub BoundsAreTheRecords : Type 0
 BoundsAreTheRecords = (numbers : List ℕ) → withinBounds largestNumbers numbers ≡ numbersInRange numbers
 
--- ---- the two calls, of any programs
+-- ---- the two calls, for any programs
 
 -- any writer of rolls: what it answers to a record, an actions part, a count and the length of a room, and what it leaves in the room
 pub record Writer : Type 0 where
@@ -127,7 +127,7 @@ ReadsBack L w r =
 abbrev pub WrittenReadsBack : Type 0
 WrittenReadsBack = (L : Limits) → Countable L → ReadsBack L (rollWriter L) (rollReader L)
 
--- an accepted read: what it gives back can be written; there are exactly 4 bytes an action, and behind them nothing is changed
+-- an accepted read: what it gives back can be written; there are exactly 4 bytes per action, and behind them nothing is changed
 pub record GivesGame (L : Limits) (r : Reader) (s old : List ℕ) : Type 0 where
   pub game : Writable L (r .answer s (length old) .board) (r .part s old) (r .answer s (length old) .actions)
   pub long : length (r .part s old) ≡ length old
@@ -162,7 +162,7 @@ WritesBack w r =
 abbrev pub ReadIsWrittenBack : Type 0
 ReadIsWrittenBack = (L : Limits) → WritesBack (rollWriter L) (rollReader L)
 
--- so, of any programs: where rolls are written back, two accepted rolls that give back the same are one roll ..
+-- so, for any programs: where rolls are written back, two accepted rolls that give back the same are one roll ..
 abbrev pub OneRollAGame : Type 0
 OneRollAGame =
     (w : Writer) (r : Reader) → WritesBack w r → (s t old : List ℕ) → allAtMost 255 s ≡ true → allAtMost 255 t ≡ true

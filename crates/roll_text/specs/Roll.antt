@@ -82,7 +82,7 @@ unfoldable pub putNumber : ℕ → Front → Front
 putNumber x (stopped k) = stopped k
 putNumber x (front xs rest) = front (x ∷ xs) rest
 
--- 17 for what is no number, before 5 for one over its bound
+-- 17 for what is not a number, before 5 for one over its bound
 unfoldable pub oneNumber : ℕ → Number → List ℕ → (List ℕ → Front) → Front
 oneNumber most Bad s go = stopped badRoll
 oneNumber most (Got x size) s go = cond (leb x most) (putNumber x (go (drop size s))) (stopped outOfRange)
@@ -96,7 +96,7 @@ unfoldable pub movedBy : ℕ → Number → Entry
 movedBy size Bad = Stop badRoll
 movedBy size (Got move more) = cond (leb move lastMove) (Move move (size + more)) (Stop badRoll)
 
--- `full`: no more moves may come, and 13 stands at the move's code, before its number is read
+-- `full` means that no more moves may come: 13 at the move's code, before its number is read
 unfoldable pub coded : Bool → List ℕ → Number → Entry
 coded full s Bad = Stop badRoll
 coded full s (Got code size) =
@@ -136,7 +136,7 @@ unfoldable pub withActions : List ℕ → ℕ → Acts → Rolled
 withActions numbers n (halted k) = refusal k
 withActions numbers n (acts bs) = rolled numbers n bs
 
--- 17 for what is no number, before 13 for a count over the limit
+-- 17 for what is not a number, before 13 for a count over the limit
 unfoldable pub withCount : Limits → List ℕ → Number → List ℕ → Rolled
 withCount L numbers Bad s = refusal badRoll
 withCount L numbers (Got n size) s = cond (leb n (L .most-actions)) (withActions numbers n (readActions n (L .most-moves) (drop size s))) (refusal logFull)

@@ -66,7 +66,7 @@ three-put l at a b c h =
     ∙ ap (λ (m : List ℕ). set m (at + 2) c) (written-next l at (a ∷ []) (omega arith) (at + 1) b refl (omega arith))
     ∙ written-next l at (a ∷ b ∷ []) (omega arith) (at + 2) c refl (omega arith)
 
--- ---- a turn: from i actions on
+-- ---- an iteration: from i actions on
 
 four : (i : ℕ) (s : List ℕ) → drop 4 (drop (4 * i) s) ≡ drop (4 * (i + 1)) s
 four i s = let e : 4 * i + 4 ≡ 4 * (i + 1) = omega arith in drop-drop 4 (4 * i) s ∙ ap (λ (j : ℕ). drop j s) e

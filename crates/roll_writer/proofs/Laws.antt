@@ -59,7 +59,7 @@ three-bytes n h l =
     ∙ ap (λ (m : List ℕ). (128 + n % 128) ∷ m)
     (groups-more 3 (n / 128) y ∙ ap (λ (m : List ℕ). (128 + n / 128 % 128) ∷ m) (groups-last 2 (n / 128 / 128) z))))
 
--- at most as many as may be
+-- no more than there may be
 pub groups-most : (k n : ℕ) → length (groups k n) ≤ k
 unfolding groups
 groups-most zero n = omega arith

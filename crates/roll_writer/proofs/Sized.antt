@@ -128,7 +128,7 @@ one-held bs n = go (isHeld (actionOf (take actionSize bs))) refl
     go true f = record { held = f; long = simp f }
     go false f = absurd (n (simp f))
 
--- so many actions are held, and so long is their text, one added
+-- the first i actions are held, and k is one more than the length of their text
 pub record SizedSo (acts : List ℕ) (n i k : ℕ) : Type 0 where
   pub within : i ≤ n
   pub some : 1 ≤ k
@@ -227,7 +227,7 @@ refused-so r k check text e f n = e ∙ ap refused f ∙ simp (ne-eqb check 0 (�
 pub accepted-so : (r : Answer) (value check : ℕ) (text : List ℕ) → r ≡ accepted value → 0 ≡ check → value ≡ length text → r ≡ measured check text
 accepted-so r value check text e f g = e ∙ ap accepted g ∙ simp (eq-eqb check 0 (sym f))
 
--- what a writer does of what was measured
+-- what a writer does with what was measured
 pub not-accepted : (r : Answer) (check : ℕ) (text out : List ℕ) → r ≡ measured check text → (r .number ≡ 0 → ⊥) → Written check text out r out
 not-accepted r check text out e n = go (eqb check 0) refl
   where

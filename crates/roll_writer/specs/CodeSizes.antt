@@ -19,11 +19,11 @@ moveSize colour move = cond (isHeld (movesHere colour move)) (1 + length (number
 abbrev pub plainSize : List ℕ → ℕ
 plainSize bytes = cond (isHeld (actionOf bytes)) 1 0
 
--- of the action at the front of some bytes
+-- for the action at the front of some bytes
 unfoldable pub sizeAt : List ℕ → ℕ
 sizeAt bs = cond (isHeld (actionOf (take actionSize bs))) (length (actionText (kindAt bs) (colourAt bs) (moveNumberAt bs))) 0
 
--- one more than the length of the text of the first n, or 0 where one of them is none
+-- one more than the length of the text of the first n, or 0 if one of them is not an action in range
 unfoldable pub actionsSize : ℕ → List ℕ → ℕ
 actionsSize n acts = cond (actionsHeld acts n) (1 + length (actionsText n acts)) 0
 

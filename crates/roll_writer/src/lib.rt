@@ -109,7 +109,7 @@ fn plain_size(bytes: &[u8]) -> usize
     }
 }
 
-// How many bytes the text of the action that begins at `at` has, 0 if there is no action in range.
+// How many bytes the text of the action that begins at `at` has, 0 if it is not an action in range.
 fn action_size(acts: &[u8], at: usize) -> usize
     requires { ⌜ at + 4 ≤ length (now acts) ⌝ }
     ensures { λ r. ⌜ (r ≡ sizeAt (drop at (now (acts .entry)))) × (r ≤ 4) ⌝ }
@@ -121,7 +121,7 @@ fn action_size(acts: &[u8], at: usize) -> usize
     plain_size(front(rest(acts, at), ACTION_SIZE))
 }
 
-// One more than the length of the text of `n` actions, or 0 if one of them is no action in range.
+// One more than the length of the text of `n` actions, or 0 if one of them is not an action in range.
 fn actions_size(acts: &[u8], n: usize) -> usize
     requires { ⌜ (4 * n ≤ length (now acts)) × (n ≤ limits .most-actions) ⌝ }
     ensures { λ r. ⌜ (r ≡ actionsSize n (now (acts .entry))) × (r ≤ 1 + 4 * n) ⌝ }

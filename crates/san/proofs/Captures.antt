@@ -96,7 +96,7 @@ kind-here pieces t d source e =
     let s : sourceOf (d * 64 + source % 64) ≡ sourceOf source = omega arith in
     rw s (eqb-true _ _ e)
 
--- of up to three sources the one that alone passes
+-- of up to three sources, the only one that passes
 pub sole-passes : (f : ℕ → Bool) (n x y z : ℕ) → passing f n x y z ≡ 1 → f (passed f n x y z) ≡ true
 sole-passes f n x y z e =
     go (ltb 0 n && f x) (ltb 1 n && f y) (ltb 2 n && f z) (right (ltb 0 n) (f x)) (right (ltb 1 n) (f y)) (right (ltb 2 n) (f z)) e
@@ -117,7 +117,7 @@ sole-passes f n x y z e =
     go false true true p q r k = absurd (omega arith)
     go false false false p q r k = absurd (omega arith)
 
--- ---- of a record, its side and its squares are all that counts
+-- ---- of a record only its side and its squares count
 
 castles-with : (form : Bool) (b : BoardBuilder) → formOf form .castles (boardWith (b .«side_to_move») (b .pieces)) ≡ formOf form .castles b
 unfolding standardCastles

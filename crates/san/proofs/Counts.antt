@@ -1,4 +1,4 @@
--- The count and the first of the entries that pass a test, by place, for a loop that goes up the list.
+-- The count and the first of the entries that pass a test, by place, for a loop over the list.
 -- Assumes nothing.
 use Prim.Native.Nat.{ℕ, suc, _+_, _≤_, _<_}
 use mathlib.Core.Path.{_≡_, refl, _∙_}
@@ -25,7 +25,7 @@ module _ (g : ℕ → Bool) (l : List ℕ) where
   pub counted-start : CountedTo g l 0 (record { count = 0; first = 0 })
   counted-start = record { few = omega arith; counts = omega arith; first = refl; none = λ e. refl }
 
-  -- one entry more, which passes or not
+  -- one more entry, which passes or not
   pub counted-turn : (i : ℕ) (f : Fitting) → i < length l → CountedTo g l i f → CountedTo g l (i + 1) (added f (g (getD l i 0)) (getD l i 0))
   unfolding count firstOf added
   counted-turn i f h inv = rw (add-one i) (go (g x) refl)

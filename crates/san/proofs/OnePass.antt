@@ -1,4 +1,4 @@
--- The pass over a list from its two places, turn by turn, and what it has gathered at the end.
+-- The pass over a list from its two places, step by step, and what it has gathered at the end.
 -- Assumes nothing.
 use Prim.Native.Nat.{ℕ, suc, _+_, _*_, _-_, _%_, _≤_, _<_, max, min}
 use mathlib.Core.Path.{subst, _≡_, refl, sym, ap, _∙_}
@@ -18,7 +18,7 @@ use Rattle.chess_move.specs.Number.{lastMove}
 use Rattle.san.specs.declared.gathering.Gathered.{Gathered}
 use Rattle.san.specs.CodeGathered.{numberIf, kept, sources, total, lowest, gatherTwo, Gathers}
 
--- ---- one source more or none
+-- ---- one more source or none
 
 kept-length : (b : Bool) (x : ℕ) (xs : List ℕ) → length (kept b x xs) ≡ numberIf b 1 + length xs
 unfolding kept
@@ -58,7 +58,7 @@ front-turn l n i h k =
     let e : n - i ≡ suc (n - suc i) = omega arith in
     rw (add-one i, e, drop-cons l i 0 k)
 
--- ---- two parts of a list
+-- ---- the two parts of a list
 
 module _ (p : ℕ → Bool) where
   -- what is told of two parts together
@@ -160,7 +160,7 @@ module _ (p : ℕ → Bool) where
       maxes : (c x y a b A B L : ℕ) → A ≡ max x a → B ≡ max y b → max c (max A B) ≡ L → max (max c (max x y)) (max a b) ≡ L
       maxes c x y a b A B L ea eb h = sym (regroup c x y a b) ∙ rw (← ea, ← eb) h
 
-  -- ---- the loop's turn, and its end
+  -- ---- an iteration of the loop, and its end
 
   turn-seen : (l : List ℕ) (n i j : ℕ) (g : Gathered) → i < n → i < length l → j < n → Left l (atFront l n i) (behind l n j) g
       → Left l (atFront l n (i + 1)) (behind l n (j + 1)) (gatherTwo g (p (getD l i 0)) (getD l i 0) false 0)
@@ -201,7 +201,7 @@ module _ (p : ℕ → Bool) where
       let m : length l ≤ max n j = omega arith in
       left-end l g (rw (e, drop-of-length-le l m) at inv)
 
-  -- ---- the least source, turn by turn
+  -- ---- the least source, step by step
 
   pub least-turn : (a : ℕ) (l : List ℕ) (i : ℕ) → a ≤ 64 → i < length l
       → lowest a (sources p (drop i l)) ≡ lowest (min a (cond (p (getD l i 0)) (getD l i 0 % 64) 64)) (sources p (drop (i + 1) l))

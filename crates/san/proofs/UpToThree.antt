@@ -1,4 +1,4 @@
--- Up to three numbers are told by their sum, their largest and their least: how many of them pass a test, and which, if one alone does.
+-- Up to three numbers are known from their sum, their largest and their least: how many of them pass a test, and which, if only one does.
 -- Assumes nothing.
 use Prim.Native.Nat.{ℕ, suc, _+_, _-_, _≤_, max, min}
 use mathlib.Core.Path.{_≡_, refl, _∙_}
@@ -17,7 +17,7 @@ use Rattle.san.specs.CodeGathered.{numberIf, total, lowest, passing, pas
 abbrev pub others : List ℕ → ℕ
 others l = total l - largest l
 
--- of three the least, of fewer what the largest leaves of the sum
+-- of three, the least; of fewer, what the largest leaves of the sum
 abbrev pub low : List ℕ → ℕ
 low l = cond (eqb (length l) 3) (lowest 64 l) (others l)
 

@@ -18,7 +18,7 @@ use Rattle.san_text.specs.Resolve.{kindAt, agrees, fits, soleThat}
 use Rattle.san_text.specs.Forms.{formOf}
 use Rattle.san.specs.declared.resolve.Fitting.{Fitting}
 
--- a record with this side and these squares; what a text resolves to rests on no other part of a record
+-- a record with this side and these squares; what a text resolves to depends on no other part of a record
 abbrev pub boardWith : ℕ → List ℕ → BoardBuilder
 boardWith side pieces = board pieces side 0 0 0
 

@@ -1,5 +1,5 @@
--- What one pass over a list gathers for a text: whether each entry is in range, and of the entries that the text may name, all but the man on the source
--- looked at, their number and the sum and the largest of their sources. These tell up to two of them, and with the least source three. For inner
+-- What one pass over a list gathers for a text: whether each entry is in range, and of the entries that the text may name, everything but the man on the source
+-- being looked at, their number, and the sum and the largest of their sources. These determine up to two of them, and with the least source three. For inner
 -- functions; the public contract does not speak of this.
 -- Assumes nothing.
 use Prim.Native.Nat.{ℕ, _+_, _*_, _-_, _%_, max, min}
@@ -20,7 +20,7 @@ use Rattle.san_text.specs.Resolve.{kindAt}
 use Rattle.san_text.specs.Forms.{formOf}
 use Rattle.san.specs.declared.gathering.Gathered.{Gathered}
 
--- the pass goes by blocks of so many entries, and a list has at least one
+-- the pass goes by blocks of this many entries, and a list has at least one block
 abbrev pub block : ℕ
 block = 8
 
@@ -60,7 +60,7 @@ unfoldable pub lowest : ℕ → List ℕ → ℕ
 lowest a [] = a
 lowest a (x ∷ xs) = lowest (min a x) xs
 
--- two entries more, each picked or not
+-- two more entries, each picked or not
 unfoldable pub gatherTwo : Gathered → Bool → ℕ → Bool → ℕ → Gathered
 gatherTwo g here m there n = record {
   above = bitOr (bitOr (g .above) (m - lastMove)) (n - lastMove);
@@ -69,21 +69,21 @@ gatherTwo g here m there n = record {
   largest = max (g .largest) (max (numberIf here (m % 64)) (numberIf there (n % 64)));
 }
 
--- what is gathered of a list
+-- what is gathered from a list
 pub record Gathers (p : ℕ → Bool) (l : List ℕ) (g : Gathered) : Type 0 where
   pub range-is : eqb (g .above) 0 ≡ allAtMost lastMove l
   pub count-is : g .count ≡ length (sources p l)
   pub sum-is : g .sum ≡ total (sources p l)
   pub largest-is : g .largest ≡ largest (sources p l)
 
--- of up to three sources how many pass a test, and the sum of those that do
+-- of up to three sources, how many pass a test, and the sum of those that do
 abbrev pub passing : (ℕ → Bool) → ℕ → ℕ → ℕ → ℕ → ℕ
 passing f n x y z = numberIf (ltb 0 n && f x) 1 + numberIf (ltb 1 n && f y) 1 + numberIf (ltb 2 n && f z) 1
 
 abbrev pub passed : (ℕ → Bool) → ℕ → ℕ → ℕ → ℕ → ℕ
 passed f n x y z = numberIf (ltb 0 n && f x) x + numberIf (ltb 1 n && f y) y + numberIf (ltb 2 n && f z) z
 
--- the answer by how many entries fit and the source of the one that does, in the form that the flag says
+-- the answer from how many entries fit and the source of the one that does, in the form that the flag says
 unfoldable pub soleFrom : Bool → List ℕ → San → ℕ → ℕ → Answer
 soleFrom form pieces t fit source =
     cond (eqb fit 1)

@@ -1,4 +1,4 @@
--- The order's sentences at their smallest lists, each computed.
+-- The order's sentences on the smallest lists, each computed.
 -- Assumes nothing.
 use Prim.Native.Nat.{ℕ}
 use mathlib.Core.Path.{_≡_, refl}

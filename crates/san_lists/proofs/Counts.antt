@@ -1,5 +1,5 @@
--- From how often each number stands in two lists to how many entries pass any test: a list within another passes no more, and so at most as long, as
--- high and listed no wider; a list in another order passes as many.
+-- From how often each number stands in two lists to how many entries pass any test: in a list within another no more pass, and so it is at most as long and as
+-- high and lists nothing else; in a list in another order as many pass.
 -- Assumes nothing.
 use Prim.Native.Nat.{ℕ, suc, _≤_}
 use mathlib.Core.Path.{_≡_, refl, sym, ap, _∙_}
@@ -44,7 +44,7 @@ without-count f n (x ∷ xs) h = go (eqb x n) refl (without-count f n xs) h
     go true e ih p = ap (λ (y : ℕ). more (f y) (count f xs)) (eqb-true x n e)
     go false e ih p = ap (more (f x)) (ih p) ∙ more-swap (f x) (f n) (count f (without n xs))
 
--- a list within another passes no more of any test
+-- in a list within another no more entries pass any test
 pub within-count : (f : ℕ → Bool) (l k : List ℕ) → Within l k → count f l ≤ count f k
 unfolding count
 within-count f [] k w = omega arith
@@ -64,7 +64,7 @@ within-count f (x ∷ xs) k w =
     add true h = omega arith
     add false h = h
 
--- a list in another order is within, both ways, and passes as many
+-- a list in another order is within, in both directions, and as many of its entries pass
 pub reordered-within : (l k : List ℕ) → Reordered l k → Within l k
 reordered-within l k r n = omega (arith, r n)
 
@@ -145,7 +145,7 @@ module _ (l k : List ℕ) (r : Reordered l k) where
 
 -- ---- the one entry that passes
 
--- if one entry alone passes, any listed entry that passes is the first to do so
+-- if only one entry passes, any listed entry that passes is the first to do so
 pub only-one : (f : ℕ → Bool) (m : ℕ) → f m ≡ true → (l : List ℕ) → count f l ≡ 1 → among m l ≡ true → firstOf f l ≡ m
 unfolding count firstOf among
 only-one f m fm [] c e = absurd (false≢true e)

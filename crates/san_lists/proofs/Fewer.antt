@@ -29,7 +29,7 @@ use Rattle.san_lists.proofs.Counts.{within-count, within-listed, within
 -- ---- a shorter and a longer list, the move in the shorter
 
 module _ (l k : List ℕ) (w : Within l k) (m : ℕ) (here : among m l ≡ true) where
-  -- what alone passes in the longer list does so in the shorter
+  -- the only entry that passes in the longer list is the only one in the shorter
   sole-kept : (f g : ℕ → Bool) → soleThat f g k ≡ accepted m → soleThat f g l ≡ accepted m
   unfolding soleThat
   sole-kept f g e =
@@ -42,7 +42,7 @@ module _ (l k : List ℕ) (w : Within l k) (m : ℕ) (here : among m l ≡ true)
   unfolding castle
   castle-kept side file e = rw (castle-is side k file m e, here)
 
-  -- what alone passes in the shorter list does so in the longer, or nothing does
+  -- the only entry that passes in the shorter list is the only one in the longer, or several pass there
   sole-added : (f g : ℕ → Bool) → soleThat f g l ≡ accepted m → (soleThat f g k ≡ accepted m) ⊎ (soleThat f g k ≡ refused invalidSanMove)
   unfolding soleThat
   sole-added f g e = go (eqb (count f k) 1) refl

@@ -1,4 +1,4 @@
--- The order's promises of document 01's form and of the standard's, over the definitions that the contracts of the public functions cite.
+-- The order's promises for document 01's form and for the standard's, over the definitions that the contracts of the public functions cite.
 -- Assumes nothing.
 use mathlib.Core.Path.{refl}
 use Rattle.san_text.specs.Paper.{paper}

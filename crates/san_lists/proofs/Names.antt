@@ -1,5 +1,5 @@
--- Names when entries go or come, in any lawful form: the name on the whole list is read as the move on what is left, and a move without a name gets none
--- by more entries.
+-- Names when entries are removed or added, in any lawful form: the whole list's name is read as the move on what is left, and a move without a name gets none
+-- from more entries.
 -- Assumes nothing.
 use Prim.Native.Nat.{ℕ}
 use mathlib.Core.Path.{_≡_, refl, sym, ap, _∙_, subst}
@@ -30,7 +30,7 @@ use Rattle.san_lists.proofs.Fewer.{text-kept, removing-keeps}
 
 -- ---- the namer's check: 0 with a name and 8 without one, where 5, 6 and 11 have passed
 
--- a number that is none of theirs
+-- a number that none of those checks gives
 abbrev Later : ℕ → Type 0
 Later c = (c ≡ 0) ⊎ (c ≡ noName)
 
@@ -48,7 +48,7 @@ ready-then F b l m c later e = go (inRange b) (listInRange l) (among m l) refl r
     go false q r x y z k (inl t) = absurd (omega arith)
     go false q r x y z k (inr t) = absurd (omega arith)
 
--- a name, its checks passed
+-- a name whose checks have passed
 pub record Name (F : Form) (b : BoardBuilder) (l : List ℕ) (m : ℕ) : Type 0 where
   pub ready : Ready b l m
   pub text : List ℕ
@@ -85,7 +85,7 @@ check-says : (check : ℕ) (text : List ℕ) (room : ℕ) → check ≡ noName �
 unfolding writeAnswer
 check-says check text room e = rw e refl
 
--- what a list is left with is as ready as it was
+-- what is left of a list passes the checks if the whole did
 pub ready-left : {b : BoardBuilder} {m : ℕ} (whole left : List ℕ) → Within left whole → among m left ≡ true → Ready b whole m → Ready b left m
 ready-left whole left w here h = record {
   record-in-range = h .record-in-range;

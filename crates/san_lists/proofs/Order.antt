@@ -1,4 +1,4 @@
--- A list in another order gives the same move and the same name, in any form: the same answers, refusals too, and the same bytes in the room.
+-- A list in another order gives the same move and the same name, in any form: the same answers, refusals included, and the same bytes in the room.
 -- Assumes nothing.
 use Prim.Native.Nat.{ℕ, _≤_}
 use mathlib.Core.Path.{_≡_, refl, sym, ap, _∙_, fun-ext}

@@ -1,4 +1,4 @@
--- How long a name is when entries go: the texts that are tried get no shorter, and what resolved still does, so the first that does has no more bytes;
+-- How long a name is when entries are removed: no text tried is shorter than the one before, and what resolved still does, so the first has no more bytes;
 -- only a name that was the last resort may give way to a longer one.
 -- Assumes nothing.
 use Prim.Native.Nat.{ℕ, _≤_}
@@ -171,11 +171,11 @@ module _ (F : Form) (grows : Grows F) (b : BoardBuilder) (whole left : List ℕ)
 
 -- ---- the promises
 
--- the name that an accepted answer tells of
+-- the name that an accepted answer reports
 name-told : (F : Form) (b : BoardBuilder) (l : List ℕ) (m room : ℕ) → callsOf F .name .answer b l m room .number ≡ 0 → Name F b l m
 name-told F b l m room e = name-there F b l m (check-passed (nameCheck F b l m) (nameText F b l m) room e)
 
--- of a form without a last resort
+-- for a form without a last resort
 pub names-get-no-longer : (F : Form) → Grows F → ((o : Option (List ℕ)) → F .resort o ≡ none) → NamesGetNoLonger (callsOf F)
 names-get-no-longer F grows none-left b whole left m room w here e = go (no-longer F grows b whole left w m here room n e)
   where
@@ -199,7 +199,7 @@ castling-is side m u e = go (eqb (castlingMove side 6) m) (eqb (castlingMove sid
     go false true k = inr (sym (some-is k))
     go false false k = absurd (let z : _≡_ {A = ℕ} 0 1 = cc in omega arith)
 
--- of any lawful form
+-- for any lawful form
 pub no-longer-or-was-castling : (F : Form) → Lawful F → Grows F → NoLongerOrWasCastling (callsOf F)
 unfolding nameText
 no-longer-or-was-castling F law grows b whole left m out w here e = go (no-longer F grows b whole left w m here (length out) n e) (law .castling b)

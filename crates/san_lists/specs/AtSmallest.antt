@@ -1,4 +1,4 @@
--- The order's sentences at their smallest lists, and what does not hold: white knights on b1 and e2 that both go to c3 (1153 and 1164).
+-- The order's sentences on the smallest lists, and what does not hold: white knights on b1 and e2 that both go to c3 (1153 and 1164).
 -- Assumes nothing.
 use Prim.Native.Nat.{ℕ}
 use Prim.Native.String.{String}
@@ -46,7 +46,7 @@ pub record ListsAtSmallest : Type 0 where
   pub counted-each : times 1153 twice ≡ 2
   pub not-reordered : Reordered one twice → ⊥
 
--- of either form
+-- for either form
 pub record InOneForm (c : Calls) : Type 0 where
   -- another order: the same move, the same name, the same refusals
   pub read : (Reads c knights two "Nbc3" 1153) × (Reads c knights turned "Nbc3" 1153)
@@ -72,10 +72,10 @@ pub record InOneForm (c : Calls) : Type 0 where
 
 pub record AtSmallest : Type 0 where
   pub lists : ListsAtSmallest
-  -- of any form's calls, as proofs/ has them, and by the names that the contracts cite
+  -- for any form's calls, as proofs/ has them, and by the names that the contracts cite
   pub paper-form : InOneForm (callsOf paper)
   pub standard-form : InOneForm (callsOf standard)
-  -- a name that gets longer when an entry goes: a rook on e1, a man on g1, its move there listed twice and once
+  -- a name that gets longer when an entry is removed: a rook on e1, a man on g1, its move there listed twice and once
   pub castling : Named paperCalls (withPiece rook 6 7) (388 ∷ 388 ∷ []) 388 "O-O"
   pub longer : Named paperCalls (withPiece rook 6 7) (388 ∷ []) 388 "Rxg1"
   -- in the standard's form that move has no name while it is listed twice

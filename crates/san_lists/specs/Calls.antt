@@ -1,4 +1,4 @@
--- The reader and the namer of a form of SAN as a host calls them, with their whole answers: of any form, and of the two that there are, by the
+-- The reader and the namer of a form of SAN as a host calls them, with their whole answers: for any form, and for the two that there are, by the
 -- definitions that the contracts of the public functions cite.
 -- Assumes nothing.
 use Prim.Native.Nat.{ℕ}
@@ -15,7 +15,7 @@ pub record Calls : Type 0 where
   pub read : Reader
   pub name : Namer
 
--- of any form
+-- for any form
 abbrev pub callsOf : Form → Calls
 callsOf F = record {
   read = λ (b : BoardBuilder) (moves text : List ℕ). readAnswer F b moves text;
@@ -25,7 +25,7 @@ callsOf F = record {
   };
 }
 
--- of document 01's form and of the standard's
+-- for document 01's form and the standard's
 abbrev pub paperCalls : Calls
 paperCalls = record { read = fromSan; name = namer }
 

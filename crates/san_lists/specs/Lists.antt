@@ -1,4 +1,4 @@
--- Two lists of moves, held against each other by how often each number stands in them (document 02, order 13).
+-- Two lists of moves, compared by how often each number stands in them (document 02, order 13).
 -- Assumes nothing.
 use Prim.Native.Nat.{ℕ, _≤_}
 use mathlib.Core.Path.{_≡_}

@@ -1,4 +1,4 @@
--- What a host may do with its list (document 02, order 13), of any reader and namer; the proofs are in proofs/, over any form, and so for both that
+-- What a host may do with its list (document 02, order 13), for any reader and namer; the proofs are in proofs/, over any form, and so for both that
 -- there are.
 -- Assumes nothing.
 use Prim.Native.Nat.{ℕ, _≤_}
@@ -15,7 +15,7 @@ use Rattle.san_text.specs.Text.{kingSideText, queenSideText}
 use Rattle.san_lists.specs.Lists.{Reordered, Within}
 use Rattle.san_lists.specs.Calls.{Calls}
 
--- "a list in another order gives the same move and the same name": the same answer, refusals too, and the same bytes in the room
+-- "a list in another order gives the same move and the same name": the same answer, refusals included, and the same bytes in the room
 pub record AnyOrder (c : Calls) : Type 0 where
   pub read : (b : BoardBuilder) (l k text : List ℕ) → Reordered l k → c .read b l text ≡ c .read b k text
   pub answer : (b : BoardBuilder) (l k : List ℕ) (m room : ℕ) → Reordered l k → c .name .answer b l m room ≡ c .name .answer b k m room
@@ -33,7 +33,7 @@ AddingKeepsOrRefuses c =
     (b : BoardBuilder) (l more text : List ℕ) (m : ℕ) → Within l more → listInRange more ≡ true
     → c .read b l text ≡ accepted m → (c .read b more text ≡ accepted m) ⊎ (c .read b more text ≡ refused invalidSanMove)
 
--- ---- names, when entries go. The name may become another; what holds is this
+-- ---- names, when entries are removed. The name may change; what holds is this
 
 -- the name on the whole list is read as the move on what is left
 abbrev pub OldNamesRead : Calls → Type 0
@@ -58,7 +58,7 @@ NamesGetNoLonger c =
     (b : BoardBuilder) (whole left : List ℕ) (m room : ℕ) → Within left whole → among m left ≡ true
     → c .name .answer b whole m room .number ≡ 0 → NoLonger c b whole left m room
 
--- or else the name on the whole list was a castling text: document 01's last resort
+-- or the name on the whole list was a castling text: document 01's last resort
 abbrev pub WasCastling : Calls → BoardBuilder → List ℕ → ℕ → List ℕ → Type 0
 WasCastling c b whole m out =
     (take (c .name .answer b whole m (length out) .value) (c .name .room b whole m out) ≡ kingSideText)

@@ -1,4 +1,4 @@
--- The contract of each public function determines its answer, and what the short way tells of a text is what the text says.
+-- The contract of each public function determines its answer, and what the short way says about a text is what the text says.
 -- Assumes nothing.
 use Prim.Native.Nat.{ℕ}
 use mathlib.Core.List.{List}

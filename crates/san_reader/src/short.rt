@@ -1,5 +1,5 @@
 // Reads the commonest texts by their length: a square, with at most two bytes before it and at most a check sign behind it. Such a text needs no
-// reading from left to right, and so few branches; any other is left to text.rt.
+// reading from left to right, and so only few branches; any other is left to text.rt.
 use crate::text::is_check;
 use crate::text::piece_kind;
 use crate::text::place_from;
@@ -18,7 +18,7 @@ pub struct Short {
     pub square: u8,
 }
 
-// The square of two bytes, counted from 1, or 0 if they are none.
+// The square of two bytes, counted from 1, or 0 if they are not one.
 fn square_of(a: u8, b: u8) -> u8
     ensures { λ r. ⌜ r ≡ squareAt (filePlace a) (rankPlace b) ⌝ }
 {

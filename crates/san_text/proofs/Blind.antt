@@ -1,4 +1,4 @@
--- What the SAN reader does not look at: rights, en passant, and all of the board but the kinds at listed sources and whether listed destinations are
+-- What the SAN reader does not look at: rights, en passant, and all of the board except the kinds at listed sources and whether listed destinations are
 -- empty.
 -- Assumes nothing.
 use Prim.Native.Nat.{ℕ}
@@ -23,7 +23,7 @@ use Rattle.san_text.specs.Form.{castled, resolved, readAnswer}
 use Rattle.san_text.specs.Paper.{paper}
 use Rattle.san_text.specs.Promises.{Alike, SameSanAnswer}
 
--- tests that agree on the listed entries find the same one, in whatever form
+-- tests that agree on the listed entries find the same one, whatever the form
 pub sole-alike : (f f′ g g′ : ℕ → Bool) (l : List ℕ) → ((m : ℕ) → among m l ≡ true → f m ≡ f′ m) → ((m : ℕ) → among m l ≡ true → g m ≡ g′ m)
     → soleThat f g l ≡ soleThat f′ g′ l
 unfolding soleThat

@@ -17,7 +17,7 @@ use Rattle.san_text.specs.Name.{optional, promotionLetter, pieceLetter, 
 use Rattle.san_text.proofs.Places.{place-of-byte, square-of-places}
 use Rattle.san_text.proofs.Says.{Moves}
 
--- the kind as the reader holds it before it takes no letter for a pawn
+-- the kind as the reader holds it before it takes a missing letter for a pawn
 abbrev pub letterKind : ℕ → ℕ
 letterKind k = cond (eqb k 1) 0 k
 

@@ -18,7 +18,7 @@ use Rattle.san_text.proofs.Front.{bothWith}
 abbrev pub kindOnE : BoardBuilder → ℕ
 kindOnE b = kindAt (b .pieces) (56 * b .«side_to_move» + 4)
 
--- castling on a board: taken whatever stands on e, with the castling text as the last resort; or taken for a king there and for nothing else, with no
+-- castling on a board: taken whatever stands on e, with the castling text as the last resort; or taken only for a king there, with no
 -- last resort
 pub data Castling (F : Form) (b : BoardBuilder) : Type 0 where
   whatever-stands : F .castles b ≡ true → ((o : Option (List ℕ)) → F .resort o ≡ o) → Castling F b

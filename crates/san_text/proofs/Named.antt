@@ -132,7 +132,7 @@ module _ (F : Form) (law : Lawful F) (b : BoardBuilder) (l : List ℕ) (m : ℕ)
           let king : kindAt (b .pieces) (sourceOf m) ≡ 6 = ap (kindAt (b .pieces)) (pair-source (b .«side_to_move») m low p) ∙ d c in
           rw (eq-eqb (kindAt (b .pieces) (sourceOf m)) 6 king) (named-first castling (tried (F .resort castling)) (pair-named (b .«side_to_move») m p))
 
-  -- one entry alone fits what some text says, whatever that text's own test
+  -- only one entry fits what some text says, whatever that text's own test
   both-named : (test : ℕ → Bool) (u : San) → Moves (u .piece) → Promotes (u .promotion) → soleThat (fits (b .pieces) u) test l ≡ accepted m
       → names F b l m (F .text (b .pieces) m true true) ≡ true
   unfolding names resolved

@@ -1,4 +1,4 @@
--- The lengths told are those of the name: with 7 too, which is given for a shorter room only, a room of that length being accepted. So a namer that
+-- The lengths told are those of the name: also with 7, which is given only for a shorter room, a room of that length being accepted. So a namer that
 -- invents a length does not keep the promise.
 -- Assumes nothing.
 use Prim.Native.Nat.{ℕ, _<_}

@@ -1,4 +1,4 @@
--- What an answer tells of the one entry that alone fits, and that both source parts leave no other.
+-- What an answer says about the only entry that fits, and that both source parts leave no other.
 -- Assumes nothing.
 use Prim.Native.Nat.{ℕ, _+_, _/_, _%_}
 use mathlib.Core.Path.{_≡_, refl, sym, ap, ap₂, _∙_}
@@ -21,7 +21,7 @@ use Rattle.san_text.specs.Name.{isMove}
 use Rattle.san_text.proofs.Says.{Moves, Promotes}
 use Rattle.san_text.proofs.Front.{bothWith}
 
--- ---- what an answer tells
+-- ---- what an answer says
 
 pub accepted-is : {a b : ℕ} → accepted a ≡ accepted b → a ≡ b
 accepted-is e = ap (λ (r : Answer). r .value) e
@@ -48,7 +48,7 @@ castle-is side l file m e = go (among (castlingMove side file) l) e
     go true p = accepted-is p
     go false p = absurd (refused-not p)
 
--- the move that alone passes f, and passes g
+-- the only move that passes f, which also passes g
 pub record Alone (f g : ℕ → Bool) (l : List ℕ) (m : ℕ) : Type 0 where
   pub one : count f l ≡ 1
   pub here : firstOf f l ≡ m
@@ -132,7 +132,7 @@ module _ (pieces : List ℕ) (m : ℕ) (takes mark : Bool) where
       part : {a b : ℕ} → a + 1 ≡ b + 1 → b ≡ a
       part e = omega arith
 
-  -- whatever text fits the move alone, the text with both source parts does, if it passes the form's test
+  -- if some text fits only the move, the text with both source parts does too, if it passes the form's test
   pub both-sole : (l : List ℕ) (u : San) (g g′ : ℕ → Bool) → among m l ≡ true → g′ m ≡ true → soleThat (fits pieces u) g l ≡ accepted m
       → soleThat (fits pieces (bothWith pieces m takes mark)) g′ l ≡ accepted m
   unfolding soleThat

@@ -1,4 +1,4 @@
--- A form of SAN, and what any form's reader answers. Document 01 has one form; a second comes later. What both share is said and proved once, over a form.
+-- A form of SAN, and what any form's reader answers. Document 01 has one form; order 6 adds a second. What both share is said and proved once, over a form.
 -- Assumes nothing.
 use Prim.Native.Nat.{ℕ}
 use mathlib.Core.Bool.{Bool, cond}

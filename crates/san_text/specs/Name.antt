@@ -62,18 +62,18 @@ names F b moves m text = isMove (resolved F b moves (F .read text)) m
 unfoldable pub castlingName : ℕ → ℕ → Option (List ℕ)
 castlingName side m = cond (eqb (castlingMove side 6) m) (some kingSideText) (cond (eqb (castlingMove side 2) m) (some queenSideText) none)
 
--- the first text that passes, or else the last resort
+-- the first text that passes, or the last resort
 unfoldable pub firstName : (List ℕ → Bool) → List (List ℕ) → Option (List ℕ) → Option (List ℕ)
 firstName f [] last = last
 firstName f (t ∷ ts) last = cond (f t) (some t) (firstName f ts last)
 
--- the castling text of a castling pair with a king on its source, else what follows
+-- the castling text of a castling pair with a king on its source, otherwise what follows
 unfoldable pub kingFirst : Bool → Option (List ℕ) → Option (List ℕ) → Option (List ℕ)
 kingFirst true (some t) other = some t
 kingFirst true none other = other
 kingFirst false castling other = other
 
--- a king on the source of a castling pair gives the castling text; else the first text that resolves; else the form's last resort
+-- a king on the source of a castling pair gives the castling text; failing that, the first text that resolves; failing that, the form's last resort
 unfoldable pub nameOf : Form → BoardBuilder → List ℕ → ℕ → Option (List ℕ)
 nameOf F b moves m =
     let castling = castlingName (b .«side_to_move») m in

@@ -1,4 +1,4 @@
--- The places of files, ranks and squares in a text: 1 to 8, 1 to 8, 1 to 64. 0 is none throughout.
+-- The places of files, ranks and squares in a text: 1 to 8, 1 to 8, 1 to 64. 0 means none throughout.
 -- Assumes nothing.
 use Prim.Native.Nat.{ℕ, _+_, _*_, _-_, _/_, _%_}
 use mathlib.Core.Bool.{Bool, cond, not}
@@ -8,7 +8,7 @@ use lib.Dec.{leb, eqb}
 abbrev pub given : ℕ → Bool
 given n = not (eqb n 0)
 
--- 1 to 8 for the eight bytes after `base`, else 0
+-- 1 to 8 for the eight bytes after `base`, otherwise 0
 unfoldable pub placeFrom : ℕ → ℕ → ℕ
 placeFrom base b = cond (leb (b - base) 8) (b - base) 0
 
@@ -20,7 +20,7 @@ filePlace b = placeFrom 96 b
 abbrev pub rankPlace : ℕ → ℕ
 rankPlace b = placeFrom 48 b
 
--- of the places of a file and a rank: the square's number and 1; 0 if either is none
+-- from the places of a file and a rank: the square's number plus 1; 0 if either is none
 unfoldable pub squareAt : ℕ → ℕ → ℕ
 squareAt file rank = cond (eqb file 0) 0 (cond (eqb rank 0) 0 ((rank - 1) * 8 + file))
 

@@ -1,4 +1,4 @@
--- What is promised of SAN texts and names, each as a statement that can be read by itself. The proofs are in proofs/.
+-- What is promised about SAN texts and names, each as a statement that can be read by itself. The proofs are in proofs/.
 -- Assumes nothing.
 use Prim.Native.Nat.{ℕ, _≤_, _<_}
 use mathlib.Core.Path.{_≡_}
@@ -50,7 +50,7 @@ pub record NamedWithin (longest : ℕ) (w : Namer) (read : Reader) (b : BoardBui
   pub most : w .answer b moves m (length out) .value ≤ longest
   pub back : read b moves (take (w .answer b moves m (length out) .value) (w .room b moves m out)) ≡ accepted m
 
--- of document 01's form: 2 to 11
+-- in document 01's form: 2 to 11
 abbrev pub NamedSo : Namer → Reader → BoardBuilder → List ℕ → ℕ → List ℕ → Type 0
 NamedSo = NamedWithin 11
 
@@ -59,7 +59,7 @@ pub record Unnamed (w : Namer) (read : Reader) (b : BoardBuilder) (moves : List 
   pub number : w .answer b moves m (length out) .number ≡ noName
   pub none-reads : (t : List ℕ) → read b moves t ≡ accepted m → ⊥
 
--- demand 3, of any namer and reader: with the checks passed, the move listed and room for the longest name or more, a listed move is named so, or it
+-- demand 3, for any namer and reader: with the checks passed, the move listed and room for the longest name or more, a listed move is named so, or it
 -- is unnamed and no text of any length is read as it
 abbrev pub Demand3Within : ℕ → Namer → Reader → Type 0
 Demand3Within longest w read =
@@ -112,11 +112,11 @@ RefusingPairKeepsDemand3 =
     (w : Namer) (read : Reader) → ((b : BoardBuilder) (moves : List ℕ) (m room : ℕ) → w .answer b moves m room .number ≡ noName)
     → AlwaysRefuses read → Demand3 w read
 
--- of each record, list and move and the name, the promise that crate square has of any writer: the lengths told, with 0 and with 7, are the name's
+-- for each record, list and move and the name, the promise that crate answer makes for any writer: the lengths told, with 0 and with 7, are the name's
 abbrev pub TellsLengthsOf : (BoardBuilder → List ℕ → ℕ → List ℕ) → Namer → Type 0
 TellsLengthsOf name w = (b : BoardBuilder) (moves : List ℕ) (m : ℕ) → ItsText (name b moves m) (w .answer b moves m) (w .room b moves m)
 
--- it is kept by ours, and with no names at all by a namer that invents a length for any record, list and move. (Demand 3 alone would let one byte more
+-- it is kept by ours, and for no names whatever by a namer that invents a length for any record, list and move. (Demand 3 alone would let one more byte
 -- pass behind a promotion letter, where the reader drops it.)
 abbrev pub NamesTellTheirLength : Type 0
 NamesTellTheirLength = TellsLengthsOf (nameText paper) namer

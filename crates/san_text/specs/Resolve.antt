@@ -1,4 +1,4 @@
--- Which move of a list a SAN text names (document 01, "Move texts"): the one entry that alone fits, if the form's test passes; equal entries count twice.
+-- Which move of a list a SAN text names (document 01, "Move texts"): the only entry that fits, if the form's test passes; equal entries count twice.
 -- Assumes nothing.
 use Prim.Native.Nat.{ℕ, _+_, _*_, _/_, _%_}
 use mathlib.Core.Bool.{Bool, cond, not, _&&_, _||_}
@@ -34,7 +34,7 @@ fits pieces t m =
 unfoldable pub captureTest : List ℕ → San → ℕ → Bool
 captureTest pieces t m = cond (t .takes) (t .mark || not (emptyAt pieces (destOf m))) (emptyAt pieces (destOf m))
 
--- accepted exactly when one entry alone passes f, and it passes the further test
+-- accepted exactly when only one entry passes f, and it also passes the further test
 unfoldable pub soleThat : (ℕ → Bool) → (ℕ → Bool) → List ℕ → Answer
 soleThat f test moves =
     cond (eqb (count f moves) 1) (cond (test (firstOf f moves)) (accepted (firstOf f moves)) (refused invalidSanMove)) (refused invalidSanMove)

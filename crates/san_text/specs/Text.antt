@@ -1,5 +1,5 @@
 -- How a SAN text is read, left to right (document 01, "Move texts"): exactly `O-O` or `O-O-O` is castling. Otherwise an optional N B R Q K (none is a
--- pawn); optional file; optional rank; optional `x`; and on from there as the form has it. 0 is none for a kind and a place, and for a byte past the
+-- pawn); optional file; optional rank; optional `x`; and from there on as the form has it. 0 stands for no kind, no place, and a byte past the
 -- end, which begins no part.
 -- Assumes nothing.
 use Prim.Native.Nat.{ℕ, _-_}

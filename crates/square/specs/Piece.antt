@@ -21,7 +21,7 @@ pieceOf b =
     (cond (eqb b 113) 11
     (cond (eqb b 107) 12 0)))))))))))
 
--- the letter of a piece code of 1 to 12, else 0
+-- the letter of a piece code of 1 to 12, otherwise 0
 unfoldable pub letterOf : ℕ → ℕ
 letterOf p =
     cond (eqb p 1) 80
@@ -37,6 +37,6 @@ letterOf p =
     (cond (eqb p 11) 113
     (cond (eqb p 12) 107 0)))))))))))
 
--- the kind of man, 1 to 6, of a code 0 to 12, whichever its colour; 0 where the square is empty
+-- the kind of man, 1 to 6, of a code 0 to 12, whatever its colour; 0 where the square is empty
 unfoldable pub kindOf : ℕ → ℕ
 kindOf code = cond (leb code 6) code (code - 6)

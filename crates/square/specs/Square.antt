@@ -27,7 +27,7 @@ fileOf square = inRangeOr5 (ltb square 64) (square % 8)
 abbrev pub backRank : ℕ → Answer
 backRank colour = inRangeOr5 (ltb colour 2) (colour * 7)
 
--- the square that a letter a to h and a digit 1 to 8 name; else the file is wrong, or the rank alone
+-- the square that a letter a to h and a digit 1 to 8 name; otherwise the file is wrong, or only the rank
 abbrev pub squareNamed : ℕ → ℕ → Pair
 squareNamed a b = cond (between 97 104 a) (cond (between 49 56 b) (Square (squareOf (b - 49) (a - 97))) BadRank) BadFile
 
@@ -37,7 +37,7 @@ readSquare [] = Missing
 readSquare (a ∷ []) = Missing
 readSquare (a ∷ b ∷ rest) = squareNamed a b
 
--- order 3: what is said of a pair that starts at a place in a text of a length: the faulty byte's place with 2, the text's length with 3 where the pair
+-- order 3: what is said about a pair that starts at a place in a text of a length: the faulty byte's place with 2, the text's length with 3 where the pair
 -- is not there
 unfoldable pub told : ℕ → ℕ → Pair → Placed
 told start long (Square s) = readAs s

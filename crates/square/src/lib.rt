@@ -57,7 +57,7 @@ pub fn to_my_backrank(color: u8) -> Answer
     answer::accepted_byte(color * 7)
 }
 
-// The square that the file letter `a` and the rank digit `b` name. Where both are wrong, the file is told.
+// The square that the file letter `a` and the rank digit `b` name. If both are wrong, the file is reported.
 pub fn from_bytes(a: u8, b: u8) -> Pair
     ensures { λ r. ⌜ r ≡ squareNamed a b ⌝ }
 {
@@ -80,7 +80,7 @@ pub fn from_str(text: &[u8]) -> Pair
     from_bytes(text[0], text[1])
 }
 
-// What is said of a pair that starts at `start` in a text of `long` bytes.
+// What is said about a pair that starts at `start` in a text of `long` bytes.
 pub fn told(start: u8, long: usize, pair: Pair) -> Placed
     ensures { λ r. ⌜ r ≡ told start long pair ⌝ }
 {
@@ -125,7 +125,7 @@ pub fn letter_of_piece(piece: u8) -> u8
     }
 }
 
-// The kind of man of a piece code, 1 to 6 whichever its colour, 0 for an empty square.
+// The kind of man of a piece code, 1 to 6 whatever its colour, 0 for an empty square.
 pub fn kind_of(code: u8) -> u8
     ensures { λ r. ⌜ r ≡ kindOf code ⌝ }
 {

@@ -1,4 +1,4 @@
--- A list looked at move by move with no branch, and a block of entries that holds the list and zeros past it.
+-- A list looked at move by move without a branch, and a block of entries that holds the list and zeros past it.
 -- Assumes nothing.
 use mathlib.Core.Path.{_≡_, refl, ap, sym, _∙_}
 use mathlib.Core.Bool.{Bool, true, false, _&&_, _||_, and-true, and-false, or-assoc, or-false}
@@ -18,11 +18,11 @@ use Rattle.position.specs.Layout.{movesAt, movesFrom}
 use Rattle.stored_position.specs.CodeParts.{listFits, listFitsWith}
 use Rattle.stored_position.proofs.Listing.{movesLeft, moveHere, one-less, lists-end}
 
--- from where on a list that is shorter than a block uses no byte
+-- where the bytes begin that a list shorter than a block does not use
 abbrev pub behind : ℕ → ℕ
 behind block = movesAt + 2 * (block - 1)
 
--- the start of the loop over the first k entries, a turn, and its end
+-- the start of the loop over the first k entries, an iteration, and its end
 pub range-start : (n : ℕ) (s : List ℕ) (k : ℕ) → allAtMost n (movesLeft s k 0) ≡ allAtMost n (movesFrom s movesAt k)
 range-start n s k = let e : k - 0 ≡ k = omega arith in rw e
 
@@ -39,7 +39,7 @@ range-end n s k i h = let e : k - i ≡ 0 = omega arith in rw e
 pub part-to-end : (s : List ℕ) (at : ℕ) → take (length s - at) (drop at s) ≡ drop at s
 part-to-end s at = take-all (length s - at) (drop at s) (rw (length-drop at s) (omega arith))
 
--- a list does not fit if what is past it is not 0, and else fits by its moves
+-- a list does not fit if what is past it is not 0, and otherwise its moves decide
 module _ (s : List ℕ) (entries : ℕ) where
   abbrev past : List ℕ
   past = drop (movesAt + 2 * entries) s
@@ -111,7 +111,7 @@ block-range n s k block h z =
     let e : k + (block - k) ≡ block = omega arith in
     ap (λ (x : ℕ). allAtMost n (movesFrom s movesAt x)) (sym e) ∙ block-from n s movesAt k (block - k) (zeros-from s (movesAt + 2 * k) z)
 
--- and which are no other move
+-- and which are not any other move
 zeros-list : (m : ℕ) (s : List ℕ) (at j : ℕ) → (m ≡ 0 → ⊥) → ZerosFrom s at → among m (movesFrom s at j) ≡ false
 unfolding among movesFrom
 zeros-list m s at zero n z = refl
@@ -134,13 +134,13 @@ block-among m s k block h n z =
     let e : k + (block - k) ≡ block = omega arith in
     ap (λ (x : ℕ). among m (movesFrom s movesAt x)) (sym e) ∙ among-from m s movesAt k (block - k) n (zeros-from s (movesAt + 2 * k) z)
 
--- so a block has another move than 0 exactly if the list, which is shorter, has it
+-- so a block has a move other than 0 exactly if the list, which is shorter, has it
 pub block-lists : (m : ℕ) (s : List ℕ) (k block : ℕ) → k ≤ block → (m ≡ 0 → ⊥) → listFits s k ≡ true → among m (movesFrom s movesAt block) ≡ listFitsWith s k m
 unfolding listFits
 block-lists m s k block h n fits =
     block-among m s k block h n (both-left (allAtMost 0 (drop (movesAt + 2 * k) s)) _ fits) ∙ by-among s k m fits
 
--- the start of the loop that looks for a move among the first k entries, a turn, and its end
+-- the start of the loop that looks for a move among the first k entries, an iteration, and its end
 pub look-start : (s : List ℕ) (m k : ℕ) → among m (movesLeft s k 0) ≡ among m (movesFrom s movesAt k)
 look-start s m k = let e : k - 0 ≡ k = omega arith in rw e
 

@@ -1,4 +1,4 @@
--- The bytes of a list of moves, written move by move, and how many those of a position are.
+-- The bytes of a list of moves, written move by move, and how many a position has.
 -- Assumes nothing.
 use mathlib.Core.Path.{_≡_, refl, ap, sym, _∙_}
 use mathlib.Core.List.{List, [], _∷_, _++_, append-assoc}
@@ -25,7 +25,7 @@ unfolding moveBytes
 moveBytes-append [] ys = refl
 moveBytes-append (m ∷ xs) ys = ap (λ (t : List ℕ). lowByte m ∷ highByte m ∷ t) (moveBytes-append xs ys)
 
--- a turn of the loop that writes moves
+-- an iteration of the loop that writes moves
 pub moves-turn : (l list : List ℕ) (at i : ℕ) → at + 2 * length list ≤ length l → i < length list
     → set (set (written l at (moveBytes (take i list))) (at + 2 * i) (lowByte (getD list i 0))) (at + 2 * i + 1) (highByte (getD list i 0))
     ≡ written l at (moveBytes (take (i + 1) list))

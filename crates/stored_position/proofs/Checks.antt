@@ -1,4 +1,4 @@
--- The checks of a position, by the ways that a caller takes through them, and what a position that passes is.
+-- The checks of a position, by the paths that a caller takes through them, and what a position that passes is.
 -- Assumes nothing.
 use mathlib.Core.Path.{_≡_, refl, ap, sym, _∙_}
 use mathlib.Core.Bool.{Bool, true, false, _&&_}

@@ -1,4 +1,4 @@
--- Bytes known as those of a position: what is left to look at once the checks pass.
+-- Bytes recognised as those of a position: what is left to look at once the checks pass.
 -- Assumes nothing.
 use mathlib.Core.Path.{_≡_, refl, ap, ap₂, sym, _∙_}
 use mathlib.Core.Bool.{Bool, true, false, _&&_, and-comm, false≢true}
@@ -88,7 +88,7 @@ module _ (s : List ℕ) (b : AllBytes s) (whole : length s ≡ positionSize) whe
       ap (λ (t : Bool). eqb (positionCheck (positionOf s)) 0 && t)
       (ap₂ same in-pieces written-back ∙ same-front (take recordSize s) _ _ ∙ same-past)
 
-  -- with the record and the in-check byte in range, the list is left to look at
+  -- with the record and the in-check byte in range, only the list is left to look at
   pub by-its-list : numbersInRange (take recordSize s) ≡ true → getD s checkAt 0 ≤ 1 → isPosition s ≡ listFits s (getD s lengthAt 0)
   unfolding positionOf listFits
   by-its-list board check =
@@ -111,7 +111,7 @@ other-size s n = go (eqb (positionCheck (positionOf s)) 0) refl
         same-lengths s (positionBytes (positionOf s)) (λ h. n (h ∙ length-position (positionOf s) (p .wide) (p .short)))
     go false e = refl
 
--- the front of a position: without it there is none, with it the list is left to look at
+-- the front of a position: without it there is no position, with it only the list is left to look at
 module _ (s : List ℕ) where
   pub front-whole : frontFits s ≡ true → length s ≡ positionSize
   unfolding frontFits
@@ -158,7 +158,7 @@ module _ (s : List ℕ) where
   unfolding recordFits numbersInRange
   short-record h = rw (ne-eqb (length (take recordSize s)) recordSize (λ e. omega (arith, length-take recordSize s, e)))
 
-  -- of a record in range, the rest tells a position that lists a move
+  -- with a record in range, the rest decides whether the bytes are a position that lists a move
   pub by-rest-with : (m : ℕ) → AllBytes s → numbersInRange (take recordSize s) ≡ true → isPositionWith s m ≡ restFitsWith s m
   unfolding restFitsWith frontFits
   by-rest-with m b r = go (eqb (length s) positionSize) refl (leb (getD s checkAt 0) 1) refl

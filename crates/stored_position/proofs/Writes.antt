@@ -1,4 +1,4 @@
--- What the writer of a position answers and leaves in its room, by its three ways; and the bytes it writes, piece by piece.
+-- What the writer of a position answers and leaves in its room, in its three cases; and the bytes it writes, piece by piece.
 -- Assumes nothing.
 use mathlib.Core.Path.{_≡_, ap, sym, _∙_}
 use mathlib.Core.List.{List, [], _∷_, _++_, append-assoc}
@@ -67,7 +67,7 @@ module _ (l b : List ℕ) (check : ℕ) (list : List ℕ) (wide : length b ≡ r
       ∙ in-one
       ∙ ap (written l 0) whole
 
--- the three ways, by what the checks gave
+-- the three cases, by what the checks gave
 module _ (p : Position) (out : List ℕ) (n : ℕ) (checked : n ≡ positionCheck p) where
   pub way-refused : (n ≡ 0 → ⊥) → Written (positionCheck p) (positionBytes p) out (refused n) out
   way-refused h = rw (← checked) (write-refused n (positionBytes p) out h)

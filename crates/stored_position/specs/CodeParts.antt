@@ -1,4 +1,4 @@
--- How the code tells a position: part by part. Not the paper's words, which are in Bytes; proofs/Known.antt has that both say the same.
+-- How the code recognises a position: part by part. Not the paper's words, which are in Bytes; proofs/Known.antt shows that both say the same.
 -- Assumes nothing.
 use mathlib.Core.Bool.{Bool, _&&_}
 use mathlib.Core.List.{List}
@@ -14,7 +14,7 @@ use Rattle.position.specs.Layout.{checkAt, lengthAt, movesAt, positionSize, mov
 unfoldable pub frontFits : List ℕ → Bool
 frontFits s = eqb (length s) positionSize && (numbersInRange (take recordSize s) && leb (getD s checkAt 0) 1)
 
--- so many entries of a position are moves, and what is past them is 0
+-- this many entries of a position are moves, and what is past them is 0
 unfoldable pub listFits : List ℕ → ℕ → Bool
 listFits s entries = allAtMost 0 (drop (movesAt + 2 * entries) s) && allAtMost lastMove (movesFrom s movesAt entries)
 

@@ -133,7 +133,7 @@ pub fn to_bytes(b: BoardBuilder, in_check: u8, list: &[u16], out: &mut [u8]) -> 
     answer::accepted(POSITION_SIZE as u64)
 }
 
-// Whether the first so many entries are moves: with no branch, so that they are taken many at a time.
+// Whether the first `entries` entries are moves: without a branch, so that many are taken at a time.
 fn moves_in_range(s: &[u8], entries: usize) -> bool
     requires { ⌜ (length (now s) ≡ positionSize) × (entries ≤ longestList) ⌝ }
     ensures { λ r. ⌜ r ≡ allAtMost lastMove (movesFrom (now (s .entry)) movesAt entries) ⌝ }
@@ -148,7 +148,7 @@ fn moves_in_range(s: &[u8], entries: usize) -> bool
     above == 0
 }
 
-// Whether a move is one of the first so many entries: with no branch, as above.
+// Whether a move is one of the first `entries` entries: without a branch, as above.
 fn has_move(s: &[u8], entries: usize, m: u16) -> bool
     requires { ⌜ (length (now s) ≡ positionSize) × (entries ≤ longestList) ⌝ }
     ensures { λ r. ⌜ r ≡ among m (movesFrom (now (s .entry)) movesAt entries) ⌝ }

@@ -1,4 +1,4 @@
--- The version that host/menkhodur.h names and CHANGELOG.md tells of. tools/abi compares the three.
+-- The version that host/menkhodur.h names and CHANGELOG.md describes. tools/abi compares the three.
 -- Assumes nothing.
 use Prim.Native.Nat.{ℕ}
 

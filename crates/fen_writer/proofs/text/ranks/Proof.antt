@@ -1,4 +1,4 @@
--- The invariant: the n bytes so far and the text of the `left` lowest ranks are the text of all eight. It is said of any board that has these letters,
+-- The invariant: the n bytes so far and the text of the `left` lowest ranks are the text of all eight. It is stated for any board that has these letters,
 -- since the loop holds the letters alone. Assumes nothing.
 use borrow.Author.Needs.{needs}
 use native.Mathlib.Omega.{arith}

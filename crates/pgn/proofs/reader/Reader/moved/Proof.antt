@@ -1,6 +1,6 @@
 -- `pgn::reader::Reader::moved` meets its contract: a walk of its MIR, by hand. A struct is made anew of the slice that the one passed holds, and two other
 -- numbers.
--- The struct is Copy: what it owns is had twice, one copy is kept whole for the exit, and of the other what text owns, with the facts of the two numbers,
+-- The struct is Copy: there are two copies of what it owns, one is kept whole for the exit, and of the other what text owns, with the facts of the two numbers,
 -- is what the result owns.
 -- Assumes nothing.
 use mathlib.Core.Path.{_≡_, refl}

@@ -1,5 +1,5 @@
 -- `pgn::reader::Reader::new` meets its contract: a walk of its MIR, by hand. A `Reader` is made of the slice passed, 0 and 0, in the result's local.
--- A `&[u8]` is Copy, so what it owns is had twice: once for text at exit, and once inside the result, beside the facts of the two numbers.
+-- A `&[u8]` is Copy, so there are two copies of what it owns: one for text at exit, and one inside the result, beside the facts of the two numbers.
 -- Assumes nothing.
 use mathlib.Core.Path.{refl}
 use Prim.Native.Nat.{ℕ}

@@ -1,6 +1,6 @@
 -- `pgn::reader::Reader::step` meets its contract: a walk of its MIR, by hand. The struct is taken apart, and `next` is called on the slice and the two
 -- numbers. All that the proof knows of `next` is that it meets its contract.
--- The struct is Copy: what it owns is had twice, one copy is kept whole for the exit, and of the other what text owns goes to the callee, beside the
+-- The struct is Copy: there are two copies of what it owns, one is kept whole for the exit, and of the other what text owns goes to the callee, beside the
 -- lifetime's token, which comes back.
 -- Assumes nothing.
 use mathlib.Core.Path.{_≡_, refl}
@@ -127,7 +127,7 @@ module _ {M : Type 1} (𝓤 : URA M) (H : Heap 𝓤) (A : Atoms 𝓤) (W : Given
           owned ! usize (Is usize) (uint-makes 𝓤 H A W w64) (d .offset) _ (refl, fits₁) $ fjoin ! $ move ! (1 ∷ 0 ∷ []) $ fjoin ! $
       move ! (2 ∷ 0 ∷ []) $ use2 W (raw (Next 𝓤 H A mem run .pre to)) asked $ frame ! $ done !)
 
-  -- of the callee's `ensured`, the clause alone: it has no `&mut`, so what is said of last values is dropped
+  -- of the callee's `ensured`, the clause alone: it has no `&mut`, so what is said about last values is dropped
   said : (r : PgnMove) → ent 𝓤 (ensured 𝓤 H A callee.ended (callee.clauses 𝓤 H A mem run) (κ, tt) (d .text, (d .offset, (d .level, tt))) tt r)
       (fact 𝓤 (r ≡ found))
   said r = exE 𝓤 _ (λ ws. snd∗ 𝓤 (sem 𝓤 H A (lasts callee.ended (κ, tt) (d .text, (d .offset, (d .level, tt))) ws)) (fact 𝓤 (r ≡ found)))
