@@ -1,4 +1,4 @@
-/* How long each function takes through the archive: nanoseconds a call, the best of several rounds. A call goes through a pointer,
+/* How long each function takes through the archive: nanoseconds per call, the best of several rounds. A call goes through a pointer,
  * which is in the time.
  *
  *     rt staticlib menkhodur

@@ -1,9 +1,4 @@
-pub mod AtSmallest
-pub mod Rights
-pub mod Squares
-pub mod Stay
 pub mod Differ
-pub mod Records
-pub mod Ranges
+pub mod Touched
 pub mod Tests
 pub mod Determined

@@ -9,15 +9,16 @@ use lib.Dec.{eqb}
 use lib.ListN.{length, getD, take, length-take, length-append}
 use lib.Seq.{take-all}
 use borrow.Author.Tests.{le-leb, lt-leb, eqb-true, eqb-false}
+use Rattle.square.specs.Piece.{manOn}
 use Rattle.answer.specs.Numbers.{same}
 use Rattle.answer.proofs.Numbers.{both-left, both-right}
 use Rattle.answer.proofs.Same.{same-lengths}
 use Rattle.board_builder.specs.declared.BoardBuilder.{BoardBuilder}
 use Rattle.board_builder.specs.BoardBuilder.{boardOf, numbers, recordSize}
-use Rattle.board_after.specs.After.{manOn, squaresAfter, rightsAfter, sideAfter, fileAfter, afterParts, boardAfter, recordAfter}
-use Rattle.board_after.specs.Leads.{comesFrom, leadsTo}
-use Rattle.board_after.proofs.Squares.{squares-length}
-use Rattle.board_after.proofs.Records.{record-split, off-side, off-white, off-black, off-file, by-squares}
+use Rattle.move_rules.specs.After.{squaresAfter, rightsAfter, sideAfter, fileAfter, afterParts, boardAfter, recordAfter}
+use Rattle.move_rules.specs.Leads.{comesFrom, leadsTo}
+use Rattle.move_rules.proofs.Squares.{squares-length}
+use Rattle.move_rules.proofs.Records.{record-split, off-side, off-white, off-black, off-file, by-squares}
 
 -- records p and q, and move m, with its source and its destination
 module _ (p q : List ℕ) (m : ℕ) (hp : length p ≡ recordSize) (hq : length q ≡ recordSize) where

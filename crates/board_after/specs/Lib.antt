@@ -1,5 +1,1 @@
-pub mod After
-pub mod AtSmallest
-pub mod Leads
 pub mod CodeDiffer
-pub mod Promises

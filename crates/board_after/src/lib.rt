@@ -10,6 +10,8 @@ use board_builder::SIDE_AT;
 use board_builder::Stepped;
 use board_builder::WHITE_RIGHTS_AT;
 use chess_move::LAST_MOVE;
+use square::KING;
+use square::PAWN;
 ghost use mathlib.Core.Path.{_≡_};
 ghost use mathlib.Core.Bool.{_&&_};
 ghost use Prim.Native.Nat.{_-_, _≤_, _<_};
@@ -18,17 +20,13 @@ ghost use lib.ListN.{length, take, set};
 ghost use Rattle.answer.specs.Numbers.{same};
 ghost use Rattle.board_builder.specs.BoardBuilder.{boardOf, numbers, recordSize};
 ghost use Rattle.board_builder.specs.Steps.{stepped};
-ghost use Rattle.board_after.specs.After.{colourStep, enemyPawn, twoApart, castles, corner, rookMoved, takesInPassing, pawnRemoved, setDown};
-ghost use Rattle.board_after.specs.After.{squaresAfter, rightsWithout, rightsAfter, sideAfter, stepsTwice, stoodBefore, stoodBehind, fileAfter};
-ghost use Rattle.board_after.specs.After.{afterParts, recordAfter, afterAnswer};
-ghost use Rattle.board_after.specs.Leads.{leadsTo, leadsToBoard};
+ghost use Rattle.move_rules.specs.After.{colourStep, enemyPawn, twoApart, castles, corner, rookMoved, takesInPassing, pawnRemoved, setDown};
+ghost use Rattle.move_rules.specs.After.{squaresAfter, rightsWithout, rightsAfter, sideAfter, stepsTwice, stoodBefore, stoodBehind, fileAfter};
+ghost use Rattle.move_rules.specs.After.{afterParts, recordAfter, afterAnswer};
+ghost use Rattle.move_rules.specs.Leads.{leadsTo, leadsToBoard};
 ghost use Rattle.board_after.specs.CodeDiffer.{differs, differing, touchesMore};
 
 const SQUARES: usize = 64;
-
-const PAWN: u8 = 1;
-
-const KING: u8 = 6;
 
 fn colour_step(man: u8) -> u8
     ensures { λ r. ⌜ r ≡ colourStep man ⌝ }

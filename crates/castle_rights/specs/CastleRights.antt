@@ -8,11 +8,11 @@ use Rattle.answer.specs.declared.Answer.{Answer}
 use Rattle.answer.specs.Answer.{accepted, refused, inRangeOr5, outOfRange}
 
 -- the two bits, and the number that they make
-abbrev pub king : ℕ → ℕ
-king r = r % 2
+abbrev pub kingBit : ℕ → ℕ
+kingBit r = r % 2
 
-abbrev pub queen : ℕ → ℕ
-queen r = r / 2
+abbrev pub queenBit : ℕ → ℕ
+queenBit r = r / 2
 
 abbrev pub rights : ℕ → ℕ → ℕ
 rights k q = k + 2 * q
@@ -21,16 +21,16 @@ abbrev pub fromIndex : ℕ → Answer
 fromIndex i = inRangeOr5 (ltb i 4) i
 
 abbrev pub hasKing : ℕ → Answer
-hasKing r = inRangeOr5 (ltb r 4) (king r)
+hasKing r = inRangeOr5 (ltb r 4) (kingBit r)
 
 abbrev pub hasQueen : ℕ → Answer
-hasQueen r = inRangeOr5 (ltb r 4) (queen r)
+hasQueen r = inRangeOr5 (ltb r 4) (queenBit r)
 
 abbrev pub added : ℕ → ℕ → ℕ
-added a b = rights (max (king a) (king b)) (max (queen a) (queen b))
+added a b = rights (max (kingBit a) (kingBit b)) (max (queenBit a) (queenBit b))
 
 abbrev pub removed : ℕ → ℕ → ℕ
-removed a b = rights (king a - king b) (queen a - queen b)
+removed a b = rights (kingBit a - kingBit b) (queenBit a - queenBit b)
 
 abbrev pub addRights : ℕ → ℕ → Answer
 addRights a b = inRangeOr5 (ltb a 4 && ltb b 4) (added a b)
@@ -55,7 +55,7 @@ rookRights square =
 
 -- the letters k and q of rights that hold, king side first
 unfoldable pub lettersOf : ℕ → ℕ → ℕ → List ℕ
-lettersOf k q r = cond (eqb (king r) 1) (k ∷ []) [] ++ cond (eqb (queen r) 1) (q ∷ []) []
+lettersOf k q r = cond (eqb (kingBit r) 1) (k ∷ []) [] ++ cond (eqb (queenBit r) 1) (q ∷ []) []
 
 -- a colour's letters: upper case for white, lower case for black
 unfoldable pub lettersText : ℕ → ℕ → List ℕ

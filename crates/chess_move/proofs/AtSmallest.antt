@@ -2,12 +2,12 @@
 -- Assumes nothing.
 use mathlib.Core.Path.{refl}
 use Rattle.answer.specs.Ascii.{ascii}
-use Rattle.square.specs.Square.{readSquare, told}
+use Rattle.square.specs.Square.{readSquare, pairTold}
 use Rattle.chess_move.specs.Coordinate.{promotionNamed, withDest, withSource, readMove}
 use Rattle.chess_move.specs.AtSmallest.{MovesAtSmallest}
 
 pub moves-at-smallest : MovesAtSmallest
-unfolding ascii readSquare told promotionNamed withDest withSource readMove
+unfolding ascii readSquare pairTold promotionNamed withDest withSource readMove
 moves-at-smallest = record {
   nothing = refl;
   one-byte = refl;

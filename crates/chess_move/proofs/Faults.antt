@@ -16,7 +16,7 @@ use Rattle.answer.specs.Answer.{accepted, refused, readAs, faultAt, invalidSqua
 use Rattle.answer.specs.Ascii.{ascii}
 use Rattle.answer.specs.Numbers.{among}
 use Rattle.answer.specs.Numbers.{between}
-use Rattle.square.specs.Square.{squareOf, readSquare, told}
+use Rattle.square.specs.Square.{squareOf, readSquare, pairTold}
 use Rattle.answer.proofs.Below.{agree}
 use Rattle.square.proofs.Squares.{read-short}
 use Rattle.chess_move.specs.Number.{numberOf}
@@ -91,14 +91,14 @@ module _ (a b : ℕ) (t : List ℕ) where
   there = omega arith
 
   first-file : between 97 104 a ≡ false → Case (a ∷ b ∷ t)
-  unfolding readMove withSource readSquare told baseMove
+  unfolding readMove withSource readSquare pairTold baseMove
   first-file e =
       bad-byte 0 (record { of-four = omega arith; pair = omega arith; bad = e; none-before = λ k h. absurd (omega arith) })
       (simp e)
       (simp (le-ltb _ _ there, e))
 
   first-rank : between 97 104 a ≡ true → between 49 56 b ≡ false → Case (a ∷ b ∷ t)
-  unfolding readMove withSource readSquare told baseMove
+  unfolding readMove withSource readSquare pairTold baseMove
   first-rank e f =
       bad-byte 1 (record { of-four = omega arith; pair = omega arith; bad = f; none-before = one a b t e })
       (simp (e, f))
@@ -110,7 +110,7 @@ module _ (a b : ℕ) (t : List ℕ) where
   read-first e f = simp (e, f)
 
   no-second : between 97 104 a ≡ true → between 49 56 b ≡ true → length t < 2 → Case (a ∷ b ∷ t)
-  unfolding readMove withSource withDest told baseMove
+  unfolding readMove withSource withDest pairTold baseMove
   no-second e f h =
       let short : length (a ∷ b ∷ t) < 4 = omega arith in
       no-pair (record { short = short; none-before = λ k l. two a b t e f k (omega arith) })
@@ -123,14 +123,14 @@ module _ (a b c d : ℕ) (u : List ℕ) (e : between 97 104 a ≡ true) (f : bet
   both-there = omega arith
 
   second-file : between 97 104 c ≡ false → Case (a ∷ b ∷ c ∷ d ∷ u)
-  unfolding withDest readSquare told baseMove
+  unfolding withDest readSquare pairTold baseMove
   second-file g =
       bad-byte 2 (record { of-four = omega arith; pair = omega arith; bad = g; none-before = two a b (c ∷ d ∷ u) e f })
       (read-first a b (c ∷ d ∷ u) e f ∙ simp g)
       (simp (le-ltb _ _ (there a b (c ∷ d ∷ u)), e, f, le-ltb _ _ both-there, g))
 
   second-rank : between 97 104 c ≡ true → between 49 56 d ≡ false → Case (a ∷ b ∷ c ∷ d ∷ u)
-  unfolding withDest readSquare told baseMove
+  unfolding withDest readSquare pairTold baseMove
   second-rank g w =
       bad-byte 3 (record { of-four = omega arith; pair = omega arith; bad = w; none-before = three a b c d u e f g })
       (read-first a b (c ∷ d ∷ u) e f ∙ simp (g, w))
@@ -185,7 +185,7 @@ first a b t true e false f = first-rank a b t e f
 first a b t true e true f = behind a b t e f
 
 case : (s : List ℕ) → Case s
-unfolding readMove withSource readSquare told baseMove
+unfolding readMove withSource readSquare pairTold baseMove
 case [] = no-pair (record { short = omega arith; none-before = λ k h. absurd (omega arith) }) refl refl
 case (a ∷ []) = no-pair (record { short = omega arith; none-before = λ k h. absurd (omega arith) }) refl refl
 case (a ∷ b ∷ t) = first a b t (between 97 104 a) refl (between 49 56 b) refl

@@ -18,7 +18,7 @@ use Rattle.answer.proofs.Below.{below}
 use Rattle.square.proofs.Squares.{square-reads-back}
 use Rattle.answer.proofs.Writes.{write-fits}
 use Rattle.chess_move.specs.Number.{lastMove, sourceOf, destOf, promotionOf, numberOf}
-use Rattle.chess_move.specs.Coordinate.{promotionNamed, promoted, ended, readMove, moveText, moveCheck}
+use Rattle.chess_move.specs.Coordinate.{promotionNamed, promoted, withEnd, readMove, moveText, moveCheck}
 use Rattle.chess_move.specs.Promises.{readable, MovesReadBack}
 use Rattle.chess_move.proofs.Numbers.{source-most, dest-most, promotion-most, number-of-its-parts}
 use Rattle.chess_move.proofs.Ways.{fourBytes, read-squares, ended-squares, ended-letter, promoted-none, promoted-some, text-four, text-five}
@@ -37,7 +37,7 @@ unfolding promotionNamed letterOf letter-test
 letter-back p h = eqb→eq _ _ (below letter-test 7 tt p (omega arith))
 
 -- the two squares that a text's first four bytes name
-squares-back : (s d : ℕ) (t : List ℕ) → s ≤ 63 → d ≤ 63 → readMove (fourBytes s d t) ≡ ended (fourBytes s d t) s d
+squares-back : (s d : ℕ) (t : List ℕ) → s ≤ 63 → d ≤ 63 → readMove (fourBytes s d t) ≡ withEnd (fourBytes s d t) s d
 unfolding readSquare
 squares-back s d t hs hd = read-squares (fourBytes s d t) s d (pair-back s hs) (pair-back d hd)
 

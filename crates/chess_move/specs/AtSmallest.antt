@@ -11,18 +11,18 @@ use Rattle.chess_move.specs.Coordinate.{readMove}
 abbrev pub Moves : String → ℕ → Type 0
 Moves text m = readMove (ascii text) ≡ readAs m
 
-abbrev pub NoMove : String → ℕ → ℕ → Type 0
-NoMove text number offset = readMove (ascii text) ≡ faultAt number offset
+abbrev pub ReadsNoMove : String → ℕ → ℕ → Type 0
+ReadsNoMove text number offset = readMove (ascii text) ≡ faultAt number offset
 
 pub record MovesAtSmallest : Type 0 where
-  pub nothing : NoMove "" invalidUciMove 0
-  pub one-byte : NoMove "z" invalidUciMove 1
-  pub both-bad : NoMove "zz" invalidSquare 0
-  pub bad-rank : NoMove "e9" invalidSquare 1
-  pub first-pair-first : NoMove "z2e" invalidSquare 0
-  pub no-second-pair : NoMove "e2" invalidUciMove 2
-  pub half-a-pair : NoMove "e2z" invalidUciMove 3
-  pub second-both-bad : NoMove "e2z9" invalidSquare 2
-  pub as-players-type : NoMove "e2e9" invalidSquare 3
-  pub fifth : NoMove "e2e4k" invalidUciMove 4
+  pub nothing : ReadsNoMove "" invalidUciMove 0
+  pub one-byte : ReadsNoMove "z" invalidUciMove 1
+  pub both-bad : ReadsNoMove "zz" invalidSquare 0
+  pub bad-rank : ReadsNoMove "e9" invalidSquare 1
+  pub first-pair-first : ReadsNoMove "z2e" invalidSquare 0
+  pub no-second-pair : ReadsNoMove "e2" invalidUciMove 2
+  pub half-a-pair : ReadsNoMove "e2z" invalidUciMove 3
+  pub second-both-bad : ReadsNoMove "e2z9" invalidSquare 2
+  pub as-players-type : ReadsNoMove "e2e9" invalidSquare 3
+  pub fifth : ReadsNoMove "e2e4k" invalidUciMove 4
   pub move : Moves "e2e4" 1804

@@ -20,8 +20,8 @@ baseNamed a b = cond (between 97 104 a && between 49 56 b) (accepted (squareOf (
 abbrev pub pairAt : List ℕ → ℕ → ℕ → Answer
 pairAt s i j = baseNamed (getD s i 0) (getD s j 0)
 
-abbrev pub isBad : Answer → Bool
-isBad a = not (eqb (a .number) 0)
+abbrev pub isRefused : Answer → Bool
+isRefused a = not (eqb (a .number) 0)
 
 -- a fifth byte, which must be a promotion's
 abbrev pub basePromoted : ℕ → ℕ → ℕ → Answer
@@ -34,6 +34,6 @@ baseEnded s source dest =
 unfoldable pub baseMove : List ℕ → Answer
 baseMove s =
     cond (ltb (length s) 2) (refused invalidUciMove)
-    (cond (isBad (pairAt s 0 1)) (refused invalidSquare)
+    (cond (isRefused (pairAt s 0 1)) (refused invalidSquare)
     (cond (ltb (length s) 4) (refused invalidUciMove)
-    (cond (isBad (pairAt s 2 3)) (refused invalidSquare) (baseEnded s (pairAt s 0 1 .value) (pairAt s 2 3 .value)))))
+    (cond (isRefused (pairAt s 2 3)) (refused invalidSquare) (baseEnded s (pairAt s 0 1 .value) (pairAt s 2 3 .value)))))

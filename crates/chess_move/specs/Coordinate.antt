@@ -11,7 +11,7 @@ use Rattle.answer.specs.declared.Placed.{Placed}
 use Rattle.square.specs.declared.Pair.{Pair}
 use Rattle.square.specs.declared.Pair.the-variants.{Square, BadFile, BadRank, Missing}
 use Rattle.answer.specs.Answer.{readAs, faultAt, invalidUciMove, badList}
-use Rattle.square.specs.Square.{readSquare, told, squareText}
+use Rattle.square.specs.Square.{readSquare, pairTold, squareText}
 use Rattle.square.specs.Piece.{letterOf}
 use Rattle.chess_move.specs.Number.{lastMove, sourceOf, destOf, promotionOf, numberOf}
 
@@ -23,22 +23,22 @@ promotionNamed b = cond (eqb b 113) 5 (cond (eqb b 114) 4 (cond (eqb b 110) 2 (c
 abbrev pub promoted : ℕ → ℕ → ℕ → Placed
 promoted source dest promotion = cond (eqb promotion 0) (faultAt invalidUciMove 4) (readAs (numberOf source dest promotion))
 
-abbrev pub ended : List ℕ → ℕ → ℕ → Placed
-ended s source dest = cond (eqb (length s) 5) (promoted source dest (promotionNamed (getD s 4 0))) (readAs (numberOf source dest 0))
+abbrev pub withEnd : List ℕ → ℕ → ℕ → Placed
+withEnd s source dest = cond (eqb (length s) 5) (promoted source dest (promotionNamed (getD s 4 0))) (readAs (numberOf source dest 0))
 
 -- the second pair, bytes 2 and 3
 unfoldable pub withDest : List ℕ → ℕ → Pair → Placed
-withDest s source (Square dest) = ended s source dest
-withDest s source BadFile = told 2 (length s) BadFile
-withDest s source BadRank = told 2 (length s) BadRank
-withDest s source Missing = told 2 (length s) Missing
+withDest s source (Square dest) = withEnd s source dest
+withDest s source BadFile = pairTold 2 (length s) BadFile
+withDest s source BadRank = pairTold 2 (length s) BadRank
+withDest s source Missing = pairTold 2 (length s) Missing
 
 -- the first pair, bytes 0 and 1
 unfoldable pub withSource : List ℕ → Pair → Placed
 withSource s (Square source) = withDest s source (readSquare (drop 2 s))
-withSource s BadFile = told 0 (length s) BadFile
-withSource s BadRank = told 0 (length s) BadRank
-withSource s Missing = told 0 (length s) Missing
+withSource s BadFile = pairTold 0 (length s) BadFile
+withSource s BadRank = pairTold 0 (length s) BadRank
+withSource s Missing = pairTold 0 (length s) Missing
 
 unfoldable pub readMove : List ℕ → Placed
 readMove s = withSource s (readSquare s)

@@ -9,7 +9,7 @@ ghost use mathlib.Core.Path.{_≡_};
 ghost use lib.ListN.{length};
 ghost use Rattle.answer.specs.Answer.{writeAnswer, writeBytes};
 ghost use Rattle.chess_move.specs.Number.{sourceOf, destOf, moveOf, numberAnswer};
-ghost use Rattle.chess_move.specs.Coordinate.{promotionNamed, ended, withDest, readMove, moveText, moveCheck};
+ghost use Rattle.chess_move.specs.Coordinate.{promotionNamed, withEnd, withDest, readMove, moveText, moveCheck};
 
 // The largest number of a move: h8 to h8 with promotion 6.
 pub const LAST_MOVE: u64 = 28_671;
@@ -77,7 +77,7 @@ fn promotion_named(b: u8) -> u64
 
 // The move of two squares, and of a fifth byte if it is the last.
 fn ended(text: &[u8], source: u8, dest: u8) -> Placed
-    ensures { λ r. ⌜ r ≡ ended (now (text .entry)) source dest ⌝ }
+    ensures { λ r. ⌜ r ≡ withEnd (now (text .entry)) source dest ⌝ }
 {
     if text.len() != 5 {
         return answer::read_as(source as u64 + 64 * dest as u64);

@@ -8,12 +8,12 @@ use native.Mathlib.Omega.{arith}
 use lib.Dec.{eqb, lit<}
 use lib.ListN.{getD}
 use borrow.Author.Tests.{eq-eqb, ne-eqb}
-use Rattle.square.specs.Piece.{kindOf}
+use Rattle.square.specs.Piece.{kindOf, pawn}
 use Rattle.board_builder.specs.BoardBuilder.{whiteRightsAt, blackRightsAt}
 use Rattle.chess_move.specs.Number.{sourceOf, destOf}
 use Rattle.position.specs.Layout.{positionOf}
 use Rattle.position.proofs.Fields.{number-at}
-use Rattle.claim.specs.Emptying.{pawn, irreversible, rightsDiffer}
+use Rattle.claim.specs.Emptying.{irreversible, rightsDiffer}
 
 module _ (p : List ℕ) (m : ℕ) where
   pub by-pawn : kindOf (getD p (sourceOf m) 0) ≡ pawn → irreversible (positionOf p) m ≡ true

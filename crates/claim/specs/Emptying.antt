@@ -5,20 +5,14 @@ use mathlib.Core.Bool.{Bool, not, _||_}
 use Prim.Native.Nat.{ℕ}
 use lib.Dec.{eqb}
 use lib.ListN.{getD}
-use Rattle.square.specs.Piece.{kindOf}
+use Rattle.square.specs.Piece.{kindOf, pawn, manOn}
 use Rattle.board_builder.specs.BoardBuilder.{whiteRightsAt, blackRightsAt}
 use Rattle.chess_move.specs.Number.{sourceOf, destOf}
 use Rattle.position.specs.Layout.{Position}
 
-abbrev pub manOn : Position → ℕ → ℕ
-manOn p square = getD (p .board) square 0
-
-abbrev pub pawn : ℕ
-pawn = 1
-
 -- move m, made in position p, has a pawn on its source or goes onto an occupied square
 unfoldable pub irreversible : Position → ℕ → Bool
-irreversible p m = eqb (kindOf (manOn p (sourceOf m))) pawn || not (eqb (manOn p (destOf m)) 0)
+irreversible p m = eqb (kindOf (manOn (p .board) (sourceOf m))) pawn || not (eqb (manOn (p .board) (destOf m)) 0)
 
 -- either side's rights differ between two positions
 unfoldable pub rightsDiffer : Position → Position → Bool

@@ -3,6 +3,7 @@ use action::ACTION_SIZE;
 use board_builder::BLACK_RIGHTS_AT;
 use board_builder::WHITE_RIGHTS_AT;
 use chess_move::LAST_MOVE;
+use square::PAWN;
 ghost use mathlib.Core.Path.{_≡_};
 ghost use mathlib.Core.Bool.{cond};
 ghost use Rattle.position.specs.Layout.{positionOf};
@@ -12,8 +13,6 @@ ghost use Rattle.claim.specs.CodeBack.{orElse, runBefore, runKnown};
 
 // The reversible moves after which a draw may be claimed.
 pub const CLAIM_COUNT: usize = 100;
-
-const PAWN: u8 = 1;
 
 // The run begins at position `first`; the count is of the moves since position `since`.
 pub struct Run {

@@ -14,7 +14,7 @@ use Rattle.board_builder.specs.BoardBuilder.{squares}
 use Rattle.game_rules.specs.Limits.{limits}
 use Rattle.roll_text.specs.Number.{behind, readGroups}
 use Rattle.roll_text.specs.Roll.{largestNumbers, isCode, putNumber, oneNumber, readNumbers, movedBy, coded}
-use Rattle.roll_text.specs.Roll.{putAction, next, readActions, withActions, withCount, withFront, readRoll}
+use Rattle.roll_text.specs.Roll.{putAction, nextAction, readActions, withActions, withCount, withFront, readRoll}
 use Rattle.roll_text.specs.Calls.{rollAnswer, judged}
 use Rattle.differences_text.specs.Differences.{Difference, difference, startKey, ifDiffers, startDifferences, actionNumbers, actionKey}
 use Rattle.differences_text.specs.Differences.{actionDifference, lineText, linesText}
@@ -35,7 +35,7 @@ other : List ℕ
 other = roll 11 (1 ∷ 3 ∷ 3 ∷ 8 ∷ []) 254
 
 both : BothRead limits one other
-unfolding roll one other allAtMost behind readGroups largestNumbers isCode putNumber oneNumber readNumbers movedBy coded putAction next readActions
+unfolding roll one other allAtMost behind readGroups largestNumbers isCode putNumber oneNumber readNumbers movedBy coded putAction nextAction readActions
     withActions withCount withFront readRoll rollAnswer judged
 both = record { first-bytes = refl; second-bytes = refl; first = refl; second = refl }
 
@@ -44,7 +44,7 @@ starts : List Difference
 starts = startDifferences 0 (replicate squares 10 ++ (0 ∷ 0 ∷ 0 ∷ 0 ∷ [])) (replicate squares 11 ++ (1 ∷ 3 ∷ 3 ∷ 8 ∷ []))
 
 lines : rollDifferences limits one other ≡ starts ++ (difference (actionKey 1000) 458738 458722 ∷ [])
-unfolding roll one other behind readGroups largestNumbers isCode putNumber oneNumber readNumbers movedBy coded putAction next readActions
+unfolding roll one other behind readGroups largestNumbers isCode putNumber oneNumber readNumbers movedBy coded putAction nextAction readActions
     withActions withCount withFront readRoll startKey ifDiffers startDifferences actionNumbers actionDifference differences starts
 lines = refl
 

@@ -9,7 +9,7 @@ use Rattle.game_rules.specs.Limits.{Limits}
 use Rattle.roll_text.specs.Roll.{rolled, readRoll}
 use Rattle.differences_text.specs.Differences.{Difference, actionNumbers, actionDifference, linesText}
 use Rattle.differences_text.specs.Calls.{differences, rollDifferences, differencesCheck, differencesText}
-use Rattle.differences_text.specs.Promises.{teller, wrote, Lines, linesOf, swapped, TellsWhatDiffers}
+use Rattle.differences_text.specs.Promises.{teller, linesWritten, Lines, linesOf, swapped, TellsWhatDiffers}
 use Rattle.differences_text.proofs.Games.{Read, read-roll}
 use Rattle.differences_text.proofs.Told.{places, start-told, start-lines, some-numbers, actions-told, swap-games}
 
@@ -29,7 +29,7 @@ module _ (L : Limits) (s t xs : List ℕ) (n : ℕ) (bs ys : List ℕ) (m : ℕ)
   lines-are = ap (λ (ds : List Difference). ds ++ actionDifference 0 (actionNumbers n bs) (actionNumbers m cs)) (start-lines xs ys)
 
 -- what an accepted call wrote is its text
-text-wrote : (L : Limits) (s t out : List ℕ) → teller L .answer s t (length out) .number ≡ 0 → wrote (teller L) s t out ≡ differencesText L s t
+text-wrote : (L : Limits) (s t out : List ℕ) → teller L .answer s t (length out) .number ≡ 0 → linesWritten (teller L) s t out ≡ differencesText L s t
 text-wrote L s t out e =
     let w = accepted-writes-its-text (differencesCheck L s t) (differencesText L s t) out e in
     ap (λ (k : ℕ). take k (teller L .room s t out)) (w .long) ∙ w .front

@@ -10,15 +10,15 @@ use Rattle.board_builder.specs.BoardBuilder.{recordSize}
 use Rattle.game_rules.specs.Limits.{Limits}
 use Rattle.differences_text.specs.Calls.{differencesText, differencesAnswer}
 
-abbrev pub fewest : Limits
-fewest = record { most-actions = 2; most-moves = 2 }
+abbrev pub twoOfEach : Limits
+twoOfEach = record { most-actions = 2; most-moves = 2 }
 
 abbrev pub tells : List ℕ → List ℕ → List ℕ
-tells s t = differencesText fewest s t
+tells s t = differencesText twoOfEach s t
 
 -- a line and its newline
-abbrev pub ended : List ℕ → List ℕ
-ended line = line ++ (10 ∷ [])
+abbrev pub withNewline : List ℕ → List ℕ
+withNewline line = line ++ (10 ∷ [])
 
 -- the roll of the empty record with number i changed to x and no action, and that of the empty record with some actions
 abbrev pub with : ℕ → ℕ → List ℕ
@@ -32,23 +32,23 @@ doing acts = replicate recordSize 0 ++ acts
 
 pub record LinesAtSmallest : Type 0 where
   -- "squares that differ on e4 print `28 1 0`"
-  pub on-e4 : tells (with 28 1) plain ≡ ended (ascii "28 1 0")
-  pub side : tells plain (with 64 1) ≡ ended (ascii "side 0 1")
-  pub white : tells (with 65 3) plain ≡ ended (ascii "white 3 0")
-  pub black : tells (with 66 2) plain ≡ ended (ascii "black 2 0")
-  pub file : tells plain (with 67 8) ≡ ended (ascii "ep 0 8")
-  pub in-order : tells (with 0 12) (with 67 1) ≡ ended (ascii "0 12 0") ++ ended (ascii "ep 0 1")
+  pub on-e4 : tells (with 28 1) plain ≡ withNewline (ascii "28 1 0")
+  pub side : tells plain (with 64 1) ≡ withNewline (ascii "side 0 1")
+  pub white : tells (with 65 3) plain ≡ withNewline (ascii "white 3 0")
+  pub black : tells (with 66 2) plain ≡ withNewline (ascii "black 2 0")
+  pub file : tells plain (with 67 8) ≡ withNewline (ascii "ep 0 8")
+  pub in-order : tells (with 0 12) (with 67 1) ≡ withNewline (ascii "0 12 0") ++ withNewline (ascii "ep 0 1")
   pub equal : tells (doing (1 ∷ 4 ∷ [])) (doing (1 ∷ 4 ∷ [])) ≡ []
   -- an offer by white, 4, and then move 300, 2 + 16 × 300; where both actions differ the first is told
-  pub an-action : tells (doing (2 ∷ 4 ∷ 2 ∷ 172 ∷ 2 ∷ [])) (doing (2 ∷ 4 ∷ 6 ∷ [])) ≡ ended (ascii "action 1 4802 6")
-  pub the-first : tells (doing (2 ∷ 4 ∷ 5 ∷ [])) (doing (2 ∷ 5 ∷ 4 ∷ [])) ≡ ended (ascii "action 0 4 5")
+  pub an-action : tells (doing (2 ∷ 4 ∷ 2 ∷ 172 ∷ 2 ∷ [])) (doing (2 ∷ 4 ∷ 6 ∷ [])) ≡ withNewline (ascii "action 1 4802 6")
+  pub the-first : tells (doing (2 ∷ 4 ∷ 5 ∷ [])) (doing (2 ∷ 5 ∷ 4 ∷ [])) ≡ withNewline (ascii "action 0 4 5")
   -- one game's actions are the front of the other's: "0 if there is none"
-  pub none-in-second : tells (doing (2 ∷ 4 ∷ 5 ∷ [])) (doing (1 ∷ 4 ∷ [])) ≡ ended (ascii "action 1 5 0")
-  pub none-in-first : tells plain (doing (1 ∷ 2 ∷ 0 ∷ [])) ≡ ended (ascii "action 0 0 2")
+  pub none-in-second : tells (doing (2 ∷ 4 ∷ 5 ∷ [])) (doing (1 ∷ 4 ∷ [])) ≡ withNewline (ascii "action 1 5 0")
+  pub none-in-first : tells plain (doing (1 ∷ 2 ∷ 0 ∷ [])) ≡ withNewline (ascii "action 0 0 2")
 
 -- the first roll is cut short, 17, and the second has a number over its bound, 5
 pub record RefusalsAtSmallest : Type 0 where
-  pub first-roll-first : differencesAnswer fewest [] (13 ∷ []) 0 ≡ refused badRoll
-  pub then-the-second : differencesAnswer fewest plain (13 ∷ []) 0 ≡ refused outOfRange
-  pub then-7 : differencesAnswer fewest (with 28 1) plain 6 ≡ tooShort 7
-  pub accepted : differencesAnswer fewest (with 28 1) plain 7 ≡ accepted 7
+  pub first-roll-first : differencesAnswer twoOfEach [] (13 ∷ []) 0 ≡ refused badRoll
+  pub then-the-second : differencesAnswer twoOfEach plain (13 ∷ []) 0 ≡ refused outOfRange
+  pub then-7 : differencesAnswer twoOfEach (with 28 1) plain 6 ≡ tooShort 7
+  pub accepted : differencesAnswer twoOfEach (with 28 1) plain 7 ≡ accepted 7

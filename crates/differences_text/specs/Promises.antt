@@ -30,8 +30,8 @@ teller L =
     }
 
 -- the bytes that it wrote: as many from the front of its room as its value says
-abbrev pub wrote : Teller → List ℕ → List ℕ → List ℕ → List ℕ
-wrote c s t out = take (c .answer s t (length out) .value) (c .room s t out)
+abbrev pub linesWritten : Teller → List ℕ → List ℕ → List ℕ → List ℕ
+linesWritten c s t out = take (c .answer s t (length out) .value) (c .room s t out)
 
 -- what the roll reader answers with, in a part that is long enough
 abbrev pub readerNumber : Limits → List ℕ → ℕ
@@ -91,9 +91,9 @@ swapped d = difference (d .key) (d .second) (d .first)
 -- it was
 pub record Tells (c : Teller) (s t out : List ℕ) (xs acts ys others : List ℕ) : Type 0 where
   pub lines : Lines xs acts ys others
-  pub text : wrote c s t out ≡ linesText (linesOf lines)
+  pub text : linesWritten c s t out ≡ linesText (linesOf lines)
   pub behind : drop (c .answer s t (length out) .value) (c .room s t out) ≡ drop (c .answer s t (length out) .value) out
-  pub other-way : wrote c t s out ≡ linesText (map swapped (linesOf lines))
+  pub other-way : linesWritten c t s out ≡ linesText (map swapped (linesOf lines))
 
 abbrev pub TellsWhatDiffers : Type 0
 TellsWhatDiffers =

@@ -13,7 +13,7 @@ use lib.Seq.{drop-cons, drop-drop, take-all}
 use Rattle.answer.specs.Numbers.{among}
 use Rattle.answer.proofs.Bounds.{or-none}
 use Rattle.fen_text.specs.Token.{placeOf}
-use Rattle.fen_text.specs.Lines.{lineFeed, lineEnd, ended}
+use Rattle.fen_text.specs.Lines.{lineFeed, lineEnd, endedLines}
 use Rattle.fen_text.proofs.Lines.{ended-parts, none-in-front, place-at-most}
 
 found : (hit : ℕ) (here left : Bool) → not (eqb (bitOr hit (cond here 1 0)) 0) || left ≡ not (eqb hit 0) || (here || left)
@@ -40,17 +40,17 @@ found-end b s hit i h = rw (drop-of-length-le s h) (by (not (eqb hit 0)))
 
 -- ---- newlines counted by blocks: one more block, and what is left at the end
 
-pub counted-turn : (s : List ℕ) (at size k n r : ℕ) → k ≡ size → r ≡ length (ended (take k (drop at s)))
-    → n + length (ended (drop at s)) ≡ length (ended s) → n + r + length (ended (drop (at + size) s)) ≡ length (ended s)
+pub counted-turn : (s : List ℕ) (at size k n r : ℕ) → k ≡ size → r ≡ length (endedLines (take k (drop at s)))
+    → n + length (endedLines (drop at s)) ≡ length (endedLines s) → n + r + length (endedLines (drop (at + size) s)) ≡ length (endedLines s)
 counted-turn s at size k n r e f g =
-    let h : r ≡ length (ended (take size (drop at s))) = f ∙ ap (λ (j : ℕ). length (ended (take j (drop at s)))) e in
+    let h : r ≡ length (endedLines (take size (drop at s))) = f ∙ ap (λ (j : ℕ). length (endedLines (take j (drop at s)))) e in
     omega (arith, ended-parts s at size)
 
-pub counted-end : (s : List ℕ) (at k n r : ℕ) → length s - at ≤ k → r ≡ length (ended (take k (drop at s)))
-    → n + length (ended (drop at s)) ≡ length (ended s) → n + r ≡ length (ended s)
+pub counted-end : (s : List ℕ) (at k n r : ℕ) → length s - at ≤ k → r ≡ length (endedLines (take k (drop at s)))
+    → n + length (endedLines (drop at s)) ≡ length (endedLines s) → n + r ≡ length (endedLines s)
 counted-end s at k n r h f g =
     let all : take k (drop at s) ≡ drop at s = take-all k (drop at s) (rw (length-drop at s) h) in
-    let e : r ≡ length (ended (drop at s)) = f ∙ ap (λ (l : List ℕ). length (ended l)) all in
+    let e : r ≡ length (endedLines (drop at s)) = f ∙ ap (λ (l : List ℕ). length (endedLines l)) all in
     omega arith
 
 -- ---- the first newline: a block that has none is passed over, and in what is left it is looked for byte by byte

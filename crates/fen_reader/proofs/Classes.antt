@@ -13,7 +13,7 @@ use Rattle.answer.specs.Numbers.{between}
 use Rattle.answer.specs.Numbers.{among}
 use Rattle.square.specs.Piece.{pieceOf}
 use Rattle.answer.proofs.Below.{below, agree}
-use Rattle.fen_text.specs.Placement.{signs, isBad}
+use Rattle.fen_text.specs.Placement.{signs, isNoSign}
 use Rattle.fen_reader.specs.CodeClass.{noClass, classOf, noteAll}
 
 -- what a byte is
@@ -79,12 +79,12 @@ unfolding noteAll ascii
 table-long = refl
 
 -- a byte is bad exactly if its class is noClass
-bad-class : (b : ℕ) → b < 256 → isBad b ≡ eqb (classOf b) noClass
+bad-class : (b : ℕ) → b < 256 → isNoSign b ≡ eqb (classOf b) noClass
 unfolding among ascii classOf pieceOf
-bad-class b h = agree isBad (λ (x : ℕ). eqb (classOf x) noClass) 256 tt b h
+bad-class b h = agree isNoSign (λ (x : ℕ). eqb (classOf x) noClass) 256 tt b h
 
-pub class-bad : (b c : ℕ) → b < 256 → c ≡ classOf b → c ≡ noClass → isBad b ≡ true
+pub class-bad : (b c : ℕ) → b < 256 → c ≡ classOf b → c ≡ noClass → isNoSign b ≡ true
 class-bad b c h e r = bad-class b h ∙ eq-eqb _ _ (sym e ∙ r)
 
-pub class-good : (b c : ℕ) → b < 256 → c ≡ classOf b → (c ≡ noClass → ⊥) → isBad b ≡ false
+pub class-good : (b c : ℕ) → b < 256 → c ≡ classOf b → (c ≡ noClass → ⊥) → isNoSign b ≡ false
 class-good b c h e n = bad-class b h ∙ ne-eqb _ _ (λ r. n (e ∙ r))

@@ -18,7 +18,7 @@ use Rattle.board_builder.specs.BoardBuilder.{board}
 use Rattle.fen_text.specs.Token.{tokens}
 use Rattle.fen_text.specs.Placement.{Placement, placement, start, placeByte, placeAll, firstBad}
 use Rattle.fen_text.specs.Read.{sideOf, rightsOf, enPassantOf, refusedAt, fenOf, sided, assembled, readFen}
-use Rattle.fen_text.specs.Faults.{tokenAt}
+use Rattle.fen_text.specs.Faults.{nthToken}
 use Rattle.fen_text.proofs.Cases.{cond-both}
 use Rattle.fen_text.proofs.Faults.{four}
 use Rattle.fen_text.proofs.Placed.{place-append}
@@ -106,10 +106,10 @@ bad-placement s n b c d e = simp e
 -- the same for a text with enough tokens, of which the first was walked
 pub bad-first : (s : List ℕ) (n : ℕ) → NoPlacement s n → 4 ≤ length (tokens s) → readFen s ≡ refusedAt badPlacement (firstBad (take n s))
 bad-first s n h k =
-    let first : tokenAt 0 s ≡ take n s = ap (λ (ts : List (List ℕ)). getD ts 0 []) (first-token s .1) ∙ ap (λ (m : ℕ). take m s) (sym (h .place)) in
+    let first : nthToken 0 s ≡ take n s = ap (λ (ts : List (List ℕ)). getD ts 0 []) (first-token s .1) ∙ ap (λ (m : ℕ). take m s) (sym (h .place)) in
     four s k
-    ∙ ap (λ (t : List ℕ). assembled t (tokenAt 1 s) (tokenAt 2 s) (tokenAt 3 s)) first
-    ∙ bad-placement s n (tokenAt 1 s) (tokenAt 2 s) (tokenAt 3 s) (h .bad)
+    ∙ ap (λ (t : List ℕ). assembled t (nthToken 1 s) (nthToken 2 s) (nthToken 3 s)) first
+    ∙ bad-placement s n (nthToken 1 s) (nthToken 2 s) (nthToken 3 s) (h .bad)
 
 pub good-placement : (s : List ℕ) (n : ℕ) (pieces b c d : List ℕ)
     → n ≤ length s → placeAll start (take n s) .good ≡ true → placeAll start (take n s) .pieces ≡ pieces

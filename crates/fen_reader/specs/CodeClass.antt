@@ -42,7 +42,7 @@ abbrev pub rankNext : ℕ → ℕ → ℕ
 rankNext rank class = cond (eqb class 32) ((rank + 7) % 8) rank
 
 -- the walk over a text: it ends at the first space or with the text, with the pieces of the first token, and tells whether that is a placement
-pub record Walk (s : List ℕ) (r : Walked) : Type 0 where
+pub record PlacementWalk (s : List ℕ) (r : Walked) : Type 0 where
   pub place : r .end ≡ placeOf 32 s
   pub pieces : placeAll start (take (r .end) s) .pieces ≡ r .pieces
   pub good : placeAll start (take (r .end) s) .good ≡ ltb (r .seen) noClass

@@ -5,7 +5,7 @@ ghost use mathlib.Core.Bool.{cond};
 ghost use Prim.Native.Nat.{_<_};
 ghost use lib.ListN.{length};
 ghost use Rattle.answer.specs.Numbers.{among};
-ghost use Rattle.fen_text.specs.Lines.{lineFeed, lineEnd, ended};
+ghost use Rattle.fen_text.specs.Lines.{lineFeed, lineEnd, endedLines};
 ghost use Rattle.fen_text.specs.Page.{lineCount};
 
 const LINE_FEED: u8 = b'\n';
@@ -24,7 +24,7 @@ fn flag(here: bool) -> u8
 
 fn newlines_in(block: &[u8]) -> u8
     requires { ⌜ length (now block) < 256 ⌝ }
-    ensures { λ r. ⌜ r ≡ length (ended (now (block .entry))) ⌝ }
+    ensures { λ r. ⌜ r ≡ length (endedLines (now (block .entry))) ⌝ }
 {
     let mut n: u8 = 0;
     let mut i: usize = 0;
@@ -36,7 +36,7 @@ fn newlines_in(block: &[u8]) -> u8
 }
 
 fn newlines(text: &[u8]) -> usize
-    ensures { λ r. ⌜ r ≡ length (ended (now (text .entry))) ⌝ }
+    ensures { λ r. ⌜ r ≡ length (endedLines (now (text .entry))) ⌝ }
 {
     let mut n: usize = 0;
     let mut at: usize = 0;

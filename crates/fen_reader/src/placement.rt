@@ -3,7 +3,7 @@ ghost use mathlib.Core.Path.{_≡_};
 ghost use Prim.Native.Nat.{_<_};
 ghost use lib.ListN.{set};
 ghost use Rattle.fen_text.specs.Placement.{signs, firstBad};
-ghost use Rattle.fen_reader.specs.CodeClass.{classOf, noteAll, pieceAfter, stepOf, fileNext, rankNext, Walk};
+ghost use Rattle.fen_reader.specs.CodeClass.{classOf, noteAll, pieceAfter, stepOf, fileNext, rankNext, PlacementWalk};
 
 // A byte's class: a piece's code, DIGIT and how many files it adds, SLASH, or REFUSED, a bit that no other class has and that leaves the board as it is.
 const DIGIT: u8 = 16;
@@ -109,7 +109,7 @@ pub struct Walked {
 }
 
 pub(crate) fn place(text: &[u8]) -> Walked
-    ensures { λ r. ⌜ Walk (now (text .entry)) r ⌝ }
+    ensures { λ r. ⌜ PlacementWalk (now (text .entry)) r ⌝ }
 {
     let mut classes = [REFUSED; 256];
     note_all(&mut classes);

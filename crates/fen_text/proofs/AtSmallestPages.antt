@@ -9,12 +9,12 @@ use Rattle.board_builder.specs.BoardBuilder.{numbers}
 use Rattle.fen_text.specs.Token.{onto, joined, tokens, placeAfter, placeWhere}
 use Rattle.fen_text.specs.Placement.{placeByte, placeAll}
 use Rattle.fen_text.specs.Read.{sideOf, rightsOf, sided, assembled, ofTokens, readFen}
-use Rattle.fen_text.specs.Lines.{lines, ontoEnded, endedBy, ended, overLines}
+use Rattle.fen_text.specs.Lines.{lines, ontoEnded, endedLinesBy, endedLines, overLines}
 use Rattle.fen_text.specs.Page.{pageFits, pageAnswer, recordsLeft, toldLeft}
 use Rattle.fen_text.specs.PagesAtSmallest.{LinesAtSmallest, PagesAtSmallest}
 
 pub lines-at-smallest : LinesAtSmallest
-unfolding ascii onto joined lines ontoEnded endedBy ended
+unfolding ascii onto joined lines ontoEnded endedLinesBy endedLines
 lines-at-smallest = record {
   none = refl;
   one-byte = refl;

@@ -22,7 +22,7 @@ use Rattle.fen_text.specs.Token.{tokens, placeAfter, placeWhere, placeOf
 use Rattle.fen_text.specs.Placement.{Placement, start, down, skip, fill, spoil, placeByte, placeAll, signs, firstBad}
 use Rattle.fen_text.specs.Read.{sideOf, refusedAt, fenOf, sided, assembled, ofTokens, readFen}
 use Rattle.fen_text.specs.Base.{noFen, baseAssembled, baseTokens, baseFen}
-use Rattle.fen_text.specs.Faults.{tokenAt, GoodUpTo, TooFew, BadPlacement, NoSide, BadSide}
+use Rattle.fen_text.specs.Faults.{nthToken, GoodUpTo, TooFew, BadPlacement, NoSide, BadSide}
 use Rattle.fen_text.specs.Faults.{EveryTextIsToldWhere, Numbers, accepted, few, placement, side, OneIsNotGiven}
 use Rattle.fen_text.proofs.Tokens.{tokens-last, tokens-next}
 
@@ -198,16 +198,16 @@ enough n (a ∷ b ∷ c ∷ []) h = absurd (omega arith)
 enough n (a ∷ b ∷ c ∷ d ∷ ts) h = refl
 
 -- the second token starts behind the first space
-second-start : (s : List ℕ) → 4 ≤ length (tokens s) → length (tokenAt 0 s) + 1 ≡ placeOf 32 s + 1
+second-start : (s : List ℕ) → 4 ≤ length (tokens s) → length (nthToken 0 s) + 1 ≡ placeOf 32 s + 1
 second-start s h = go (decLe (length s) (placeOf 32 s))
   where
-    go : Dec (length s ≤ placeOf 32 s) → length (tokenAt 0 s) + 1 ≡ placeOf 32 s + 1
+    go : Dec (length s ≤ placeOf 32 s) → length (nthToken 0 s) + 1 ≡ placeOf 32 s + 1
     go (yes k) = absurd (few-one (ap length (tokens-last s k)))
       where
         few-one : length (tokens s) ≡ 1 → ⊥
         few-one e = omega arith
     go (no k) =
-        let first : tokenAt 0 s ≡ take (placeOf 32 s) s = ap (λ (ts : List (List ℕ)). getD ts 0 []) (tokens-next s (omega arith)) in
+        let first : nthToken 0 s ≡ take (placeOf 32 s) s = ap (λ (ts : List (List ℕ)). getD ts 0 []) (tokens-next s (omega arith)) in
         let long : length (take (placeOf 32 s) s) ≡ placeOf 32 s = length-take-le _ _ (omega arith) in
         omega (arith, ap length first, long)
 
@@ -217,7 +217,8 @@ data Case (s : List ℕ) : Type 0 where
   is-few : TooFew s → readFen s ≡ refusedAt tooFewTokens (length s) → Case s
   is-placement : (at : ℕ) → BadPlacement s at → readFen s ≡ refusedAt badPlacement at → Case s
   is-side : (at : ℕ) → BadSide s at → readFen s ≡ refusedAt badSide at → Case s
-  is-good : 4 ≤ length (tokens s) → GoodUpTo (tokenAt 0 s) (length (tokenAt 0 s)) → (NoSide (tokenAt 1 s) → ⊥) → readFen s ≡ fenOf (readFen s .board) → Case s
+  is-good : 4 ≤ length (tokens s) → GoodUpTo (nthToken 0 s) (length (nthToken 0 s)) → (NoSide (nthToken 1 s) → ⊥)
+      → readFen s ≡ fenOf (readFen s .board) → Case s
 
 good-four : (a b c d : List ℕ) → placeAll start a .good ≡ true → ltb (sideOf b) 2 ≡ true → assembled a b c d ≡ fenOf (assembled a b c d .board)
 unfolding assembled sided
@@ -227,25 +228,25 @@ is-fen : {f g : Fen} → f ≡ g → g ≡ fenOf (g .board) → f ≡ fenOf (f .
 is-fen e h = rw e h
 
 module _ (s : List ℕ) (h : 4 ≤ length (tokens s)) where
-  pub four : readFen s ≡ assembled (tokenAt 0 s) (tokenAt 1 s) (tokenAt 2 s) (tokenAt 3 s)
+  pub four : readFen s ≡ assembled (nthToken 0 s) (nthToken 1 s) (nthToken 2 s) (nthToken 3 s)
   unfolding readFen
   four = enough (length s) (tokens s) h
 
-  by-side : (t : Bool) → ltb (sideOf (tokenAt 1 s)) 2 ≡ t → placeAll start (tokenAt 0 s) .good ≡ true → GoodUpTo (tokenAt 0 s) (length (tokenAt 0 s))
+  by-side : (t : Bool) → ltb (sideOf (nthToken 1 s)) 2 ≡ t → placeAll start (nthToken 0 s) .good ≡ true → GoodUpTo (nthToken 0 s) (length (nthToken 0 s))
       → Case s
   unfolding assembled sided
   by-side true e f g =
-      is-good h g (some-side (tokenAt 1 s) e) (is-fen four (good-four (tokenAt 0 s) (tokenAt 1 s) (tokenAt 2 s) (tokenAt 3 s) f e))
+      is-good h g (some-side (nthToken 1 s) e) (is-fen four (good-four (nthToken 0 s) (nthToken 1 s) (nthToken 2 s) (nthToken 3 s) f e))
   by-side false e f g =
-      is-side (length (tokenAt 0 s) + 1)
-      (record { enough = h; good = g; side = no-side (tokenAt 1 s) e; start = second-start s h })
+      is-side (length (nthToken 0 s) + 1)
+      (record { enough = h; good = g; side = no-side (nthToken 1 s) e; start = second-start s h })
       (four ∙ simp (f, e))
 
-  by-placement : Judged start (tokenAt 0 s) → Case s
+  by-placement : Judged start (nthToken 0 s) → Case s
   unfolding assembled
-  by-placement (sound f g) = by-side (ltb (sideOf (tokenAt 1 s)) 2) refl f g
+  by-placement (sound f g) = by-side (ltb (sideOf (nthToken 1 s)) 2) refl f g
   by-placement (broken f at) =
-      is-placement (firstBad (tokenAt 0 s))
+      is-placement (firstBad (nthToken 0 s))
       (record { enough = h; within = at .within; bad = at .bad; none-before = at .none-before })
       (four ∙ simp f)
 
@@ -257,7 +258,7 @@ case : (s : List ℕ) → Case s
 case s = go (decLe 4 (length (tokens s)))
   where
     go : Dec (4 ≤ length (tokens s)) → Case s
-    go (yes h) = by-placement s h (judge start (tokenAt 0 s) refl)
+    go (yes h) = by-placement s h (judge start (nthToken 0 s) refl)
     go (no n) = is-few (omega arith) (few-read s (omega arith))
 
 -- ---- each sentence against the case of the text
@@ -265,7 +266,7 @@ case s = go (decLe 4 (length (tokens s)))
 number : {f g : Fen} → f ≡ g → f .number ≡ g .number
 number e = ap (λ (x : Fen). x .number) e
 
-first-of : {s : List ℕ} {at : ℕ} → BadPlacement s at → FirstAt (tokenAt 0 s) at
+first-of : {s : List ℕ} {at : ℕ} → BadPlacement s at → FirstAt (nthToken 0 s) at
 first-of b = record { within = b .within; bad = b .bad; none-before = b .none-before }
 
 said-few : {s : List ℕ} → Case s → TooFew s → readFen s ≡ refusedAt tooFewTokens (length s)
@@ -282,9 +283,9 @@ few-said (is-good l g n e) z = absurd (omega (arith, number e))
 
 said-placement : {s : List ℕ} → Case s → (at : ℕ) → BadPlacement s at → readFen s ≡ refusedAt badPlacement at
 said-placement (is-few t e) at b = absurd (omega (arith, b .enough))
-said-placement {s} (is-placement at' b' e) at b = e ∙ ap (refusedAt badPlacement) (one-first (tokenAt 0 s) at' at (first-of b') (first-of b))
-said-placement {s} (is-side at' b' e) at b = absurd (no-first (tokenAt 0 s) at (first-of b) (b' .good))
-said-placement {s} (is-good l g n e) at b = absurd (no-first (tokenAt 0 s) at (first-of b) g)
+said-placement {s} (is-placement at' b' e) at b = e ∙ ap (refusedAt badPlacement) (one-first (nthToken 0 s) at' at (first-of b') (first-of b))
+said-placement {s} (is-side at' b' e) at b = absurd (no-first (nthToken 0 s) at (first-of b) (b' .good))
+said-placement {s} (is-good l g n e) at b = absurd (no-first (nthToken 0 s) at (first-of b) g)
 
 placement-said : {s : List ℕ} → Case s → readFen s .number ≡ badPlacement → BadPlacement s (readFen s .offset)
 placement-said (is-few t e) z = absurd (omega (arith, number e))
@@ -294,7 +295,7 @@ placement-said (is-good l g n e) z = absurd (omega (arith, number e))
 
 said-side : {s : List ℕ} → Case s → (at : ℕ) → BadSide s at → readFen s ≡ refusedAt badSide at
 said-side (is-few t e) at b = absurd (omega (arith, b .enough))
-said-side {s} (is-placement at' b' e) at b = absurd (no-first (tokenAt 0 s) at' (first-of b') (b .good))
+said-side {s} (is-placement at' b' e) at b = absurd (no-first (nthToken 0 s) at' (first-of b') (b .good))
 said-side {s} (is-side at' b' e) at b = e ∙ ap (refusedAt badSide) (b' .start ∙ sym (b .start))
 said-side {s} (is-good l g n e) at b = absurd (n (b .side))
 

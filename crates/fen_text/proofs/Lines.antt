@@ -14,7 +14,7 @@ use Rattle.answer.specs.Numbers.{among}
 use Rattle.answer.proofs.Numbers.{or-left, or-right}
 use Rattle.fen_text.specs.Token.{placeAfter, placeWhere, placeOf, onto, joined}
 use Rattle.fen_text.proofs.Cases.{cond-both}
-use Rattle.fen_text.specs.Lines.{lineFeed, lines, ontoEnded, endedBy, ended, overLines}
+use Rattle.fen_text.specs.Lines.{lineFeed, lines, ontoEnded, endedLinesBy, endedLines, overLines}
 
 -- ---- the first line, and those past it
 
@@ -43,78 +43,80 @@ lines-from s at end h e =
 
 -- those that a newline ends: the first of them, or none
 ended-step : (t : Bool) (x k : ℕ) (s : List ℕ)
-    → (k < length s → ended s ≡ take k s ∷ ended (drop (suc k) s))
+    → (k < length s → endedLines s ≡ take k s ∷ endedLines (drop (suc k) s))
     → placeAfter t k < suc (length s)
-    → endedBy t x (ended s) ≡ take (placeAfter t k) (x ∷ s) ∷ ended (drop (suc (placeAfter t k)) (x ∷ s))
-unfolding placeAfter endedBy ontoEnded
+    → endedLinesBy t x (endedLines s) ≡ take (placeAfter t k) (x ∷ s) ∷ endedLines (drop (suc (placeAfter t k)) (x ∷ s))
+unfolding placeAfter endedLinesBy ontoEnded
 ended-step true x k s f h = refl
 ended-step false x k s f h = ap (ontoEnded x) (f (omega arith))
 
-pub ended-next : (s : List ℕ) → placeOf lineFeed s < length s → ended s ≡ take (placeOf lineFeed s) s ∷ ended (drop (suc (placeOf lineFeed s)) s)
-unfolding placeWhere ended
+pub ended-next : (s : List ℕ) → placeOf lineFeed s < length s → endedLines s ≡ take (placeOf lineFeed s) s ∷ endedLines (drop (suc (placeOf lineFeed s)) s)
+unfolding placeWhere endedLines
 ended-next [] h = absurd (omega arith)
 ended-next (x ∷ s) h = ended-step (eqb x lineFeed) x (placeOf lineFeed s) s (ended-next s) h
 
-none-step : (t : Bool) (x k n : ℕ) (ls : List (List ℕ)) → (n ≤ k → ls ≡ []) → suc n ≤ placeAfter t k → endedBy t x ls ≡ []
-unfolding placeAfter endedBy ontoEnded
+none-step : (t : Bool) (x k n : ℕ) (ls : List (List ℕ)) → (n ≤ k → ls ≡ []) → suc n ≤ placeAfter t k → endedLinesBy t x ls ≡ []
+unfolding placeAfter endedLinesBy ontoEnded
 none-step true x k n ls f h = absurd (omega arith)
 none-step false x k n ls f h = ap (ontoEnded x) (f (omega arith))
 
-pub ended-none : (s : List ℕ) → length s ≤ placeOf lineFeed s → ended s ≡ []
-unfolding placeWhere ended
+pub ended-none : (s : List ℕ) → length s ≤ placeOf lineFeed s → endedLines s ≡ []
+unfolding placeWhere endedLines
 ended-none [] h = refl
-ended-none (x ∷ s) h = none-step (eqb x lineFeed) x (placeOf lineFeed s) (length s) (ended s) (ended-none s) h
+ended-none (x ∷ s) h = none-step (eqb x lineFeed) x (placeOf lineFeed s) (length s) (endedLines s) (ended-none s) h
 
 -- ---- how many: those that are ended, counted from the front, and one more if the last byte is not a newline
 
-length-ended : (t : Bool) (x : ℕ) (ls : List (List ℕ)) → length (endedBy t x ls) ≡ cond t 1 0 + length ls
-unfolding endedBy ontoEnded
+length-ended : (t : Bool) (x : ℕ) (ls : List (List ℕ)) → length (endedLinesBy t x ls) ≡ cond t 1 0 + length ls
+unfolding endedLinesBy ontoEnded
 length-ended true x ls = omega arith
 length-ended false x [] = refl
 length-ended false x (l ∷ ls) = omega arith
 
-pub ended-turn : (s : List ℕ) (i : ℕ) → i < length s → length (ended (drop i s)) ≡ cond (eqb (getD s i 0) lineFeed) 1 0 + length (ended (drop (i + 1) s))
-unfolding ended
-ended-turn s i h = rw (add-one i, drop-cons s i 0 h) (length-ended (eqb (getD s i 0) lineFeed) (getD s i 0) (ended (drop (suc i) s)))
+pub ended-turn : (s : List ℕ) (i : ℕ) → i < length s
+    → length (endedLines (drop i s)) ≡ cond (eqb (getD s i 0) lineFeed) 1 0 + length (endedLines (drop (i + 1) s))
+unfolding endedLines
+ended-turn s i h = rw (add-one i, drop-cons s i 0 h) (length-ended (eqb (getD s i 0) lineFeed) (getD s i 0) (endedLines (drop (suc i) s)))
 
-pub ended-end : (s : List ℕ) (i : ℕ) → length s ≤ i → length (ended (drop i s)) ≡ 0
-unfolding ended
+pub ended-end : (s : List ℕ) (i : ℕ) → length s ≤ i → length (endedLines (drop i s)) ≡ 0
+unfolding endedLines
 ended-end s i h = rw (drop-of-length-le s h)
 
 -- for two texts one after the other, and for a text taken in parts
-ended-both : (a b : List ℕ) → length (ended (a ++ b)) ≡ length (ended a) + length (ended b)
-unfolding ended
+ended-both : (a b : List ℕ) → length (endedLines (a ++ b)) ≡ length (endedLines a) + length (endedLines b)
+unfolding endedLines
 ended-both [] b = omega arith
 ended-both (x ∷ a) b =
-    length-ended (eqb x lineFeed) x (ended (a ++ b))
-    ∙ omega (arith, ended-both a b, length-ended (eqb x lineFeed) x (ended a))
+    length-ended (eqb x lineFeed) x (endedLines (a ++ b))
+    ∙ omega (arith, ended-both a b, length-ended (eqb x lineFeed) x (endedLines a))
 
-pub ended-parts : (s : List ℕ) (i n : ℕ) → length (ended (drop i s)) ≡ length (ended (take n (drop i s))) + length (ended (drop (i + n) s))
+pub ended-parts : (s : List ℕ) (i n : ℕ) → length (endedLines (drop i s)) ≡ length (endedLines (take n (drop i s))) + length (endedLines (drop (i + n) s))
 ended-parts s i n =
-    ap (λ (l : List ℕ). length (ended l)) (sym (take-append-drop n (drop i s)))
+    ap (λ (l : List ℕ). length (endedLines l)) (sym (take-append-drop n (drop i s)))
     ∙ ended-both (take n (drop i s)) (drop n (drop i s))
-    ∙ ap (λ (l : List ℕ). length (ended (take n (drop i s))) + length (ended l)) (drop-drop n i s)
+    ∙ ap (λ (l : List ℕ). length (endedLines (take n (drop i s))) + length (endedLines l)) (drop-drop n i s)
 
-last-one : (t : Bool) (x : ℕ) → length (joined t x []) ≡ length (endedBy t x []) + cond t 0 1
-unfolding joined onto endedBy ontoEnded
+last-one : (t : Bool) (x : ℕ) → length (joined t x []) ≡ length (endedLinesBy t x []) + cond t 0 1
+unfolding joined onto endedLinesBy ontoEnded
 last-one true x = refl
 last-one false x = refl
 
 -- a line that is there is joined, and none is added
-joined-more : (t : Bool) (x n : ℕ) (ls es : List (List ℕ)) → 0 < length ls → length ls ≡ length es + n → length (joined t x ls) ≡ length (endedBy t x es) + n
+joined-more : (t : Bool) (x n : ℕ) (ls es : List (List ℕ)) → 0 < length ls → length ls ≡ length es + n
+    → length (joined t x ls) ≡ length (endedLinesBy t x es) + n
 unfolding joined onto
-joined-more true x n ls es h e = let z : length (endedBy true x es) ≡ 1 + length es = length-ended true x es in omega arith
+joined-more true x n ls es h e = let z : length (endedLinesBy true x es) ≡ 1 + length es = length-ended true x es in omega arith
 joined-more false x n [] es h e = absurd (omega arith)
-joined-more false x n (l ∷ ls) es h e = let z : length (endedBy false x es) ≡ 0 + length es = length-ended false x es in omega arith
+joined-more false x n (l ∷ ls) es h e = let z : length (endedLinesBy false x es) ≡ 0 + length es = length-ended false x es in omega arith
 
 some-lines : (s : List ℕ) → 0 < length s → 0 < length (lines s)
 some-lines s h = let e = ap length (lines-next s h) in omega (arith, e)
 
-pub count-lines : (x : ℕ) (s : List ℕ) → length (lines (x ∷ s)) ≡ length (ended (x ∷ s)) + cond (eqb (getD (x ∷ s) (length s) 0) lineFeed) 0 1
-unfolding lines ended
+pub count-lines : (x : ℕ) (s : List ℕ) → length (lines (x ∷ s)) ≡ length (endedLines (x ∷ s)) + cond (eqb (getD (x ∷ s) (length s) 0) lineFeed) 0 1
+unfolding lines endedLines
 count-lines x [] = last-one (eqb x lineFeed) x
 count-lines x (y ∷ s) =
-    joined-more (eqb x lineFeed) x (cond (eqb (getD (y ∷ s) (length s) 0) lineFeed) 0 1) (lines (y ∷ s)) (ended (y ∷ s))
+    joined-more (eqb x lineFeed) x (cond (eqb (getD (y ∷ s) (length s) 0) lineFeed) 0 1) (lines (y ∷ s)) (endedLines (y ∷ s))
     (some-lines (y ∷ s) (omega arith))
     (count-lines y s)
 
@@ -131,18 +133,18 @@ lines-at-most [] = omega arith
 lines-at-most (x ∷ s) = at-most-one (eqb x lineFeed) x (length s) (lines s) (lines-at-most s)
 
 -- the same for a text that is not empty, by its last byte
-pub count-by-last : (s : List ℕ) → 0 < length s → length (lines s) ≡ length (ended s) + cond (eqb (getD s (length s - 1) 0) lineFeed) 0 1
+pub count-by-last : (s : List ℕ) → 0 < length s → length (lines s) ≡ length (endedLines s) + cond (eqb (getD s (length s - 1) 0) lineFeed) 0 1
 count-by-last [] h = absurd (omega arith)
 count-by-last (x ∷ s) h =
     let e : length s ≡ suc (length s) - 1 = omega arith in
     rw (← e) (count-lines x s)
 
-pub ended-at-most : (s : List ℕ) → length (ended s) ≤ length s
-unfolding ended
+pub ended-at-most : (s : List ℕ) → length (endedLines s) ≤ length s
+unfolding endedLines
 ended-at-most [] = omega arith
 ended-at-most (x ∷ s) =
     let one : cond (eqb x lineFeed) 1 0 ≤ 1 = cond-both (λ (n : ℕ). n ≤ 1) (eqb x lineFeed) (omega arith) (omega arith) in
-    omega (arith, length-ended (eqb x lineFeed) x (ended s), ended-at-most s)
+    omega (arith, length-ended (eqb x lineFeed) x (endedLines s), ended-at-most s)
 
 -- ---- the first newline, looked for by blocks
 

@@ -14,8 +14,8 @@ use Rattle.fen_text.specs.Read.{readFen, refusedAt, fenOf}
 use Rattle.fen_text.specs.Base.{baseFen}
 
 -- the first token is the placement, the second the side
-abbrev pub tokenAt : ℕ → List ℕ → List ℕ
-tokenAt k s = getD (tokens s) k []
+abbrev pub nthToken : ℕ → List ℕ → List ℕ
+nthToken k s = getD (tokens s) k []
 
 -- each byte before a place may stand in a placement
 abbrev pub GoodUpTo : List ℕ → ℕ → Type 0
@@ -28,9 +28,9 @@ TooFew s = length (tokens s) < 4
 -- "a bad placement byte (its place)": enough tokens, and a byte that may not stand in a placement, with no such byte before it
 pub record BadPlacement (s : List ℕ) (at : ℕ) : Type 0 where
   pub enough : 4 ≤ length (tokens s)
-  pub within : at < length (tokenAt 0 s)
-  pub bad : among (getD (tokenAt 0 s) at 0) signs ≡ false
-  pub none-before : GoodUpTo (tokenAt 0 s) at
+  pub within : at < length (nthToken 0 s)
+  pub bad : among (getD (nthToken 0 s) at 0) signs ≡ false
+  pub none-before : GoodUpTo (nthToken 0 s) at
 
 -- a token that is none of the four
 pub record NoSide (token : List ℕ) : Type 0 where
@@ -42,8 +42,8 @@ pub record NoSide (token : List ℕ) : Type 0 where
 -- "a bad side token (its start)": enough tokens, a good placement, and a side token other than the four, which starts behind the first space
 pub record BadSide (s : List ℕ) (at : ℕ) : Type 0 where
   pub enough : 4 ≤ length (tokens s)
-  pub good : GoodUpTo (tokenAt 0 s) (length (tokenAt 0 s))
-  pub side : NoSide (tokenAt 1 s)
+  pub good : GoodUpTo (nthToken 0 s) (length (nthToken 0 s))
+  pub side : NoSide (nthToken 1 s)
   pub start : at ≡ placeOf 32 s + 1
 
 -- what is said about a text

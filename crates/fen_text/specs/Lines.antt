@@ -25,16 +25,16 @@ unfoldable pub ontoEnded : ℕ → List (List ℕ) → List (List ℕ)
 ontoEnded b [] = []
 ontoEnded b (l ∷ ls) = (b ∷ l) ∷ ls
 
-unfoldable pub endedBy : Bool → ℕ → List (List ℕ) → List (List ℕ)
+unfoldable pub endedLinesBy : Bool → ℕ → List (List ℕ) → List (List ℕ)
 unfolding ontoEnded
-endedBy true b ls = [] ∷ ls
-endedBy false b ls = ontoEnded b ls
+endedLinesBy true b ls = [] ∷ ls
+endedLinesBy false b ls = ontoEnded b ls
 
 -- those of them that a newline ends
-unfoldable pub ended : List ℕ → List (List ℕ)
-unfolding endedBy
-ended [] = []
-ended (x ∷ xs) = endedBy (eqb x lineFeed) x (ended xs)
+unfoldable pub endedLines : List ℕ → List (List ℕ)
+unfolding endedLinesBy
+endedLines [] = []
+endedLines (x ∷ xs) = endedLinesBy (eqb x lineFeed) x (endedLines xs)
 
 -- what is said about each line, one after the other
 unfoldable pub overLines : (List ℕ → List ℕ) → List (List ℕ) → List ℕ

@@ -6,7 +6,7 @@ use mathlib.Core.List.{List, [], _∷_, _++_}
 use lib.ListN.{replicate}
 use Rattle.answer.specs.Answer.{accepted, tooShort}
 use Rattle.answer.specs.Ascii.{ascii}
-use Rattle.fen_text.specs.Lines.{lines, ended}
+use Rattle.fen_text.specs.Lines.{lines, endedLines}
 use Rattle.fen_text.specs.Page.{pageAnswer, recordsLeft, toldLeft}
 
 -- a room of n numbers, each 9
@@ -23,7 +23,7 @@ pub record LinesAtSmallest : Type 0 where
   pub ended-line : lines (ascii "8\n") ≡ ascii "8" ∷ []
   pub newline-alone : lines (ascii "\n") ≡ [] ∷ []
   pub empty-between : lines (ascii "8\n\n8") ≡ ascii "8" ∷ [] ∷ ascii "8" ∷ []
-  pub unended-left-out : ended (ascii "8\n\n8") ≡ ascii "8" ∷ [] ∷ []
+  pub unended-left-out : endedLines (ascii "8\n\n8") ≡ ascii "8" ∷ [] ∷ []
 
 pub record PagesAtSmallest : Type 0 where
   pub two : pageAnswer twoLines 136 4 ≡ accepted 2

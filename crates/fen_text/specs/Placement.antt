@@ -57,9 +57,9 @@ placeAll p (b ∷ bs) = placeAll (placeByte p b) bs
 abbrev pub signs : List ℕ
 signs = ascii "/12345678PNBRQKpnbrqk"
 
-abbrev pub isBad : ℕ → Bool
-isBad b = not (among b signs)
+abbrev pub isNoSign : ℕ → Bool
+isNoSign b = not (among b signs)
 
 -- the place of the first byte that may not stand in a placement, or the token's length if there is none
 abbrev pub firstBad : List ℕ → ℕ
-firstBad token = placeWhere isBad token
+firstBad token = placeWhere isNoSign token

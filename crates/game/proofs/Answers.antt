@@ -16,7 +16,7 @@ use Rattle.answer.proofs.Numbers.{both-left, both-right}
 use Rattle.answer.proofs.Parts.{length-item}
 use Rattle.chess_move.specs.Number.{lastMove}
 use Rattle.board_builder.specs.BoardBuilder.{recordSize, numbersInRange}
-use Rattle.board_after.proofs.Records.{record-long}
+use Rattle.move_rules.proofs.Records.{record-long}
 use Rattle.move_list.proofs.Listed.{listed-in-range}
 use Rattle.action.specs.declared.Action.{Action}
 use Rattle.action.specs.declared.Action.the-variants.{MakeMove, OfferDraw, AcceptDraw, DeclareDraw, Resign}

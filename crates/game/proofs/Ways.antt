@@ -16,7 +16,7 @@ use Rattle.answer.proofs.Numbers.{both-right}
 use Rattle.board_builder.specs.declared.BoardBuilder.{BoardBuilder}
 use Rattle.board_builder.specs.BoardBuilder.{squares, recordSize, sideAt, numbers}
 use Rattle.chess_move.specs.Number.{moveOf}
-use Rattle.board_after.specs.Leads.{leadsToBoard}
+use Rattle.move_rules.specs.Leads.{leadsToBoard}
 use Rattle.board_after.proofs.Tests.{from-record}
 use Rattle.action.specs.declared.Action.{Action}
 use Rattle.action.specs.declared.Action.the-variants.{MakeMove}
@@ -32,7 +32,7 @@ use Rattle.game_rules.specs.Limits.{limits, actionsLength, positionsLength}
 use Rattle.game_rules.specs.Rules.{makeMove, unless, comesAfter, firstRefusal, result, ended, claimStands}
 use Rattle.game_rules.specs.Good.{historyOf}
 use Rattle.game_rules.specs.Calls.{longEnough, logCheck, callAnswer, startAnswer, resultAnswer, claimAnswer, counts, countsAfter, actionsAfter}
-use Rattle.game_rules.specs.Calls.{positionsAfter, positionsBegun, told}
+use Rattle.game_rules.specs.Calls.{positionsAfter, positionsBegun, acceptedUnless}
 use Rattle.good_log.specs.CodeSteps.{otherCheck}
 use Rattle.game_rules.proofs.Checks.{first-refuses, first-passes, start-says}
 use Rattle.game_rules.proofs.Log.{result-is}
@@ -102,10 +102,10 @@ module _ (a x : ℕ) (ps : List ℕ) (p : Position) (r : Counts) (e : x ≡ a) w
 
 -- a query whose log was answered a
 module _ (a x v : ℕ) (r : Answer) (e : x ≡ a) where
-  pub told-refused : (x ≡ 0 → ⊥) → r ≡ refused x → r ≡ told a v
+  pub told-refused : (x ≡ 0 → ⊥) → r ≡ refused x → r ≡ acceptedUnless a v
   told-refused some given = rw (ne-eqb a 0 (λ z. some (e ∙ z))) (given ∙ ap refused e)
 
-  pub told-value : x ≡ 0 → r ≡ accepted v → r ≡ told a v
+  pub told-value : x ≡ 0 → r ≡ accepted v → r ≡ acceptedUnless a v
   told-value z given = rw (sym e ∙ z) given
 
 -- 16, 9, 10

@@ -4,8 +4,8 @@ use mathlib.Core.Path.{refl}
 use Rattle.answer.specs.Numbers.{same, allAtMost, among}
 use Rattle.square.specs.Piece.{kindOf}
 use Rattle.board_builder.specs.BoardBuilder.{numbers, inRange, numbersInRange}
-use Rattle.board_after.specs.After.{castles, rookMoved, takesInPassing, pawnRemoved, setDown, squaresAfter, rightsWithout, rightsAfter}
-use Rattle.board_after.specs.After.{twoApart, stepsTwice, fileAfter, afterParts, recordAfter}
+use Rattle.move_rules.specs.After.{castles, rookMoved, takesInPassing, pawnRemoved, setDown, squaresAfter, rightsWithout, rightsAfter}
+use Rattle.move_rules.specs.After.{twoApart, stepsTwice, fileAfter, afterParts, recordAfter}
 use Rattle.move_list.specs.MoveList.{listInRange}
 use Rattle.actions.specs.Part.{movesIn}
 use Rattle.position.specs.Layout.{movesFrom, positionOf}

@@ -26,7 +26,7 @@ use Rattle.game_rules.specs.Limits.{Limits, actionsLength, positionsLeng
 use Rattle.game_rules.specs.Rules.{History, begun, after, offerDraw, resign, current, actions, moves, lastMade, result, firstRefusal, answer}
 use Rattle.game_rules.specs.Good.{Accepted, actionPart, positionPart, Holding, callAt, historyOf, nextSound, sound, isGood}
 use Rattle.game_rules.specs.Calls.{logCheck, callAnswer, counts, countsAfter, actionsAfter, positionsAfter}
-use Rattle.game_rules.specs.Calls.{startAnswer, positionsBegun, told, resultAnswer}
+use Rattle.game_rules.specs.Calls.{startAnswer, positionsBegun, acceptedUnless, resultAnswer}
 use Rattle.game_rules.specs.Promises.{Left, called, started, GoodLeft, FirstOnlyIsHollow, CountingOnIsNotGood, SameCountsKeepGood}
 use Rattle.game_rules.proofs.Checks.{log-says}
 use Rattle.game_rules.proofs.Decide.{good-is-decided}
@@ -91,7 +91,7 @@ not-stored k m g =
     omega arith
 
 -- a query that is answered 0 passed the log's checks, so its counts are within the limits
-told-passed : (a v : ℕ) → told a v .number ≡ 0 → a ≡ 0
+told-passed : (a v : ℕ) → acceptedUnless a v .number ≡ 0 → a ≡ 0
 told-passed a v e = go (eqb a 0) refl
   where
     go : (t : Bool) → eqb a 0 ≡ t → a ≡ 0

@@ -54,13 +54,13 @@ unfoldable pub positionsBegun : ℕ → List ℕ → Position → List ℕ
 positionsBegun a ps p = cond (eqb a 0) (written ps 0 (positionBytes p)) ps
 
 -- the queries: 16 and 9 alone are refusals
-abbrev pub told : ℕ → ℕ → Answer
-told a value = cond (eqb a 0) (accepted value) (refused a)
+abbrev pub acceptedUnless : ℕ → ℕ → Answer
+acceptedUnless a value = cond (eqb a 0) (accepted value) (refused a)
 
 unfoldable pub resultAnswer : Limits → List ℕ → List ℕ → ℕ → ℕ → Answer
-resultAnswer L acts ps n m = told (logCheck L acts ps n m) (result (historyOf acts ps n))
+resultAnswer L acts ps n m = acceptedUnless (logCheck L acts ps n m) (result (historyOf acts ps n))
 
 -- no claim stands once the game has ended
 unfoldable pub claimAnswer : Limits → List ℕ → List ℕ → ℕ → ℕ → Answer
 claimAnswer L acts ps n m =
-    told (logCheck L acts ps n m) (cond (not (ended (historyOf acts ps n)) && claimStands (historyOf acts ps n)) 1 0)
+    acceptedUnless (logCheck L acts ps n m) (cond (not (ended (historyOf acts ps n)) && claimStands (historyOf acts ps n)) 1 0)

@@ -8,7 +8,7 @@ use Prim.Native.Nat.{ℕ, suc, _+_, _*_}
 use lib.Dec.{eqb}
 use lib.ListN.{take}
 use Rattle.answer.specs.Answer.{accepted}
-use Rattle.board_after.specs.After.{recordAfter}
+use Rattle.move_rules.specs.After.{recordAfter}
 use Rattle.action.specs.Layout.{actionSize}
 use Rattle.position.specs.Layout.{Position, positionSize}
 use Rattle.game_rules.specs.declared.Counts.{Counts}

@@ -7,7 +7,7 @@ use lib.Dec.{eqb, leb, ltb}
 use Rattle.answer.specs.Answer.{notListed, gameOver, wrongSide, wrongRecord, logFull, noOffer, noClaim}
 use Rattle.answer.specs.Numbers.{same, among}
 use Rattle.chess_move.specs.Number.{moveOf}
-use Rattle.board_after.specs.After.{recordAfter}
+use Rattle.move_rules.specs.After.{recordAfter}
 use Rattle.action.specs.declared.Action.{Action}
 use Rattle.action.specs.declared.Action.the-variants.{MakeMove, OfferDraw, AcceptDraw, DeclareDraw, Resign}
 use Rattle.action.specs.declared.Stored.{Stored}
@@ -96,11 +96,11 @@ pub record Ruling : Type 0 where
 abbrev pub countAfter : Position → ℕ → Position → ℕ → ℕ
 countAfter p m q count = cond (emptiesCount p m q) 0 (suc count)
 
-abbrev pub joined : Position → ℕ → Position → List Position → List Position
-joined p m q run = q ∷ cond (emptiesRun p m q) [] run
+abbrev pub runJoined : Position → ℕ → Position → List Position → List Position
+runJoined p m q run = q ∷ cond (emptiesRun p m q) [] run
 
 abbrev pub ruledCall : Ruling → Position → Call → Ruling
-ruledCall r p (makeMove m q) = record { count = countAfter p m q (r .count); run = joined p m q (r .run) }
+ruledCall r p (makeMove m q) = record { count = countAfter p m q (r .count); run = runJoined p m q (r .run) }
 ruledCall r p (offerDraw c) = r
 ruledCall r p acceptDraw = r
 ruledCall r p declareDraw = r

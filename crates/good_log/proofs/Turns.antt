@@ -12,10 +12,10 @@ use Rattle.answer.proofs.Numbers.{both-right}
 use Rattle.answer.proofs.Same.{same-eq}
 use Rattle.board_builder.specs.BoardBuilder.{recordSize, sideAt, numbersInRange}
 use Rattle.chess_move.specs.Number.{lastMove}
-use Rattle.board_after.specs.After.{recordAfter}
-use Rattle.board_after.specs.Leads.{comesFrom, leadsTo}
-use Rattle.board_after.proofs.Ranges.{record-after-in-range, other-side}
-use Rattle.board_after.proofs.Records.{record-long}
+use Rattle.move_rules.specs.After.{recordAfter}
+use Rattle.move_rules.specs.Leads.{comesFrom, leadsTo}
+use Rattle.move_rules.proofs.Ranges.{record-after-in-range, other-side}
+use Rattle.move_rules.proofs.Records.{record-long}
 use Rattle.position.specs.Layout.{Position, side, positionOf}
 use Rattle.position.proofs.Moves.{AllBytes}
 use Rattle.stored_position.specs.Bytes.{positionCheck, isPositionWith}

@@ -12,7 +12,7 @@ use Rattle.board_builder.specs.declared.BoardBuilder.{BoardBuilder}
 use Rattle.menkhodur.proofs.menkhodur_san_read.Kinds as reader
 use Rattle.menkhodur.proofs.menkhodur_san_name.Kinds as namer
 
-pub record Call {n : ℕ} (ps : List (PK n)) (r : RK n) (Learnt : Out n ps r) : Type 0 where
+pub record HostCall {n : ℕ} (ps : List (PK n)) (r : RK n) (Learnt : Out n ps r) : Type 0 where
   pub lifetimes : Lfts n
   pub given : Dens lifetimes ps
   pub result : resT r lifetimes .Denot
@@ -26,7 +26,7 @@ abbrev pub Reading : Type 1
 Reading = Out 2 reader.ps reader.r
 
 abbrev pub ReadCall : Reading → Type 0
-ReadCall Learnt = Call reader.ps reader.r Learnt
+ReadCall Learnt = HostCall reader.ps reader.r Learnt
 
 module _ {Learnt : Reading} where
   abbrev pub readBoard : ReadCall Learnt → BoardBuilder
@@ -47,7 +47,7 @@ abbrev pub Naming : Type 1
 Naming = Out 2 namer.ps namer.r
 
 abbrev pub NameCall : Naming → Type 0
-NameCall Learnt = Call namer.ps namer.r Learnt
+NameCall Learnt = HostCall namer.ps namer.r Learnt
 
 module _ {Learnt : Naming} where
   abbrev pub nameBoard : NameCall Learnt → BoardBuilder

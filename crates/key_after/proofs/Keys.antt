@@ -12,8 +12,8 @@ use Rattle.board_builder.specs.BoardBuilder.{inRange}
 use Rattle.board_builder.specs.Steps.{stepped}
 use Rattle.chess_move.specs.Number.{lastMove}
 use Rattle.fen_text.proofs.Hollow.{fen-reads-back}
-use Rattle.board_after.specs.After.{boardAfter, afterAnswer}
-use Rattle.board_after.proofs.Ranges.{after-in-range}
+use Rattle.move_rules.specs.After.{boardAfter, afterAnswer}
+use Rattle.move_rules.proofs.Ranges.{after-in-range}
 use Rattle.key_after.specs.Promises.{NextIsAKey}
 
 abbrev answered : BoardBuilder → ℕ → Bool → Bool → Stepped

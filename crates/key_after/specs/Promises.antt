@@ -8,7 +8,7 @@ use Rattle.answer.specs.Answer.{outOfRange}
 use Rattle.board_builder.specs.declared.BoardBuilder.{BoardBuilder}
 use Rattle.fen_text.specs.Read.{readFen}
 use Rattle.fen_text.specs.Promises.{fenWriter, BackAgain}
-use Rattle.board_after.specs.After.{afterAnswer}
+use Rattle.move_rules.specs.After.{afterAnswer}
 
 abbrev pub NextIsAKey : Type 0
 NextIsAKey = (b : BoardBuilder) (m : ℕ) (out : List ℕ) → (afterAnswer b m .number ≡ outOfRange → ⊥) → 85 ≤ length out

@@ -14,7 +14,7 @@ use Rattle.answer.proofs.Parts.{written-behind, length-written}
 use Rattle.answer.proofs.Overwrites.{from-front}
 use Rattle.fen_text.specs.Token.{placeOf}
 use Rattle.fen_text.specs.Read.{readFen}
-use Rattle.fen_text.specs.Lines.{lineFeed, lineEnd, ended, overLines}
+use Rattle.fen_text.specs.Lines.{lineFeed, lineEnd, endedLines, overLines}
 use Rattle.fen_text.proofs.Cases.{cond-both}
 use Rattle.fen_text.proofs.Lines.{ended-next, ended-none, over-append}
 use Rattle.key_line.specs.declared.Lined.{Lined}
@@ -62,7 +62,7 @@ one-goes room l ls h = simp (le-leb _ _ h)
 
 pub record Gone (text out₀ out : List ℕ) (taken ready accepted refused : ℕ) : Type 0 where
   pub gone : List (List ℕ)
-  pub left : going (length out₀) (ended text) ≡ gone ++ going (length out₀ - ready) (ended (drop taken text))
+  pub left : going (length out₀) (endedLines text) ≡ gone ++ going (length out₀ - ready) (endedLines (drop taken text))
   pub bytes-in : taken ≡ bytesOf gone
   pub bytes-out : ready ≡ length (overLines keyLine gone)
   pub keys : accepted ≡ keysAmong gone
@@ -93,8 +93,8 @@ paged t r a o t' r' a' o' e f g h = rw (e, f, g, h)
 
 -- no more goes: what has gone is the page
 module _ (text out₀ out : List ℕ) (taken ready accepted refused : ℕ) (g : Gone text out₀ out taken ready accepted refused)
-    (none : going (length out₀ - ready) (ended (drop taken text)) ≡ []) where
-  all-gone : going (length out₀) (ended text) ≡ g .gone
+    (none : going (length out₀ - ready) (endedLines (drop taken text)) ≡ []) where
+  all-gone : going (length out₀) (endedLines text) ≡ g .gone
   all-gone = g .left ∙ ap (λ (ls : List (List ℕ)). g .gone ++ ls) none ∙ append-nil (g .gone)
 
   pub page-answer : _≡_ {A = Paged} (record { taken = taken; ready = ready; accepted = accepted; refused = refused }) (keyPage text (length out₀))
@@ -106,7 +106,7 @@ module _ (text out₀ out : List ℕ) (taken ready accepted refused : ℕ) (g : 
 
 -- it ends where no line that is left is ended, or where there is no space
 pub left-unended : (text : List ℕ) (taken end room : ℕ) → taken ≤ length text → end ≡ lineEnd text taken → length text ≤ end
-    → going room (ended (drop taken text)) ≡ []
+    → going room (endedLines (drop taken text)) ≡ []
 unfolding going
 left-unended text taken end room h e k =
     let past : length (drop taken text) ≤ placeOf lineFeed (drop taken text) = rw (length-drop taken text) (omega arith) in
@@ -124,14 +124,14 @@ module _ (text out₀ out : List ℕ) (taken ready accepted refused end : ℕ) (
   this-long : length (take (end - taken) (drop taken text)) ≡ end - taken
   this-long = length-take-le (end - taken) (drop taken text) (rw (length-drop taken text) (omega arith))
 
-  next-ended : ended (drop taken text) ≡ take (end - taken) (drop taken text) ∷ ended (drop (end + 1) text)
+  next-ended : endedLines (drop taken text) ≡ take (end - taken) (drop taken text) ∷ endedLines (drop (end + 1) text)
   next-ended =
       let at : placeOf lineFeed (drop taken text) ≡ end - taken = omega arith in
       let in-it : placeOf lineFeed (drop taken text) < length (drop taken text) = rw (length-drop taken text) (omega (arith, g .inside)) in
       let n : taken + suc (placeOf lineFeed (drop taken text)) ≡ end + 1 = omega arith in
       ended-next (drop taken text) in-it
-      ∙ ap (λ (i : ℕ). take i (drop taken text) ∷ ended (drop (suc (placeOf lineFeed (drop taken text))) (drop taken text))) at
-      ∙ ap (λ (l : List ℕ). take (end - taken) (drop taken text) ∷ ended l)
+      ∙ ap (λ (i : ℕ). take i (drop taken text) ∷ endedLines (drop (suc (placeOf lineFeed (drop taken text))) (drop taken text))) at
+      ∙ ap (λ (l : List ℕ). take (end - taken) (drop taken text) ∷ endedLines l)
       (drop-drop (suc (placeOf lineFeed (drop taken text))) taken text ∙ ap (λ (i : ℕ). drop i text) n)
 
   pub put-ready : put .ready ≡ ready + length (keyLine (take (end - taken) (drop taken text)))
@@ -152,7 +152,7 @@ module _ (text out₀ out : List ℕ) (taken ready accepted refused end : ℕ) (
   one-more =
       let l : List ℕ = take (end - taken) (drop taken text) in
       let place₀ : longestLine ≤ length out₀ - ready = omega (arith, g .long) in
-      let goes = one-goes (length out₀ - ready) l (ended (drop (end + 1) text)) place₀ in
+      let goes = one-goes (length out₀ - ready) l (endedLines (drop (end + 1) text)) place₀ in
       let room-left : length out₀ - ready - length (keyLine l) ≡ length out₀ - put .ready = omega (arith, put-ready) in
       let said : overLines keyLine (g .gone ++ (l ∷ [])) ≡ overLines keyLine (g .gone) ++ keyLine l =
       over-append keyLine (g .gone) (l ∷ []) ∙ ap (λ (x : List ℕ). overLines keyLine (g .gone) ++ x) (append-nil (keyLine l)) in
@@ -172,8 +172,8 @@ module _ (text out₀ out : List ℕ) (taken ready accepted refused end : ℕ) (
         left =
             g .left
             ∙ ap (λ (ls : List (List ℕ)). g .gone ++ going (length out₀ - ready) ls) next-ended
-            ∙ ap (λ (ls : List (List ℕ)). g .gone ++ ls) (goes ∙ ap (λ (i : ℕ). l ∷ going i (ended (drop (end + 1) text))) room-left)
-            ∙ sym (append-assoc (g .gone) (l ∷ []) (going (length out₀ - put .ready) (ended (drop (end + 1) text))));
+            ∙ ap (λ (ls : List (List ℕ)). g .gone ++ ls) (goes ∙ ap (λ (i : ℕ). l ∷ going i (endedLines (drop (end + 1) text))) room-left)
+            ∙ sym (append-assoc (g .gone) (l ∷ []) (going (length out₀ - put .ready) (endedLines (drop (end + 1) text))));
         bytes-in = omega (arith, g .bytes-in, this-long);
         bytes-out = put-ready ∙ ap (λ (n : ℕ). n + length (keyLine l)) (g .bytes-out)
             ∙ sym (ap length said ∙ length-append (overLines keyLine (g .gone)) (keyLine l));

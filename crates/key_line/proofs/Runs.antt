@@ -11,7 +11,7 @@ use lib.ListN.{length, take, drop, getD, length-append, drop-of-length-le, take-
 use lib.Seq.{take-all, take-suc, take-add, drop-drop, length-take-le}
 use borrow.Author.Tests.{eqb-true, le-leb}
 use Rattle.fen_text.specs.Token.{placeOf, placeWhere, placeAfter, onto, joined}
-use Rattle.fen_text.specs.Lines.{lineFeed, lines, ended, overLines}
+use Rattle.fen_text.specs.Lines.{lineFeed, lines, endedLines, overLines}
 use Rattle.fen_text.proofs.Lines.{lines-next, ended-next, ended-none, lines-behind, over-append}
 use Rattle.key_line.specs.KeyLine.{keyLine}
 use Rattle.key_line.specs.KeyPage.{keysText, longestLine, going, bytesOf}
@@ -62,7 +62,7 @@ first-alone (x ∷ s) h = alone-step (eqb x lineFeed) x (placeOf lineFeed s) s (
 record Fronted (s : List ℕ) (gone rest : List (List ℕ)) : Type 0 where
   whole : Whole (take (bytesOf gone) s)
   these : lines (take (bytesOf gone) s) ≡ gone
-  others : ended (drop (bytesOf gone) s) ≡ rest
+  others : endedLines (drop (bytesOf gone) s) ≡ rest
 
 fronted-more : (l s : List ℕ) (gone rest : List (List ℕ)) → placeOf lineFeed s < length s → l ≡ take (placeOf lineFeed s) s
     → Fronted (drop (suc (placeOf lineFeed s)) s) gone rest → Fronted s (l ∷ gone) rest
@@ -86,8 +86,8 @@ fronted-more l s gone rest h e f =
           ∙ ap (λ (ls : List (List ℕ)). ls ++ lines (take b (drop (suc p) s))) one
           ∙ ap (λ (ls : List (List ℕ)). l ∷ ls) (f .these);
       others =
-          ap (λ (k : ℕ). ended (drop k s)) all
-          ∙ ap ended (sym (drop-drop b (suc p) s))
+          ap (λ (k : ℕ). endedLines (drop k s)) all
+          ∙ ap endedLines (sym (drop-drop b (suc p) s))
           ∙ f .others;
     }
 
@@ -100,20 +100,20 @@ tail-is l m ls ms e = cc
 none-is-no-line : (l : List ℕ) (ls : List (List ℕ)) → [] ≡ l ∷ ls → ⊥
 none-is-no-line l ls e = let z : _≡_ {A = ℕ} 0 1 = cc in omega arith
 
-fronted : (gone rest : List (List ℕ)) (s : List ℕ) → ended s ≡ gone ++ rest → Fronted s gone rest
+fronted : (gone rest : List (List ℕ)) (s : List ℕ) → endedLines s ≡ gone ++ rest → Fronted s gone rest
 unfolding bytesOf lines
 fronted [] rest s e = record { whole = nothing; these = refl; others = e }
 fronted (l ∷ gone) rest s e =
     go (decLe (length s) (placeOf lineFeed s)) (λ f. fronted gone rest (drop (suc (placeOf lineFeed s)) s) f)
   where
     Left : Type 0
-    Left = ended (drop (suc (placeOf lineFeed s)) s) ≡ gone ++ rest → Fronted (drop (suc (placeOf lineFeed s)) s) gone rest
+    Left = endedLines (drop (suc (placeOf lineFeed s)) s) ≡ gone ++ rest → Fronted (drop (suc (placeOf lineFeed s)) s) gone rest
 
     go : Dec (length s ≤ placeOf lineFeed s) → Left → Fronted s (l ∷ gone) rest
     go (yes h) more = absurd (none-is-no-line l (gone ++ rest) (sym (ended-none s h) ∙ e))
     go (no n) more =
         let h : placeOf lineFeed s < length s = omega arith in
-        let f : take (placeOf lineFeed s) s ∷ ended (drop (suc (placeOf lineFeed s)) s) ≡ l ∷ (gone ++ rest) = sym (ended-next s h) ∙ e in
+        let f : take (placeOf lineFeed s) s ∷ endedLines (drop (suc (placeOf lineFeed s)) s) ≡ l ∷ (gone ++ rest) = sym (ended-next s h) ∙ e in
         fronted-more l s gone rest h (sym (head-is _ _ _ _ f)) (more (tail-is _ _ _ _ f))
 
 -- ---- those that go out are some from the front, and all if there is space behind them
@@ -148,8 +148,8 @@ going-all room (l ∷ ls) h = go (decLe longestLine room) (going-all (room - len
 
 pub takes-all-that-have-place : TakesAllThatHavePlace
 takes-all-that-have-place s room h =
-    let all : going room (ended s) ≡ ended s = going-all room (ended s) h in
-    fronted (going room (ended s)) [] s (sym all ∙ sym (append-nil (going room (ended s)))) .others
+    let all : going room (endedLines s) ≡ endedLines s = going-all room (endedLines s) h in
+    fronted (going room (endedLines s)) [] s (sym all ∙ sym (append-nil (going room (endedLines s)))) .others
 
 -- ---- a run
 
@@ -172,9 +172,9 @@ split (_) (_) (_) (Run.comes some input output held r) =
     }
 split (_) (_) (_) (Run.goes room input output held r) =
     let q = split input output held r in
-    let g = going-front room (ended held) in
-    let f = fronted (going room (ended held)) (g .0) held (g .1) in
-    let n : ℕ = bytesOf (going room (ended held)) in
+    let g = going-front room (endedLines held) in
+    let f = fronted (going room (endedLines held)) (g .0) held (g .1) in
+    let n : ℕ = bytesOf (going room (endedLines held)) in
     let both : take n held ++ drop n held ≡ held = take-append-drop n held in
     record {
       front = q .front ++ take n held;

@@ -8,7 +8,7 @@ use lib.Dec.{eqb, leb}
 use lib.ListN.{length}
 use Rattle.answer.specs.Answer.{overwrite}
 use Rattle.fen_text.specs.Read.{readFen}
-use Rattle.fen_text.specs.Lines.{lines, ended, overLines}
+use Rattle.fen_text.specs.Lines.{lines, endedLines, overLines}
 use Rattle.key_line.specs.declared.Lined.{Lined}
 use Rattle.key_line.specs.declared.page.Paged.{Paged}
 use Rattle.key_line.specs.KeyLine.{keyLine}
@@ -49,7 +49,7 @@ pagedOf ls = record {
   taken = bytesOf ls; ready = length (overLines keyLine ls); accepted = keysAmong ls; refused = length ls - keysAmong ls }
 
 abbrev pub keyPage : List ℕ → ℕ → Paged
-keyPage s room = pagedOf (going room (ended s))
+keyPage s room = pagedOf (going room (endedLines s))
 
 abbrev pub keyRoom : List ℕ → List ℕ → List ℕ
-keyRoom s out = overwrite (overLines keyLine (going (length out) (ended s))) out
+keyRoom s out = overwrite (overLines keyLine (going (length out) (endedLines s))) out

@@ -4,13 +4,13 @@ use Prim.Native.Nat.{ℕ, _≤_, _<_, _+_}
 use mathlib.Core.Path.{_≡_}
 use mathlib.Core.List.{List, [], _++_}
 use lib.ListN.{length, drop}
-use Rattle.fen_text.specs.Lines.{ended, overLines}
+use Rattle.fen_text.specs.Lines.{endedLines, overLines}
 use Rattle.key_line.specs.KeyLine.{keyLine}
 use Rattle.key_line.specs.KeyPage.{keysText, longestLine, going, keyPage}
 
 -- what a page call puts into a room of some length
 abbrev pub putOut : List ℕ → ℕ → List ℕ
-putOut s room = overLines keyLine (going room (ended s))
+putOut s room = overLines keyLine (going room (endedLines s))
 
 -- what has come in, what has gone out, and what is held: a read brings some bytes, which are held behind those that are; a page call takes lines from the
 -- front of what is held
@@ -26,7 +26,7 @@ EveryRunIsTheWhole = (input output held : List ℕ) → Run input output held �
 -- a page call that leaves space for one more line has taken every line that is ended
 abbrev pub TakesAllThatHavePlace : Type 0
 TakesAllThatHavePlace =
-    (s : List ℕ) (room : ℕ) → length (putOut s room) + longestLine ≤ room → ended (drop (keyPage s room .taken) s) ≡ []
+    (s : List ℕ) (room : ℕ) → length (putOut s room) + longestLine ≤ room → endedLines (drop (keyPage s room .taken) s) ≡ []
 
 -- where no line is ended, a last line is left if there is a byte of it
 pub record LastLine (held : List ℕ) : Type 0 where
@@ -34,4 +34,4 @@ pub record LastLine (held : List ℕ) : Type 0 where
   pub one : 0 < length held → keysText held ≡ keyLine held
 
 abbrev pub WhatIsLeftIsOneLine : Type 0
-WhatIsLeftIsOneLine = (held : List ℕ) → ended held ≡ [] → LastLine held
+WhatIsLeftIsOneLine = (held : List ℕ) → endedLines held ≡ [] → LastLine held

@@ -12,7 +12,7 @@ use Rattle.claim.specs.Claim.{claimCount}
 use Rattle.game_rules.specs.Limits.{Limits}
 use Rattle.game_rules.specs.Rules.{History, current, moves, ended, ruling, repeats}
 use Rattle.game_rules.specs.Good.{historyOf}
-use Rattle.game_rules.specs.Calls.{logCheck, told}
+use Rattle.game_rules.specs.Calls.{logCheck, acceptedUnless}
 use Rattle.laws.specs.declared.Ruled.{Ruled}
 use Rattle.laws.specs.Laws.{lawsCount, lawsClaimStands}
 
@@ -52,4 +52,4 @@ rulingAnswer L acts ps n m = cond (eqb (logCheck L acts ps n m) 0) (ruledOn (his
 -- whether a draw may be claimed by the Laws' count; no claim stands once the game has ended
 unfoldable pub lawsAnswer : Limits → List ℕ → List ℕ → ℕ → ℕ → Answer
 lawsAnswer L acts ps n m =
-    told (logCheck L acts ps n m) (cond (not (ended (historyOf acts ps n)) && lawsClaimStands (historyOf acts ps n)) 1 0)
+    acceptedUnless (logCheck L acts ps n m) (cond (not (ended (historyOf acts ps n)) && lawsClaimStands (historyOf acts ps n)) 1 0)

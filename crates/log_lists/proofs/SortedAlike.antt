@@ -10,7 +10,7 @@ use Rattle.game_rules.specs.Rules.{current, result, offerStands, ruling, repeat
 use Rattle.laws.specs.Laws.{lawsClaimStands}
 use Rattle.laws.specs.Ruling.{equalsAt, ruledOn}
 use Rattle.san_lists.proofs.Counts.{reordered-listed, reordered-length, reordered-range}
-use Rattle.log_lists.specs.Relisted.{Host, listed, callOf, gameOf}
+use Rattle.log_lists.specs.Relisted.{Host, listed, callRelisted, gameOf}
 use Rattle.log_lists.specs.Promises.{SameLists, SortedAlikeRulesAlike, SortedAlikeAnswersAlike}
 use Rattle.log_lists.proofs.Games.{current-of, actions-of, moves-of, last-of, last-but-one-of, ruling-of, laws-count-of, repeats-both, places-both}
 
@@ -58,7 +58,7 @@ module _ (host other : Host) (same : SameLists host other) where
   rulings-same h =
       rw (places-same h, counts-same h, repeats-same h, laws-count-of host h, laws-count-of other h, results-same h)
 
-  answers-same : (L : Limits) (h : History) (c : Call) → answer L (gameOf host h) (callOf host c) ≡ answer L (gameOf other h) (callOf other c)
+  answers-same : (L : Limits) (h : History) (c : Call) → answer L (gameOf host h) (callRelisted host c) ≡ answer L (gameOf other h) (callRelisted other c)
   unfolding answer
   answers-same L h (makeMove m p) =
       let b = current h .board in

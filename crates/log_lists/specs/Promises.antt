@@ -9,14 +9,14 @@ use Rattle.game_rules.specs.Rules.{Call, History, result, offerStands, claimSta
 use Rattle.laws.specs.Laws.{lawsClaimStands}
 use Rattle.laws.specs.Ruling.{ruledOn}
 use Rattle.san_lists.specs.Lists.{Reordered}
-use Rattle.log_lists.specs.Relisted.{Host, callOf, gameOf}
+use Rattle.log_lists.specs.Relisted.{Host, callRelisted, gameOf}
 
 -- the same lists except for their order
 abbrev pub SameLists : Host → Host → Type 0
 SameLists host other = (board : List ℕ) → Reordered (host board) (other board)
 
 -- what the answers to the queries depend on: the result, a standing offer, both claims, and all that a ruling shows
-pub record SameRulings (h k : History) : Type 0 where
+pub record RuledAlike (h k : History) : Type 0 where
   pub results : result h ≡ result k
   pub offers : offerStands h ≡ offerStands k
   pub claims : claimStands h ≡ claimStands k
@@ -24,10 +24,10 @@ pub record SameRulings (h k : History) : Type 0 where
   pub rulings : ruledOn h ≡ ruledOn k
 
 abbrev pub SortedAlikeRulesAlike : Type 0
-SortedAlikeRulesAlike = (host other : Host) → SameLists host other → (h : History) → SameRulings (gameOf host h) (gameOf other h)
+SortedAlikeRulesAlike = (host other : Host) → SameLists host other → (h : History) → RuledAlike (gameOf host h) (gameOf other h)
 
 -- and every call after that is answered alike, refusals included
 abbrev pub SortedAlikeAnswersAlike : Type 0
 SortedAlikeAnswersAlike =
     (host other : Host) → SameLists host other → (L : Limits) (h : History) (c : Call)
-    → answer L (gameOf host h) (callOf host c) ≡ answer L (gameOf other h) (callOf other c)
+    → answer L (gameOf host h) (callRelisted host c) ≡ answer L (gameOf other h) (callRelisted other c)

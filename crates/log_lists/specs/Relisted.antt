@@ -13,14 +13,14 @@ Host = List ℕ → List ℕ
 abbrev pub listed : Host → Position → Position
 listed host p = record { board = p .board; check = p .check; moves = host (p .board) }
 
-abbrev pub callOf : Host → Call → Call
-callOf host (makeMove m p) = makeMove m (listed host p)
-callOf host (offerDraw c) = offerDraw c
-callOf host acceptDraw = acceptDraw
-callOf host declareDraw = declareDraw
-callOf host (resign c) = resign c
+abbrev pub callRelisted : Host → Call → Call
+callRelisted host (makeMove m p) = makeMove m (listed host p)
+callRelisted host (offerDraw c) = offerDraw c
+callRelisted host acceptDraw = acceptDraw
+callRelisted host declareDraw = declareDraw
+callRelisted host (resign c) = resign c
 
 -- the game as that host plays it: every list of it, the start's too
 unfoldable pub gameOf : Host → History → History
 gameOf host (begun p) = begun (listed host p)
-gameOf host (after h c) = after (gameOf host h) (callOf host c)
+gameOf host (after h c) = after (gameOf host h) (callRelisted host c)

@@ -15,7 +15,7 @@ use Rattle.game_rules.specs.Good.{callAt, historyOf, nextSound, sound, isGood}
 use Rattle.game_rules.specs.Calls.{logCheck, callAnswer, resultAnswer}
 use Rattle.roll_text.specs.Number.{groups, behind, readGroups}
 use Rattle.roll_text.specs.Roll.{largestNumbers, numbersText, actionText, actionsText, rollText, isCode, putNumber, oneNumber, readNumbers, movedBy, coded}
-use Rattle.roll_text.specs.Roll.{putAction, next, readActions, withActions, withCount, withFront, readRoll}
+use Rattle.roll_text.specs.Roll.{putAction, nextAction, readActions, withActions, withCount, withFront, readRoll}
 use Rattle.roll_text.specs.Calls.{rollAnswer, judged, writeCheck}
 use Rattle.longer.specs.AtSmallest.{RoomAtSmallest, RollsAtSmallest, LogsAtSmallest, Sizes}
 
@@ -33,7 +33,7 @@ room-at-smallest =
 
 pub rolls-at-smallest : RollsAtSmallest
 unfolding writeAnswer allAtMost inRange numbers actionOf movesIn actionsHeld groups behind readGroups largestNumbers numbersText actionText actionsText rollText
-    isCode putNumber oneNumber readNumbers movedBy coded putAction next readActions withActions withCount withFront readRoll rollAnswer judged writeCheck
+    isCode putNumber oneNumber readNumbers movedBy coded putAction nextAction readActions withActions withCount withFront readRoll rollAnswer judged writeCheck
 rolls-at-smallest =
     record {
       at-it = refl;

@@ -23,14 +23,14 @@ use Rattle.game_rules.proofs.Decide.{good-is-decided}
 use Rattle.game_rules.proofs.Keeps.{left-refused}
 use Rattle.game_rules.proofs.Log.{actions-at, moves-at}
 use Rattle.laws.specs.Ruling.{rulingAnswer, lawsAnswer}
-use Rattle.longer.specs.TwoLimits.{NoLonger, within, roomAfter}
+use Rattle.longer.specs.TwoLimits.{AllowsNoLess, within, roomAfter}
 use Rattle.longer.specs.Promises.{SameGames, SameGood, StartsAlike, AnsweredAlike, LogsAlike, LongerLogsAre9}
 use Rattle.longer.proofs.Rolls.{within-actions, within-moves, are-within}
 
 -- ---- room
 
 -- what has room under L has room under M
-more-room : (L M : Limits) → NoLonger L M → (n m : ℕ) (c : Call) → roomAfter L n m c ≡ true → roomAfter M n m c ≡ true
+more-room : (L M : Limits) → AllowsNoLess L M → (n m : ℕ) (c : Call) → roomAfter L n m c ≡ true → roomAfter M n m c ≡ true
 more-room L M o n m c e = go (isMove c) refl
   where
     few : n < L .most-actions
@@ -81,7 +81,7 @@ module _ (L M : Limits) (h : History) (c : Call) where
   refused-before : (before h c ≡ 0 → ⊥) → answer L h c ≡ before h c
   refused-before f = answer-is L h c ∙ first-refuses (before h c) (unless (roomFor L h c) logFull ∷ []) f
 
-module _ (L M : Limits) (o : NoLonger L M) (h : History) (c : Call) where
+module _ (L M : Limits) (o : AllowsNoLess L M) (h : History) (c : Call) where
   room-too : roomFor L h c ≡ true → roomFor M h c ≡ true
   room-too e = more-room L M o (actions h) (moves h) c e
 
@@ -103,7 +103,7 @@ module _ (L M : Limits) (o : NoLonger L M) (h : History) (c : Call) where
 
 -- ---- histories
 
-module _ (L M : Limits) (o : NoLonger L M) where
+module _ (L M : Limits) (o : AllowsNoLess L M) where
   accepted-too : (h : History) → Accepted L h → Accepted M h
   unfolding Accepted
   accepted-too (begun p) a = a
@@ -168,7 +168,7 @@ module _ (L M : Limits) (o : NoLonger L M) where
   unfolding started startAnswer
   starts-alike acts ps p e = rw (long-too acts ps e, e) refl
 
-module _ (L M : Limits) (o : NoLonger L M) (acts ps : List ℕ) (n m : ℕ) (long : longEnough M acts ps ≡ true) (inside : within L n m ≡ true) where
+module _ (L M : Limits) (o : AllowsNoLess L M) (acts ps : List ℕ) (n m : ℕ) (long : longEnough M acts ps ≡ true) (inside : within L n m ≡ true) where
   one-test : (s t : Bool) → (s ≡ true → t ≡ true) → (t ≡ true → s ≡ true) → s ≡ t
   one-test true t f g = sym (f refl)
   one-test false true f g = g refl
@@ -257,7 +257,7 @@ module _ (L M : Limits) (o : NoLonger L M) (acts ps : List ℕ) (n m : ℕ) (lon
         rulings = rw check-alike refl;
       }
 
-pub logs-alike : (L M : Limits) → NoLonger L M → LogsAlike L M
+pub logs-alike : (L M : Limits) → AllowsNoLess L M → LogsAlike L M
 logs-alike L M o acts ps n m long inside = answered-alike L M o acts ps n m long inside
 
 pub longer-logs-are-9 : (L : Limits) → LongerLogsAre9 L

@@ -17,9 +17,9 @@ use Rattle.roll_text.specs.declared.Entry.{Entry}
 use Rattle.roll_text.specs.declared.Entry.the-variants.{Move, Plain, Stop}
 use Rattle.roll_text.specs.Number.{readNumber}
 use Rattle.roll_text.specs.Roll.{Front, stopped, front, readNumbers, largestNumbers, coded, readEntry}
-use Rattle.roll_text.specs.Roll.{Acts, halted, putAction, next, readActions}
+use Rattle.roll_text.specs.Roll.{Acts, halted, putAction, nextAction, readActions}
 use Rattle.roll_text.specs.Roll.{refusal, withActions, withCount, withFront, readRoll}
-use Rattle.longer.specs.TwoLimits.{NoLonger}
+use Rattle.longer.specs.TwoLimits.{AllowsNoLess}
 
 -- ---- an entry: whether there is room for a move is tested only at a move's code, and answered with 13
 
@@ -47,16 +47,16 @@ put-alike bs x y h n = ap (putAction bs) (h (λ e. n (ap (putAction bs) e)))
 
 next-alike : (x : Entry) (l k : ℕ) (s : List ℕ) (go : ℕ → List ℕ → Acts) → l ≤ k
     → ((a b : ℕ) (t : List ℕ) → a ≤ b → (go a t ≡ halted logFull → ⊥) → go a t ≡ go b t)
-    → (next x l s go ≡ halted logFull → ⊥) → next x l s go ≡ next x k s go
-unfolding next
+    → (nextAction x l s go ≡ halted logFull → ⊥) → nextAction x l s go ≡ nextAction x k s go
+unfolding nextAction
 next-alike (Move move size) l k s go h ih n =
     put-alike (fields 1 0 move) (go (l - 1) (drop size s)) (go (k - 1) (drop size s)) (ih (l - 1) (k - 1) (drop size s) (omega arith)) n
 next-alike (Plain code size) l k s go h ih n =
     put-alike (fields (code / 2) (code % 2) 0) (go l (drop size s)) (go k (drop size s)) (ih l k (drop size s) h) n
 next-alike (Stop j) l k s go h ih n = refl
 
-stop-halts : (x : Entry) (l : ℕ) (s : List ℕ) (go : ℕ → List ℕ → Acts) → x ≡ Stop logFull → next x l s go ≡ halted logFull
-unfolding next
+stop-halts : (x : Entry) (l : ℕ) (s : List ℕ) (go : ℕ → List ℕ → Acts) → x ≡ Stop logFull → nextAction x l s go ≡ halted logFull
+unfolding nextAction
 stop-halts x l s go e = rw e refl
 
 actions-alike : (n l k : ℕ) (s : List ℕ) → l ≤ k → (readActions n l s ≡ halted logFull → ⊥) → readActions n l s ≡ readActions n k s
@@ -65,7 +65,7 @@ actions-alike zero l k [] h isnt = refl
 actions-alike zero l k (b ∷ bs) h isnt = refl
 actions-alike (suc n) l k s h isnt =
     next-alike (readEntry (eqb l 0) s) l k s (λ a t. readActions n a t) h (λ a b t. actions-alike n a b t) isnt
-    ∙ ap (λ (x : Entry). next x k s (λ a t. readActions n a t))
+    ∙ ap (λ (x : Entry). nextAction x k s (λ a t. readActions n a t))
     (coded-alike (eqb l 0) (eqb k 0) s (readNumber s) (full-alike l k h) (λ e. isnt (stop-halts (readEntry (eqb l 0) s) l s (λ a t. readActions n a t) e)))
 
 -- ---- the roll
@@ -75,7 +75,7 @@ with-actions-alike : (xs : List ℕ) (n : ℕ) (x y : Acts) → ((x ≡ halted l
 unfolding withActions
 with-actions-alike xs n x y h isnt = ap (withActions xs n) (h (λ e. isnt (ap (withActions xs n) e)))
 
-module _ (L M : Limits) (o : NoLonger L M) where
+module _ (L M : Limits) (o : AllowsNoLess L M) where
   count-alike : (xs : List ℕ) (x : Number) (s : List ℕ) → (withCount L xs x s ≡ refusal logFull → ⊥) → withCount L xs x s ≡ withCount M xs x s
   unfolding withCount
   count-alike xs Bad s isnt = refl

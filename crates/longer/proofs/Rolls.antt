@@ -28,7 +28,7 @@ use Rattle.roll_text.proofs.Forth.{accepted-written-back}
 use Rattle.roll_text.proofs.ReadsBack.{judged-long}
 use Rattle.roll_text.proofs.Refusals.{judged-told, IsRolled, accepted-rolled}
 use Rattle.roll_text.proofs.WritesBack.{read-is-written-back}
-use Rattle.longer.specs.TwoLimits.{NoLonger, within}
+use Rattle.longer.specs.TwoLimits.{AllowsNoLess, within}
 use Rattle.longer.specs.Promises.{ReadAlike, PartsOf, ReadsAlike, OldRollsReadAlike, OldRollsWrittenBack, HandsOutNothing, withinOf, LongerRollsAre13}
 use Rattle.longer.specs.Promises.{OtherRollsReadAlike, WritesAlike, LongerGamesAre13}
 use Rattle.longer.proofs.Reading.{roll-alike}
@@ -46,7 +46,7 @@ are-within L n m h k = rw (le-leb n (L .most-actions) h, le-leb m (L .most-moves
 -- ---- the reader
 
 -- the parts that are long enough for M are for L
-pub shorter-part : (L M : Limits) → NoLonger L M → (n : ℕ) → actionsLength M ≤ n → actionsLength L ≤ n
+pub shorter-part : (L M : Limits) → AllowsNoLess L M → (n : ℕ) → actionsLength M ≤ n → actionsLength L ≤ n
 shorter-part L M o n h = omega (arith, o .actions)
 
 -- the counted bytes of a roll that was read, whatever stood in the part
@@ -58,7 +58,7 @@ counted M s mine theirs small (rolled xs n bs) e =
     let long = accepted-written-back M s xs n bs small e .game .long in
     take-at bs (drop (length bs) mine) (actionSize * n) long ∙ sym (take-at bs (drop (length bs) theirs) (actionSize * n) long)
 
-module _ (L M : Limits) (o : NoLonger L M) (s mine theirs : List ℕ) (small : allAtMost 255 s ≡ true) (p : PartsOf L M mine theirs) where
+module _ (L M : Limits) (o : AllowsNoLess L M) (s mine theirs : List ℕ) (small : allAtMost 255 s ≡ true) (p : PartsOf L M mine theirs) where
   as-mine : judged L s (length mine) ≡ readRoll L s
   as-mine = judged-long L s (length mine) (p .smaller)
 
@@ -79,20 +79,20 @@ module _ (L M : Limits) (o : NoLonger L M) (s mine theirs : List ℕ) (small : a
   unfolding rollAnswer
   read-alike isnt = alike-of (roll-alike L M o s (λ e. isnt (ap (λ (x : Rolled). rollAnswer x .number) (as-mine ∙ e))))
 
-pub reads-alike : (L M : Limits) → NoLonger L M → ReadsAlike L M
+pub reads-alike : (L M : Limits) → AllowsNoLess L M → ReadsAlike L M
 reads-alike L M o s mine theirs small p isnt = read-alike L M o s mine theirs small p isnt
 
-pub old-rolls-read-alike : (L M : Limits) → NoLonger L M → OldRollsReadAlike L M
+pub old-rolls-read-alike : (L M : Limits) → AllowsNoLess L M → OldRollsReadAlike L M
 old-rolls-read-alike L M o s mine theirs small p e = read-alike L M o s mine theirs small p (λ z. let q : _≡_ {A = ℕ} 0 13 = sym e ∙ z in omega (arith, q))
 
-pub old-rolls-written-back : (L M : Limits) → NoLonger L M → OldRollsWrittenBack L M
+pub old-rolls-written-back : (L M : Limits) → AllowsNoLess L M → OldRollsWrittenBack L M
 old-rolls-written-back L M o s mine theirs out small p e room =
     let alike = old-rolls-read-alike L M o s mine theirs small p e in
     read-is-written-back M s theirs out small (sym (ap (λ (r : Roll). r .number) (alike .answers)) ∙ e) room
 
 -- ---- a roll that M accepts
 
-module _ (L M : Limits) (o : NoLonger L M) (s mine theirs : List ℕ) (small : allAtMost 255 s ≡ true) (long : actionsLength L ≤ length mine)
+module _ (L M : Limits) (o : AllowsNoLess L M) (s mine theirs : List ℕ) (small : allAtMost 255 s ≡ true) (long : actionsLength L ≤ length mine)
     (e : rollReader M .answer s (length theirs) .number ≡ 0) where
   -- the part that it was read into was long enough
   their-part : actionsLength M ≤ length theirs
@@ -174,10 +174,10 @@ module _ (L M : Limits) (o : NoLonger L M) (s mine theirs : List ℕ) (small : a
       alike-of L M o s mine theirs small parts
       (ap (readRoll L) (back .text) ∙ rolls-read-back L (read .start) (read .count) (read .actions) countable game-of-l ∙ sym is)
 
-pub longer-rolls-are-13 : (L M : Limits) → NoLonger L M → LongerRollsAre13 L M
+pub longer-rolls-are-13 : (L M : Limits) → AllowsNoLess L M → LongerRollsAre13 L M
 longer-rolls-are-13 L M o s mine theirs small long e f = longer-hands-out-nothing L M o s mine theirs small long e f
 
-pub other-rolls-read-alike : (L M : Limits) → NoLonger L M → Countable L → OtherRollsReadAlike L M
+pub other-rolls-read-alike : (L M : Limits) → AllowsNoLess L M → Countable L → OtherRollsReadAlike L M
 other-rolls-read-alike L M o countable s mine theirs small long e f = within-is-read L M o s mine theirs small long e countable f
 
 -- ---- the writer
@@ -205,7 +205,7 @@ module _ (b : BoardBuilder) (part : List ℕ) (n : ℕ) where
   unfolding writeCheck behind
   is-behind L h = rw (le-ltb (length part) (actionsLength L) h) refl
 
-  behind-alike : (L M : Limits) → NoLonger L M → (behind L ≡ logFull → ⊥) → behind L ≡ behind M
+  behind-alike : (L M : Limits) → AllowsNoLess L M → (behind L ≡ logFull → ⊥) → behind L ≡ behind M
   unfolding behind
   behind-alike L M o isnt = by (inRange b) refl
     where
@@ -236,7 +236,7 @@ refused-number : (check : ℕ) (text : List ℕ) (room : ℕ) → check ≡ logF
 unfolding writeAnswer
 refused-number check text room e = rw e refl
 
-pub writes-alike : (L M : Limits) → NoLonger L M → WritesAlike L M
+pub writes-alike : (L M : Limits) → AllowsNoLess L M → WritesAlike L M
 writes-alike L M o b part n out long isnt =
     let mine = is-behind b part n L (shorter-part L M o (length part) long) in
     let theirs = is-behind b part n M long in

@@ -21,7 +21,7 @@ use Rattle.game_rules.specs.Calls.{longEnough, logCheck, callAnswer, counts, re
 use Rattle.game_rules.specs.Promises.{called, started}
 use Rattle.laws.specs.Ruling.{rulingAnswer, lawsAnswer}
 use Rattle.roll_text.specs.Promises.{Countable, rollWriter, rollReader, WrittenAgain}
-use Rattle.longer.specs.TwoLimits.{oldLimits, NoLonger, within, roomAfter}
+use Rattle.longer.specs.TwoLimits.{oldLimits, AllowsNoLess, within, roomAfter}
 
 -- ---- rolls read
 
@@ -151,7 +151,7 @@ pub record BothAlike (L M : Limits) : Type 0 where
   pub longer-logs : LongerLogsAre9 L
 
 abbrev pub AnyTwoLimits : Type 0
-AnyTwoLimits = (L M : Limits) → NoLonger L M → BothAlike L M
+AnyTwoLimits = (L M : Limits) → AllowsNoLess L M → BothAlike L M
 
 -- document 01's limits, and those that the contracts put in
 abbrev pub OldAndNew : Type 0

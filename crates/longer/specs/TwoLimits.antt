@@ -11,7 +11,7 @@ abbrev pub oldLimits : Limits
 oldLimits = record { most-actions = 2048; most-moves = 1024 }
 
 -- limits L allow no more than limits M
-pub record NoLonger (L M : Limits) : Type 0 where
+pub record AllowsNoLess (L M : Limits) : Type 0 where
   pub actions : L .most-actions ≤ M .most-actions
   pub moves : L .most-moves ≤ M .most-moves
 

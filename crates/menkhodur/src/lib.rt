@@ -18,7 +18,7 @@ ghost use Rattle.castle_rights.specs.CastleRights.{addRights, removeRights, squ
 ghost use Rattle.board_builder.specs.Steps.{setPiece, clearSquare, setSide, setRights, setEnPassant};
 ghost use Rattle.fen_text.specs.Read.{readFen};
 ghost use Rattle.fen_text.specs.Page.{pageAnswer, recordsLeft, toldLeft};
-ghost use Rattle.board_after.specs.After.{afterAnswer};
+ghost use Rattle.move_rules.specs.After.{afterAnswer};
 ghost use Rattle.chess_move.specs.Coordinate.{readMove, moveText, moveCheck};
 ghost use Rattle.san_text.specs.Paper.{fromSan, nameAnswer, nameBytes};
 ghost use Rattle.san_text.specs.Standard.{fromSanStandard, standardNameAnswer, standardNameBytes};
@@ -28,7 +28,7 @@ ghost use Rattle.game_rules.specs.Limits.{limits};
 ghost use Rattle.game_rules.specs.Rules.{makeMove, offerDraw, acceptDraw, declareDraw, resign};
 ghost use Rattle.game_rules.specs.Calls.{callAnswer, counts, countsAfter, actionsAfter, positionsAfter, startAnswer, positionsBegun, resultAnswer, claimAnswer};
 ghost use Rattle.laws.specs.Ruling.{rulingAnswer, lawsAnswer};
-ghost use Rattle.pgn_text.specs.Walk.{check, next};
+ghost use Rattle.pgn_text.specs.Walk.{check, nextMove};
 ghost use Rattle.roll_text.specs.Calls.{writeCheck, gameText, judged, rollAnswer, rollOver};
 ghost use Rattle.differences_text.specs.Calls.{differencesAnswer, differencesRoom};
 
@@ -346,7 +346,7 @@ pub extern "C" fn menkhodur_pgn_check(text: &[u8]) -> PgnCount
 
 #[no_mangle]
 pub extern "C" fn menkhodur_pgn_next(text: &[u8], offset: u64, level: u64) -> PgnMove
-    ensures { λ r. ⌜ r ≡ next (now (text .entry)) offset level ⌝ }
+    ensures { λ r. ⌜ r ≡ nextMove (now (text .entry)) offset level ⌝ }
 {
     pgn::next(text, offset, level)
 }

@@ -11,7 +11,7 @@ use Rattle.answer.specs.declared.Answer.{Answer}
 use Rattle.answer.specs.Answer.{outOfRange, badList, notListed, writeAnswer, writeBytes}
 use Rattle.board_builder.specs.declared.BoardBuilder.{BoardBuilder}
 use Rattle.chess_move.specs.Number.{sourceOf}
-use Rattle.san_text.specs.Resolve.{kindAt}
+use Rattle.san_text.specs.Resolve.{kindOn}
 use Rattle.san_text.specs.Name.{names, candidates, castlingName, firstName, textOr, nameText, nameCheck}
 use Rattle.san_text.specs.Forms.{formOf}
 
@@ -32,7 +32,7 @@ abbrev pub otherNames : Bool → BoardBuilder → List ℕ → ℕ → Bool → 
 otherNames form b moves m changes = firstName (names (formOf form) b moves m) (candidates (formOf form .text (b .pieces) m) changes) none
 
 abbrev pub isKing : List ℕ → ℕ → Bool
-isKing pieces m = eqb (kindAt pieces (sourceOf m)) 6
+isKing pieces m = eqb (kindOn pieces (sourceOf m)) 6
 
 -- the castling text of a castling pair with a king on its source
 abbrev pub kingName : BoardBuilder → ℕ → Option (List ℕ)

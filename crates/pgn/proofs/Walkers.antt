@@ -15,12 +15,12 @@ use Rattle.answer.specs.Answer.{leftOpen, tooDeep, unknownToken}
 use Rattle.pgn_text.specs.declared.Run.the-variants.{MoveBytes}
 use Rattle.pgn_text.specs.Bytes.{isWhite, startsMove, runLength}
 use Rattle.pgn_text.specs.Token.{token, tokenAt}
-use Rattle.pgn_text.specs.Walk.{Walk, found, ended, atEnd, met, counted, first, deepest}
+use Rattle.pgn_text.specs.Walk.{Walk, found, ended, atEnd, met, counted, firstMove, deepest}
 use Rattle.pgn_text.proofs.Tokens.{more, token-within}
 use Rattle.pgn_text.proofs.Walks.{walk-at, walk-end, beyond, beyond-skip}
 use Rattle.pgn.specs.declared.walk.Walked.{Walked}
 use Rattle.pgn.specs.declared.walk.Walked.the-variants.{On, Found, Ended}
-use Rattle.pgn.specs.CodeWalkers.{outcome, told, atResult, Near, Came, Over, Sequenced, Varied, countOf, moveOf}
+use Rattle.pgn.specs.CodeWalkers.{outcome, walkedFrom, atResult, Near, Came, Over, Sequenced, Varied, countOf, moveWalked}
 
 -- the levels left, then the text left, as one number: a text is shorter than 2 ^ 64
 abbrev pub lexicographic : ℕ → ℕ → ℕ
@@ -69,7 +69,7 @@ module _ (s : List ℕ) (stop : Bool) (level start moves : ℕ) {w : Walked} {co
 -- ---- one token
 module _ (s : List ℕ) (stop : Bool) (level at count : ℕ) (h : at < length s) (k : count ≤ at) where
   -- the walk at the token that stands there
-  at-token : (t : Token) → tokenAt s at ≡ t → (os : List ℕ) → told s stop os at count ≡ outcome stop count (met t at os (beyond s at))
+  at-token : (t : Token) → tokenAt s at ≡ t → (os : List ℕ) → walkedFrom s stop os at count ≡ outcome stop count (met t at os (beyond s at))
   at-token t e os = ap (outcome stop count) (walk-at s at h os ∙ ap (λ (u : Token). met u at os (beyond s at)) e)
 
   pub reach : (t : Token) → tokenAt s at ≡ t → at + 1 + more t ≤ length s
@@ -92,15 +92,16 @@ module _ (s : List ℕ) (stop : Bool) (level at count : ℕ) (h : at < length s)
   unfolding met outcome
   too-deep e d os l = at-token Opening e os ∙ rw (le-ltb (length os) deepest (omega arith))
 
-  pub entered : tokenAt s at ≡ Opening → level < deepest → (os : List ℕ) → length os ≡ level → told s stop os at count ≡ told s stop (at ∷ os) (at + 1) count
+  pub entered : tokenAt s at ≡ Opening → level < deepest → (os : List ℕ) → length os ≡ level
+      → walkedFrom s stop os at count ≡ walkedFrom s stop (at ∷ os) (at + 1) count
   unfolding met
   entered e d os l = at-token Opening e os ∙ rw (lt-ltb (length os) deepest (omega arith))
 
-  pub left : tokenAt s at ≡ Closing → (o : ℕ) (os : List ℕ) → told s stop (o ∷ os) at count ≡ told s stop os (at + 1) count
+  pub left : tokenAt s at ≡ Closing → (o : ℕ) (os : List ℕ) → walkedFrom s stop (o ∷ os) at count ≡ walkedFrom s stop os (at + 1) count
   unfolding met
   left e o os = at-token Closing e (o ∷ os)
 
-  pub stray : tokenAt s at ≡ Closing → told s stop [] at count ≡ Ended count unknownToken at
+  pub stray : tokenAt s at ≡ Closing → walkedFrom s stop [] at count ≡ Ended count unknownToken at
   unfolding met outcome
   stray e = at-token Closing e []
 
@@ -154,11 +155,11 @@ module _ (s : List ℕ) (level at count : ℕ) (h : at < length s) (k : count �
 
 -- ---- the end of the text
 module _ (s : List ℕ) (stop : Bool) (at count : ℕ) (h : length s ≤ at) where
-  pub end-outside : told s stop [] at count ≡ Ended count 0 0
+  pub end-outside : walkedFrom s stop [] at count ≡ Ended count 0 0
   unfolding atEnd outcome
   end-outside = ap (outcome stop count) (walk-end s at h [])
 
-  pub end-inside : (o : ℕ) (os : List ℕ) → told s stop (o ∷ os) at count ≡ Ended count leftOpen o
+  pub end-inside : (o : ℕ) (os : List ℕ) → walkedFrom s stop (o ∷ os) at count ≡ Ended count leftOpen o
   unfolding atEnd outcome
   end-inside o os = ap (outcome stop count) (walk-end s at h (o ∷ os))
 
@@ -193,20 +194,20 @@ one-out o (suc n) z =
     rw e
 
 module _ (s : List ℕ) (stop : Bool) (o inside at count to total : ℕ) (p : Came s stop inside at count to total) where
-  came-to : told s stop (replicate inside o) at count ≡ told s stop (replicate inside o) to total
+  came-to : walkedFrom s stop (replicate inside o) at count ≡ walkedFrom s stop (replicate inside o) to total
   came-to = p .same (replicate inside o) (length-replicate inside o)
 
-  pub out-end : length s ≤ to → inside ≡ 0 → told s stop (replicate inside o) at count ≡ Ended total 0 0
+  pub out-end : length s ≤ to → inside ≡ 0 → walkedFrom s stop (replicate inside o) at count ≡ Ended total 0 0
   out-end h z = came-to ∙ rw z (end-outside s stop to total h)
 
-  pub out-open : length s ≤ to → (inside ≡ 0 → ⊥) → told s stop (replicate inside o) at count ≡ Ended total leftOpen o
+  pub out-open : length s ≤ to → (inside ≡ 0 → ⊥) → walkedFrom s stop (replicate inside o) at count ≡ Ended total leftOpen o
   out-open h z = came-to ∙ rw (one-out o inside z) (end-inside s stop to total h o (replicate (inside - 1) o))
 
   module _ (h : to < length s) (c : tokenAt s to ≡ Closing) where
-    pub out-stray : inside ≡ 0 → told s stop (replicate inside o) at count ≡ Ended total unknownToken to
+    pub out-stray : inside ≡ 0 → walkedFrom s stop (replicate inside o) at count ≡ Ended total unknownToken to
     out-stray z = came-to ∙ rw z (stray s stop inside to total h (p .counted) c)
 
-    pub out-more : (inside ≡ 0 → ⊥) → told s stop (replicate inside o) at count ≡ told s stop (replicate (inside - 1) o) (to + 1) total
+    pub out-more : (inside ≡ 0 → ⊥) → walkedFrom s stop (replicate inside o) at count ≡ walkedFrom s stop (replicate (inside - 1) o) (to + 1) total
     out-more z = came-to ∙ rw (one-out o inside z) (left s stop inside to total h (p .counted) c o (replicate (inside - 1) o))
 
 -- ---- the answers
@@ -215,8 +216,8 @@ unfolding outcome countOf counted
 counted-of n (ended number offset) = refl
 counted-of n (found start size level w) = counted-of (n + 1) w
 
-pub first-of : (n : ℕ) (w : Walk) → moveOf (outcome true n w) ≡ first w
-unfolding outcome moveOf first
+pub first-of : (n : ℕ) (w : Walk) → moveWalked (outcome true n w) ≡ firstMove w
+unfolding outcome moveWalked firstMove
 first-of n (ended number offset) = refl
 first-of n (found start size level w) = refl
 
@@ -231,13 +232,13 @@ module _ (s : List ℕ) (at : ℕ) where
   move-stands e f = simp (e, f)
 
 pub near-told : (s : List ℕ) (level place size : ℕ) (os : List ℕ) → length os ≡ level → (size ≡ 0 → ⊥) → Near s place size
-    → told s true os place 0 ≡ Found (place + 1) size level
+    → walkedFrom s true os place 0 ≡ Found (place + 1) size level
 near-told s level place size os l z n =
     let q = n z in
     let h : place + 1 < length s = q .0 in
     let e : place + 1 + 0 ≡ place + 1 = omega arith in
     let c : size - 1 + 1 ≡ size = omega arith in
-    let p : told s true os place 0 ≡ told s true os (place + 1 + 0) 0 = passed s true level place 0 (omega arith) zero-le 0 (q .1) .same os l in
-    let m : told s true os (place + 1) 0 ≡ Found (place + 1) (size - 1 + 1) level = move-stopped s level (place + 1) 0 h zero-le (size - 1) (q .2) true
+    let p : walkedFrom s true os place 0 ≡ walkedFrom s true os (place + 1 + 0) 0 = passed s true level place 0 (omega arith) zero-le 0 (q .1) .same os l in
+    let m : walkedFrom s true os (place + 1) 0 ≡ Found (place + 1) (size - 1 + 1) level = move-stopped s level (place + 1) 0 h zero-le (size - 1) (q .2) true
         refl os l in
-    p ∙ ap (λ (i : ℕ). told s true os i 0) e ∙ m ∙ ap (λ (i : ℕ). Found (place + 1) i level) c
+    p ∙ ap (λ (i : ℕ). walkedFrom s true os i 0) e ∙ m ∙ ap (λ (i : ℕ). Found (place + 1) i level) c

@@ -11,7 +11,7 @@ use Rattle.pgn_text.specs.declared.Token.the-variants.{Passed, Move, Closing}
 use Rattle.pgn_text.specs.declared.PgnCount.{PgnCount}
 use Rattle.pgn_text.specs.declared.PgnMove.{PgnMove}
 use Rattle.pgn_text.specs.Token.{tokenAt}
-use Rattle.pgn_text.specs.Walk.{Walk, found, ended, walk, endCount, noMove, moveAt}
+use Rattle.pgn_text.specs.Walk.{Walk, found, ended, walk, endCount, noMoveFound, moveFound}
 use Rattle.pgn.specs.declared.walk.Walked.{Walked}
 use Rattle.pgn.specs.declared.walk.Walked.the-variants.{On, Found, Ended}
 
@@ -22,12 +22,12 @@ outcome true n (found start size level w) = Found start size level
 outcome false n (found start size level w) = outcome false (n + 1) w
 
 -- what the walk comes to from an offset on, with some moves counted before it
-abbrev pub told : List ℕ → Bool → List ℕ → ℕ → ℕ → Walked
-told s stop os at count = outcome stop count (walk 0 at os (drop at s))
+abbrev pub walkedFrom : List ℕ → Bool → List ℕ → ℕ → ℕ → Walked
+walkedFrom s stop os at count = outcome stop count (walk 0 at os (drop at s))
 
 -- the same from a place, each bracket opened before it counted as opened there
 abbrev pub toldFrom : List ℕ → Bool → ℕ → ℕ → Walked
-toldFrom s stop offset level = told s stop (replicate level offset) offset 0
+toldFrom s stop offset level = walkedFrom s stop (replicate level offset) offset 0
 
 -- a result ends the walk outside brackets and is refused inside
 unfoldable pub atResult : ℕ → ℕ → ℕ → Walked
@@ -35,14 +35,14 @@ atResult level count at = cond (eqb level 0) (Ended count 0 0) (Ended count unkn
 
 -- a walker has come from one offset to another at its level: the walk comes to the same from there
 pub record Came (s : List ℕ) (stop : Bool) (level start moves at count : ℕ) : Type 0 where
-  pub same : (os : List ℕ) → length os ≡ level → told s stop os start moves ≡ told s stop os at count
+  pub same : (os : List ℕ) → length os ≡ level → walkedFrom s stop os start moves ≡ walkedFrom s stop os at count
   pub forth : start ≤ at
   pub within : at ≤ length s
   pub counted : count ≤ at
 
 -- the walk is over, and this is what it comes to
 abbrev pub Over : List ℕ → Bool → ℕ → ℕ → ℕ → Walked → Type 0
-Over s stop level start moves r = (os : List ℕ) → length os ≡ level → told s stop os start moves ≡ r
+Over s stop level start moves r = (os : List ℕ) → length os ≡ level → walkedFrom s stop os start moves ≡ r
 
 -- a sequence ends at the bracket that closes it, or at the end of the text
 abbrev pub Sequenced : List ℕ → Bool → ℕ → ℕ → ℕ → Walked → Type 0
@@ -67,7 +67,7 @@ countOf (On at count) = endCount count 0 0
 countOf (Found start size level) = endCount 0 0 0
 countOf (Ended count number offset) = endCount count number offset
 
-unfoldable pub moveOf : Walked → PgnMove
-moveOf (On at count) = noMove 0 0
-moveOf (Found start size level) = moveAt start size level
-moveOf (Ended count number offset) = noMove number offset
+unfoldable pub moveWalked : Walked → PgnMove
+moveWalked (On at count) = noMoveFound 0 0
+moveWalked (Found start size level) = moveFound start size level
+moveWalked (Ended count number offset) = noMoveFound number offset

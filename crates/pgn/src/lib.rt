@@ -14,8 +14,8 @@ use answer::UNKNOWN_TOKEN;
 use walk::DEEPEST;
 use walk::Walked;
 ghost use mathlib.Core.Path.{_≡_};
-ghost use Rattle.pgn_text.specs.Walk.{check, next, part, endCount, noMove, moveAt};
-ghost use Rattle.pgn.specs.CodeWalkers.{countOf, moveOf};
+ghost use Rattle.pgn_text.specs.Walk.{check, nextMove, part, endCount, noMoveFound, moveFound};
+ghost use Rattle.pgn.specs.CodeWalkers.{countOf, moveWalked};
 
 fn end_count(counted: usize, number: u64, offset: usize) -> PgnCount
     ensures { λ r. ⌜ r ≡ endCount counted number offset ⌝ }
@@ -29,7 +29,7 @@ fn end_count(counted: usize, number: u64, offset: usize) -> PgnCount
 }
 
 fn no_move(number: u64, offset: u64) -> PgnMove
-    ensures { λ r. ⌜ r ≡ noMove number offset ⌝ }
+    ensures { λ r. ⌜ r ≡ noMoveFound number offset ⌝ }
 {
     PgnMove {
         number,
@@ -42,7 +42,7 @@ fn no_move(number: u64, offset: u64) -> PgnMove
 }
 
 fn move_at(start: usize, length: usize, level: u64) -> PgnMove
-    ensures { λ r. ⌜ r ≡ moveAt start length level ⌝ }
+    ensures { λ r. ⌜ r ≡ moveFound start length level ⌝ }
 {
     PgnMove {
         number: ACCEPTED,
@@ -67,7 +67,7 @@ fn count_of(w: Walked) -> PgnCount
 
 // The answer of a walk that stopped at the first move.
 fn move_of(w: Walked) -> PgnMove
-    ensures { λ r. ⌜ r ≡ moveOf w ⌝ }
+    ensures { λ r. ⌜ r ≡ moveWalked w ⌝ }
 {
     match w {
         Walked::On(_, _) => no_move(ACCEPTED, 0),
@@ -85,7 +85,7 @@ pub fn check(text: &[u8]) -> PgnCount
 
 // The next move from a place, found 1, or that none is left, found 0.
 pub fn next(text: &[u8], offset: u64, level: u64) -> PgnMove
-    ensures { λ r. ⌜ r ≡ next (now (text .entry)) offset level ⌝ }
+    ensures { λ r. ⌜ r ≡ nextMove (now (text .entry)) offset level ⌝ }
 {
     if DEEPEST < level {
         return no_move(TOO_DEEP, offset);

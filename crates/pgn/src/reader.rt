@@ -2,7 +2,7 @@
 use crate::next;
 use pgn_text::PgnMove;
 ghost use mathlib.Core.Path.{_≡_};
-ghost use Rattle.pgn_text.specs.Walk.{next};
+ghost use Rattle.pgn_text.specs.Walk.{nextMove};
 ghost use Rattle.pgn.specs.Reader.{placed};
 
 pub struct Reader<'a> {
@@ -25,7 +25,7 @@ impl<'a> Reader<'a> {
 
     // The next move from the reader's place.
     pub fn step(self) -> PgnMove
-        ensures { λ r. ⌜ r ≡ next (now (self .entry .text)) (self .entry .offset) (self .entry .level) ⌝ }
+        ensures { λ r. ⌜ r ≡ nextMove (now (self .entry .text)) (self .entry .offset) (self .entry .level) ⌝ }
     {
         next(self.text, self.offset, self.level)
     }
@@ -44,7 +44,7 @@ impl<'a> Reader<'a> {
 
 // The first move of a text, by a reader of its own: whoever calls this needs no walk by hand.
 pub fn first_move(text: &[u8]) -> PgnMove
-    ensures { λ r. ⌜ r ≡ next (now (text .entry)) 0 0 ⌝ }
+    ensures { λ r. ⌜ r ≡ nextMove (now (text .entry)) 0 0 ⌝ }
 {
     Reader::new(text).step()
 }

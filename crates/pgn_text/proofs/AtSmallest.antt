@@ -4,7 +4,7 @@ use mathlib.Core.Path.{refl}
 use Rattle.answer.specs.Ascii.{ascii}
 use Rattle.pgn_text.specs.Bytes.{isWhite, isDigit, isLetter, startsMove, isSign, inMove, inRun, onward, runLength, beginsWith}
 use Rattle.pgn_text.specs.Token.{isResult, number, glyph, braceComment, lineComment, token}
-use Rattle.pgn_text.specs.Walk.{atEnd, met, walk, walkFrom, endCount, counted, noMove, moveAt, first, check, next}
+use Rattle.pgn_text.specs.Walk.{atEnd, met, walk, walkFrom, endCount, counted, noMoveFound, moveFound, firstMove, check, nextMove}
 use Rattle.pgn_text.specs.AtSmallest.{TokensAtSmallest, LevelsAtSmallest, PlacesAtSmallest}
 
 pub tokens-at-smallest : TokensAtSmallest
@@ -34,7 +34,7 @@ levels-at-smallest = record {
 
 pub places-at-smallest : PlacesAtSmallest
 unfolding ascii isWhite isDigit isLetter startsMove isSign inMove inRun onward runLength beginsWith
-    isResult number glyph braceComment lineComment token atEnd met walk walkFrom noMove moveAt first next
+    isResult number glyph braceComment lineComment token atEnd met walk walkFrom noMoveFound moveFound firstMove nextMove
 places-at-smallest = record {
   from-start = (refl, refl, refl, refl);
   as-if-begun = (refl, refl, refl);

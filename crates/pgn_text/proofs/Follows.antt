@@ -17,25 +17,25 @@ use Rattle.pgn_text.specs.Bytes.{startsMove, inMove, inRun, runLength}
 use Rattle.pgn_text.specs.Token.{token}
 use Rattle.answer.specs.Answer.{tooDeep, unknownToken}
 use Rattle.pgn_text.specs.Walk.{Walk, found, ended, atEnd, met, walk, walkFrom, deepest}
-use Rattle.pgn_text.specs.Promises.{Alike, same-end, open-end, same-move, FoundFrom, MovesInTextOrder}
+use Rattle.pgn_text.specs.Promises.{WalksAlike, same-end, open-end, same-move, FoundFrom, MovesInTextOrder}
 use Rattle.pgn_text.proofs.Runs.{run-over, run-stops}
 use Rattle.pgn_text.proofs.Tokens.{more, token-within, move-is}
 use Rattle.pgn_text.proofs.Walks.{walk-skip}
 
 -- ---- brackets by their number
-alike-end : (os ps : List ℕ) → length os ≡ length ps → Alike (atEnd os) (atEnd ps)
+alike-end : (os ps : List ℕ) → length os ≡ length ps → WalksAlike (atEnd os) (atEnd ps)
 unfolding atEnd
 alike-end [] [] e = same-end
 alike-end [] (p ∷ ps) e = absurd (omega arith)
 alike-end (o ∷ os) [] e = absurd (omega arith)
 alike-end (o ∷ os) (p ∷ ps) e = open-end
 
-alike-cond : (t : Bool) (v w : Walk) (number offset : ℕ) → Alike v w → Alike (cond t v (ended number offset)) (cond t w (ended number offset))
+alike-cond : (t : Bool) (v w : Walk) (number offset : ℕ) → WalksAlike v w → WalksAlike (cond t v (ended number offset)) (cond t w (ended number offset))
 alike-cond true v w number offset a = a
 alike-cond false v w number offset a = same-end
 
-module _ (at : ℕ) (f g : ℕ → List ℕ → Walk) (h : (n : ℕ) (os ps : List ℕ) → length os ≡ length ps → Alike (f n os) (g n ps)) where
-  alike-met : (t : Token) (os ps : List ℕ) → length os ≡ length ps → Alike (met t at os f) (met t at ps g)
+module _ (at : ℕ) (f g : ℕ → List ℕ → Walk) (h : (n : ℕ) (os ps : List ℕ) → length os ≡ length ps → WalksAlike (f n os) (g n ps)) where
+  alike-met : (t : Token) (os ps : List ℕ) → length os ≡ length ps → WalksAlike (met t at os f) (met t at ps g)
   unfolding met
   alike-met (Passed n) os ps e = h n os ps e
   alike-met (Move n) os ps e = rw e (same-move (h n os ps e))
@@ -53,7 +53,7 @@ module _ (at : ℕ) (f g : ℕ → List ℕ → Walk) (h : (n : ℕ) (os ps : Li
   alike-met LeftOpen os ps e = same-end
   alike-met Unknown os ps e = same-end
 
-alike-walk : (n at : ℕ) (s os ps : List ℕ) → length os ≡ length ps → Alike (walk n at os s) (walk n at ps s)
+alike-walk : (n at : ℕ) (s os ps : List ℕ) → length os ≡ length ps → WalksAlike (walk n at os s) (walk n at ps s)
 unfolding walk
 alike-walk n at [] os ps e = alike-end os ps e
 alike-walk zero at (b ∷ bs) os ps e =
@@ -62,7 +62,7 @@ alike-walk (suc n) at (b ∷ bs) os ps e = alike-walk n (at + 1) bs os ps e
 
 -- ---- the walk from a place in the text is the walk there, with that exception
 pub from-place : (text : List ℕ) (at : ℕ) (os : List ℕ) → at ≤ length text → length os ≤ deepest
-    → Alike (walk 0 at os (drop at text)) (walkFrom text at (length os))
+    → WalksAlike (walk 0 at os (drop at text)) (walkFrom text at (length os))
 unfolding walkFrom
 from-place text at os h k =
     rw (le-ltb deepest (length os) k, le-ltb (length text) at h)

@@ -19,7 +19,7 @@ use Rattle.pgn_text.specs.declared.Token.the-variants.{Passed, Move, Ope
 use Rattle.pgn_text.specs.declared.PgnMove.{PgnMove}
 use Rattle.pgn_text.specs.Bytes.{isWhite, isDigit, startsMove, inRun, onward, runLength, beginsWith}
 use Rattle.pgn_text.specs.Token.{number, glyph, braceComment, lineComment, isResult, token}
-use Rattle.pgn_text.specs.Walk.{Walk, found, ended, atEnd, met, walk, walkFrom, noMove, moveAt, first, next, deepest}
+use Rattle.pgn_text.specs.Walk.{Walk, found, ended, atEnd, met, walk, walkFrom, noMoveFound, moveFound, firstMove, nextMove, deepest}
 use Rattle.pgn_text.specs.Promises.{LooksNoFurther}
 use Rattle.pgn_text.proofs.Tokens.{move-is}
 use Rattle.pgn_text.proofs.Follows.{moves-in-text-order}
@@ -359,8 +359,8 @@ module _ (start size level : ℕ) where
 
 -- ---- from any place
 module _ (start size level : ℕ) where
-  found-by : (w : Walk) → first w ≡ moveAt start size level → Finds start size level w
-  unfolding first noMove moveAt
+  found-by : (w : Walk) → firstMove w ≡ moveFound start size level → Finds start size level w
+  unfolding firstMove noMoveFound moveFound
   found-by (ended number offset) e =
       let z : _≡_ {A = ℕ} 0 1 = ap (λ (m : PgnMove). m .found) e in
       absurd (omega arith)
@@ -370,9 +370,9 @@ module _ (start size level : ℕ) where
       let c : l ≡ level = ap (λ (m : PgnMove). m .level) e in
       record { behind = w; is = rw (a, b, c) refl }
 
-  first-of : (w : Walk) → Finds start size level w → first w ≡ moveAt start size level
-  unfolding first
-  first-of w f = ap first (f .is)
+  first-of : (w : Walk) → Finds start size level w → firstMove w ≡ moveFound start size level
+  unfolding firstMove
+  first-of w f = ap firstMove (f .is)
 
   -- a place from which a move is found is in range, and the walk there finds the move
   at-place : (t u : Bool) (offset : ℕ) (v w : Walk) → cond t (ended tooDeep offset) (cond u (ended unknownToken offset) v) ≡ found start size level w
@@ -394,8 +394,8 @@ as-long s other end k e =
     let n : length (take end other) ≡ length (take end s) = ap length e in
     omega arith
 
-pub looks-no-further : LooksNoFurther next
-unfolding next walkFrom
+pub looks-no-further : LooksNoFurther nextMove
+unfolding nextMove walkFrom
 looks-no-further text other offset level start size at-level e a z =
     let end : ℕ = start + size in
     let w = walkFrom text offset level in

@@ -4,7 +4,7 @@ use Prim.Native.Nat.{ℕ}
 use Prim.Native.String.{String}
 use mathlib.Core.Path.{_≡_}
 use Rattle.answer.specs.Ascii.{ascii}
-use Rattle.pgn_text.specs.Walk.{check, next, noMove, moveAt}
+use Rattle.pgn_text.specs.Walk.{check, nextMove, noMoveFound, moveFound}
 
 -- a text that is accepted, with its number of moves
 abbrev pub Accepts : String → ℕ → Type 0
@@ -16,11 +16,11 @@ Refuses text number at = check (ascii text) ≡ record { number = number; offset
 
 -- an answer without a move: the number and the offset
 abbrev pub NoMove : String → ℕ → ℕ → ℕ → ℕ → Type 0
-NoMove text offset level number at = next (ascii text) offset level ≡ noMove number at
+NoMove text offset level number at = nextMove (ascii text) offset level ≡ noMoveFound number at
 
 -- a move's start, length and level
 abbrev pub NextMove : String → ℕ → ℕ → ℕ → ℕ → ℕ → Type 0
-NextMove text offset level start size at-level = next (ascii text) offset level ≡ moveAt start size at-level
+NextMove text offset level start size at-level = nextMove (ascii text) offset level ≡ moveFound start size at-level
 
 pub record TokensAtSmallest : Type 0 where
   -- move numbers: digits, then any periods; a period that follows no digits is unknown

@@ -67,25 +67,25 @@ counted n (ended number offset) = endCount n number offset
 counted n (found start size level w) = counted (n + 1) w
 
 -- no move: none is left, or a refusal
-unfoldable pub noMove : ℕ → ℕ → PgnMove
-noMove number offset = record { number = number; offset = offset; found = 0; start = 0; length = 0; level = 0 }
+unfoldable pub noMoveFound : ℕ → ℕ → PgnMove
+noMoveFound number offset = record { number = number; offset = offset; found = 0; start = 0; length = 0; level = 0 }
 
 -- a move, by the part of the text that holds it and its level
-unfoldable pub moveAt : ℕ → ℕ → ℕ → PgnMove
-moveAt start size level = record { number = 0; offset = 0; found = 1; start = start; length = size; level = level }
+unfoldable pub moveFound : ℕ → ℕ → ℕ → PgnMove
+moveFound start size level = record { number = 0; offset = 0; found = 1; start = start; length = size; level = level }
 
 -- the first move, or the end
-unfoldable pub first : Walk → PgnMove
-first (ended number offset) = noMove number offset
-first (found start size level w) = moveAt start size level
+unfoldable pub firstMove : Walk → PgnMove
+firstMove (ended number offset) = noMoveFound number offset
+firstMove (found start size level w) = moveFound start size level
 
 -- the first call: the whole text checked, and its moves counted
 unfoldable pub check : List ℕ → PgnCount
 check text = counted 0 (walkFrom text 0 0)
 
 -- the call from a place: the next move, or that none is left
-unfoldable pub next : List ℕ → ℕ → ℕ → PgnMove
-next text offset level = first (walkFrom text offset level)
+unfoldable pub nextMove : List ℕ → ℕ → ℕ → PgnMove
+nextMove text offset level = firstMove (walkFrom text offset level)
 
 -- the very part of the text that holds a move
 unfoldable pub part : List ℕ → ℕ → ℕ → List ℕ

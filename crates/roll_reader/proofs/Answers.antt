@@ -23,7 +23,7 @@ use Rattle.roll_text.specs.declared.Entry.the-variants.{Move, Plain, Stop}
 use Rattle.roll_text.specs.declared.Roll.{Roll}
 use Rattle.roll_text.specs.Number.{readNumber}
 use Rattle.roll_text.specs.Roll.{Front, stopped, front, Acts, halted, acts, Rolled, refusal, largestNumbers, isCode, movedBy}
-use Rattle.roll_text.specs.Roll.{coded, readEntry, putAction, next, readNumbers, readActions, withActions, withCount, withFront, readRoll}
+use Rattle.roll_text.specs.Roll.{coded, readEntry, putAction, nextAction, readNumbers, readActions, withActions, withCount, withFront, readRoll}
 use Rattle.roll_text.specs.Calls.{frontNumber, actsNumber, actsOver, isActs, rollAnswer, rollOver, judged}
 use Rattle.roll_reader.proofs.Reading.{number-put}
 use Rattle.roll_reader.proofs.Fronts.{start-passed}
@@ -153,13 +153,13 @@ is-put bs (halted k) = refl
 is-put bs (acts cs) = refl
 
 acts-there : (n left : ℕ) (s : List ℕ) → actsNumber (readActions n left s) ≡ 0 → isActs (readActions n left s) ≡ true
-unfolding readActions actsNumber isActs next
+unfolding readActions actsNumber isActs nextAction
 acts-there zero left [] e = refl
 acts-there zero left (b ∷ s) e = absurd (omega (arith, e))
 acts-there (suc n) left s e = by (readEntry (eqb left 0) s) refl (λ l t. acts-there n l t)
   where
     by : (x : Entry) → readEntry (eqb left 0) s ≡ x → ((l : ℕ) (t : List ℕ) → actsNumber (readActions n l t) ≡ 0 → isActs (readActions n l t) ≡ true)
-        → isActs (next (readEntry (eqb left 0) s) left s (λ l t. readActions n l t)) ≡ true
+        → isActs (nextAction (readEntry (eqb left 0) s) left s (λ l t. readActions n l t)) ≡ true
     by (Move move size) f rec =
         let g : actsNumber (putAction (fields 1 0 move) (readActions n (left - 1) (drop size s))) ≡ 0 = rw f at e in
         rw f (is-put (fields 1 0 move) (readActions n (left - 1) (drop size s)) ∙ rec (left - 1) (drop size s) (sym (number-put (fields 1 0 move)

@@ -17,7 +17,7 @@ use Rattle.roll_text.specs.declared.Number.the-variants.{Got, Bad}
 use Rattle.roll_text.specs.declared.Entry.{Entry}
 use Rattle.roll_text.specs.declared.Entry.the-variants.{Move, Plain, Stop}
 use Rattle.roll_text.specs.Number.{readNumber}
-use Rattle.roll_text.specs.Roll.{isCode, movedBy, coded, readEntry, Acts, halted, acts, putAction, next, readActions}
+use Rattle.roll_text.specs.Roll.{isCode, movedBy, coded, readEntry, Acts, halted, acts, putAction, nextAction, readActions}
 use Rattle.roll_text.specs.Calls.{actsNumber}
 use Rattle.roll_text.proofs.Numbers.{number-within}
 use Rattle.roll_text.proofs.Entries.{coded-plain, coded-bad, coded-full, coded-move, moved-small, moved-over, next-move, next-plain}
@@ -74,7 +74,7 @@ plain-inside full s code size e =
 
 -- ---- an iteration: m actions are left, `left` moves may come, the text is read up to `at`
 
-turn-of : (m left : ℕ) (s : List ℕ) → 0 < m → readActions m left s ≡ next (readEntry (eqb left 0) s) left s (λ l t. readActions (m - 1) l t)
+turn-of : (m left : ℕ) (s : List ℕ) → 0 < m → readActions m left s ≡ nextAction (readEntry (eqb left 0) s) left s (λ l t. readActions (m - 1) l t)
 unfolding readActions
 turn-of zero left s h = absurd (omega arith)
 turn-of (suc m) left s h = let e : suc m - 1 ≡ m = omega arith in rw e
@@ -94,8 +94,8 @@ module _ (m left at : ℕ) (s t : List ℕ) (e : Entry) (some : 0 < m) (within :
   here : readEntry (eqb left 0) (drop at s) ≡ e
   here = sym (is ∙ ap (readEntry (eqb left 0)) rest)
 
-  turned : readActions m left (drop at s) ≡ next e left (drop at s) (λ l u. readActions (m - 1) l u)
-  turned = turn-of m left (drop at s) some ∙ ap (λ (x : Entry). next x left (drop at s) (λ l u. readActions (m - 1) l u)) here
+  turned : readActions m left (drop at s) ≡ nextAction e left (drop at s) (λ l u. readActions (m - 1) l u)
+  turned = turn-of m left (drop at s) some ∙ ap (λ (x : Entry). nextAction x left (drop at s) (λ l u. readActions (m - 1) l u)) here
 
   pub move-turn : (move size : ℕ) → e ≡ Move move size → MoveTurn m left at s move size
   move-turn move size f =
@@ -107,7 +107,7 @@ module _ (m left at : ℕ) (s t : List ℕ) (e : Entry) (some : 0 < m) (within :
         last = i .2;
         then =
           turned
-          ∙ ap (λ (x : Entry). next x left (drop at s) (λ l u. readActions (m - 1) l u)) f
+          ∙ ap (λ (x : Entry). nextAction x left (drop at s) (λ l u. readActions (m - 1) l u)) f
           ∙ next-move left (drop at s) move size (λ l u. readActions (m - 1) l u)
           ∙ ap (λ (l : List ℕ). putAction (fields 1 0 move) (readActions (m - 1) (left - 1) l)) (drop-drop size at s);
       }
@@ -120,14 +120,14 @@ module _ (m left at : ℕ) (s t : List ℕ) (e : Entry) (some : 0 < m) (within :
         is-code = i .1;
         then =
           turned
-          ∙ ap (λ (x : Entry). next x left (drop at s) (λ l u. readActions (m - 1) l u)) f
+          ∙ ap (λ (x : Entry). nextAction x left (drop at s) (λ l u. readActions (m - 1) l u)) f
           ∙ next-plain left (drop at s) code size (λ l u. readActions (m - 1) l u)
           ∙ ap (λ (l : List ℕ). putAction (fields (code / 2) (code % 2) 0) (readActions (m - 1) left l)) (drop-drop size at s);
       }
 
   pub stop-turn : (k : ℕ) → e ≡ Stop k → readActions m left (drop at s) ≡ halted k
-  unfolding next
-  stop-turn k f = turned ∙ ap (λ (x : Entry). next x left (drop at s) (λ l u. readActions (m - 1) l u)) f
+  unfolding nextAction
+  stop-turn k f = turned ∙ ap (λ (x : Entry). nextAction x left (drop at s) (λ l u. readActions (m - 1) l u)) f
 
 -- a short move, three bytes
 pub short-turn : (m left at : ℕ) (s : List ℕ) (move : ℕ) → 0 < m → at ≤ length s → readEntry (eqb left 0) (drop at s) ≡ Move move 3 → MoveTurn m left

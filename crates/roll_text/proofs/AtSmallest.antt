@@ -8,7 +8,7 @@ use Rattle.action.specs.Layout.{actionOf}
 use Rattle.actions.specs.Part.{movesIn, actionsHeld}
 use Rattle.roll_text.specs.Number.{groups, behind, readGroups}
 use Rattle.roll_text.specs.Roll.{largestNumbers, numbersText, actionsText, rollText, isCode, putNumber, oneNumber, readNumbers, movedBy, coded}
-use Rattle.roll_text.specs.Roll.{putAction, next, readActions, withActions, withCount, withFront, readRoll}
+use Rattle.roll_text.specs.Roll.{putAction, nextAction, readActions, withActions, withCount, withFront, readRoll}
 use Rattle.roll_text.specs.Calls.{rollAnswer, judged, writeCheck}
 use Rattle.roll_text.specs.AtSmallest.{NumbersAtSmallest, ReadingAtSmallest, WritingAtSmallest}
 
@@ -18,7 +18,7 @@ numbers-at-smallest =
     record { one-group = refl; lowest-first = refl; reads = refl; cut-short = refl; needless = refl; six-groups = refl }
 
 pub reading-at-smallest : ReadingAtSmallest
-unfolding behind readGroups largestNumbers isCode putNumber oneNumber readNumbers movedBy coded putAction next readActions withActions withCount withFront
+unfolding behind readGroups largestNumbers isCode putNumber oneNumber readNumbers movedBy coded putAction nextAction readActions withActions withCount withFront
     readRoll rollAnswer judged
 reading-at-smallest =
     record {

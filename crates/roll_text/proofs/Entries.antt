@@ -15,7 +15,7 @@ use Rattle.actions.specs.CodeCount.{oneIfMove}
 use Rattle.roll_text.specs.declared.Number.the-variants.{Got}
 use Rattle.roll_text.specs.declared.Entry.the-variants.{Move, Plain, Stop}
 use Rattle.roll_text.specs.Number.{mostGroups, reach, numberText, readNumber}
-use Rattle.roll_text.specs.Roll.{Front, putNumber, oneNumber, isCode, codeOf, actionText, movedBy, coded, readEntry, Acts, next, putAction}
+use Rattle.roll_text.specs.Roll.{Front, putNumber, oneNumber, isCode, codeOf, actionText, movedBy, coded, readEntry, Acts, nextAction, putAction}
 use Rattle.roll_text.proofs.ByFields.{moveInRange, actionInRange}
 use Rattle.roll_text.proofs.Numbers.{numbers-read-back}
 
@@ -100,14 +100,14 @@ move-back move rest h =
 behind-both : (a b rest : List ℕ) → drop (length a + length b) (a ++ (b ++ rest)) ≡ rest
 behind-both a b rest = lib.Seq.drop-append-add a (b ++ rest) (length b) ∙ lib.Seq.drop-append-seam b rest
 
-pub next-move : (left : ℕ) (s : List ℕ) (move size : ℕ) (go : ℕ → List ℕ → Acts) → next (Move move size) left s go ≡ putAction (fields 1 0 move) (go
+pub next-move : (left : ℕ) (s : List ℕ) (move size : ℕ) (go : ℕ → List ℕ → Acts) → nextAction (Move move size) left s go ≡ putAction (fields 1 0 move) (go
     (left - 1) (drop size s))
-unfolding next
+unfolding nextAction
 next-move left s move size go = refl
 
-pub next-plain : (left : ℕ) (s : List ℕ) (code size : ℕ) (go : ℕ → List ℕ → Acts) → next (Plain code size) left s go ≡ putAction (fields (code / 2)
+pub next-plain : (left : ℕ) (s : List ℕ) (code size : ℕ) (go : ℕ → List ℕ → Acts) → nextAction (Plain code size) left s go ≡ putAction (fields (code / 2)
     (code % 2) 0) (go left (drop size s))
-unfolding next
+unfolding nextAction
 next-plain left s code size go = refl
 
 text-move : (kind colour move : ℕ) → kind ≡ 1 → actionText kind colour move ≡ numberText (codeOf kind colour) ++ numberText move
@@ -156,12 +156,12 @@ no-move kind colour move h = simp (ne-eqb _ _ h)
 -- the action at the front, with `left` moves to come
 pub action-next : (k c l u left : ℕ) (rest : List ℕ) (go : ℕ → List ℕ → Acts) → l ≤ 255 → actionInRange k c (l + 256 * u) ≡ true → oneIfMove k c (l +
     256 * u) ≤ left
-    → next (readEntry (eqb left 0) (actionText k c (l + 256 * u) ++ rest)) left (actionText k c (l + 256 * u) ++ rest) go
+    → nextAction (readEntry (eqb left 0) (actionText k c (l + 256 * u) ++ rest)) left (actionText k c (l + 256 * u) ++ rest) go
     ≡ putAction (k ∷ c ∷ l ∷ u ∷ []) (go (left - oneIfMove k c (l + 256 * u)) rest)
 action-next k c l u left rest go hl e few = by (eqb k 1) refl
   where
     by : (t : Bool) → eqb k 1 ≡ t
-        → next (readEntry (eqb left 0) (actionText k c (l + 256 * u) ++ rest)) left (actionText k c (l + 256 * u) ++ rest) go
+        → nextAction (readEntry (eqb left 0) (actionText k c (l + 256 * u) ++ rest)) left (actionText k c (l + 256 * u) ++ rest) go
         ≡ putAction (k ∷ c ∷ l ∷ u ∷ []) (go (left - oneIfMove k c (l + 256 * u)) rest)
     by true f =
         let one : k ≡ 1 = eqb-true k 1 f in

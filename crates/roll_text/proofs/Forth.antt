@@ -26,7 +26,7 @@ use Rattle.roll_text.specs.Roll.{Front, stopped, front, Acts, halted}
 use Rattle.roll_text.specs.Roll.{acts, refusal, rolled, largestNumbers, withinBounds}
 use Rattle.roll_text.specs.Roll.{numbersText, actionText, actionsText, rollText}
 use Rattle.roll_text.specs.Roll.{isCode, putNumber, oneNumber, readNumbers, movedBy}
-use Rattle.roll_text.specs.Roll.{coded, readEntry, putAction, next, readActions}
+use Rattle.roll_text.specs.Roll.{coded, readEntry, putAction, nextAction, readActions}
 use Rattle.roll_text.specs.Roll.{withActions, withCount, withFront, readRoll}
 use Rattle.roll_text.proofs.ByFields.{moveInRange, actionInRange, actionsInRange, movesAmong, held-in-range, as-many-moves}
 use Rattle.roll_text.specs.Promises.{WrittenBack, AcceptedWrittenBack, OneRoll, OneGame}
@@ -279,7 +279,7 @@ unfolding actionsText actionsInRange movesAmong allAtMost
 none-told left bs h = rw h (record { text = refl; in-range = refl; few = omega arith; long = refl; bytes = refl })
 
 actions-forth : (n left : ℕ) (s bs : List ℕ) → allAtMost 255 s ≡ true → readActions n left s ≡ acts bs → Told n left s bs
-unfolding readActions next
+unfolding readActions nextAction
 actions-forth zero left [] bs small e = none-told left bs (cc)
 actions-forth zero left (b ∷ s) bs small e = let z : _≡_ {A = ℕ} 0 1 = cc in absurd (omega arith)
 actions-forth (suc n) left s bs small e = by (readEntry (eqb left 0) s) refl (λ l t. actions-forth n l t)

@@ -17,7 +17,7 @@ use Rattle.roll_text.specs.declared.Entry.{Entry}
 use Rattle.roll_text.specs.declared.Entry.the-variants.{Move, Plain, Stop}
 use Rattle.roll_text.specs.Number.{readNumber}
 use Rattle.roll_text.specs.Roll.{Front, stopped, front, putNumber, oneNumber, readNumbers}
-use Rattle.roll_text.specs.Roll.{Acts, halted, acts, movedBy, isCode, coded, readEntry, putAction, next, readActions}
+use Rattle.roll_text.specs.Roll.{Acts, halted, acts, movedBy, isCode, coded, readEntry, putAction, nextAction, readActions}
 use Rattle.roll_text.specs.Roll.{Rolled, refusal, rolled, withActions, withCount, withFront, readRoll, largestNumbers}
 use Rattle.roll_text.specs.Calls.{rollAnswer, judged}
 
@@ -95,8 +95,8 @@ module _ (test : ℕ → Bool) (p : Passes test) where
   action-told bs (acts cs) e = refl
 
   next-told : (x : Entry) (left : ℕ) (s : List ℕ) (go : ℕ → List ℕ → Acts) → entryPasses test x ≡ true
-      → ((l : ℕ) (t : List ℕ) → actsPasses test (go l t) ≡ true) → actsPasses test (next x left s go) ≡ true
-  unfolding next entryPasses actsPasses
+      → ((l : ℕ) (t : List ℕ) → actsPasses test (go l t) ≡ true) → actsPasses test (nextAction x left s go) ≡ true
+  unfolding nextAction entryPasses actsPasses
   next-told (Move move size) left s go e h = action-told (fields 1 0 move) (go (left - 1) (drop size s)) (h (left - 1) (drop size s))
   next-told (Plain code size) left s go e h = action-told (fields (code / 2) (code % 2) 0) (go left (drop size s)) (h left (drop size s))
   next-told (Stop k) left s go e h = e

@@ -116,16 +116,16 @@ putAction bs (halted k) = halted k
 putAction bs (acts cs) = acts (bs ++ cs)
 
 -- `left` moves may come
-unfoldable pub next : Entry → ℕ → List ℕ → (ℕ → List ℕ → Acts) → Acts
-next (Move move size) left s go = putAction (fields 1 0 move) (go (left - 1) (drop size s))
-next (Plain code size) left s go = putAction (fields (code / 2) (code % 2) 0) (go left (drop size s))
-next (Stop k) left s go = halted k
+unfoldable pub nextAction : Entry → ℕ → List ℕ → (ℕ → List ℕ → Acts) → Acts
+nextAction (Move move size) left s go = putAction (fields 1 0 move) (go (left - 1) (drop size s))
+nextAction (Plain code size) left s go = putAction (fields (code / 2) (code % 2) 0) (go left (drop size s))
+nextAction (Stop k) left s go = halted k
 
 -- n actions, and then the text's end
 unfoldable pub readActions : ℕ → ℕ → List ℕ → Acts
 readActions zero left [] = acts []
 readActions zero left (b ∷ bs) = halted badRoll
-readActions (suc n) left s = next (readEntry (eqb left 0) s) left s (λ l t. readActions n l t)
+readActions (suc n) left s = nextAction (readEntry (eqb left 0) s) left s (λ l t. readActions n l t)
 
 -- a start's numbers, the action count and the actions' bytes, or a refusal
 pub data Rolled : Type 0 where

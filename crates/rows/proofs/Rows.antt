@@ -15,7 +15,7 @@ use Rattle.san_text.specs.Form.{castled, resolved, readAnswer}
 use Rattle.san_text.specs.Name.{optional, promotionLetter, pieceLetter, changesFiles, takesOf, headOf, candidates, names}
 use Rattle.san_text.specs.Name.{castlingName, firstName, kingFirst, nameOf, nameText, nameCheck}
 use Rattle.san_text.specs.Paper.{markOf, endOf, sanText}
-use Rattle.square.specs.Square.{readSquare, told}
+use Rattle.square.specs.Square.{readSquare, pairTold}
 use Rattle.castle_rights.specs.CastleRights.{lettersOf, lettersText}
 use Rattle.chess_move.specs.Coordinate.{promotionNamed, withDest, withSource, readMove}
 use Rattle.fen_text.specs.Token.{onto, joined, tokens, placeAfter, placeWhere}
@@ -32,7 +32,7 @@ unfolding writeAnswer writeBytes ascii allAtMost kindOf inRange listInRange amon
     markOf endOf sanText readSquare pieceOf letterOf lettersOf lettersText
     onto joined tokens placeAfter placeWhere placeByte placeAll sideOf rightsOf sided assembled ofTokens readFen
     digitText runText slashText ranksText rightsText enPassantText tailText fenText
-    told promotionNamed withDest withSource readMove
+    pairTold promotionNamed withDest withSource readMove
 sixteen-rows = record {
   row1 = (refl, refl);
   row2 = refl;

@@ -3,9 +3,9 @@
 -- Assumes nothing.
 use mathlib.Core.List.{[], _∷_}
 use Rattle.answer.specs.Answer.{invalidSquare, invalidUciMove, tooFewTokens, badPlacement}
-use Rattle.chess_move.specs.AtSmallest.{Moves, NoMove}
+use Rattle.chess_move.specs.AtSmallest.{Moves, ReadsNoMove}
 use Rattle.fen_text.specs.Rows.{Writes, Refused}
-use Rattle.san_text.specs.Slips.{Reads, Refuses, Named, knight, knights, rook, pawn}
+use Rattle.san_text.specs.Slips.{Reads, Refuses, Named, knight, knights, rook, onlyPawn}
 
 pub record SixteenRows : Type 0 where
   pub row1 : Writes " w - -" "8/8/8/8/8/8/8/8 w - - 0 1"
@@ -14,8 +14,8 @@ pub record SixteenRows : Type 0 where
   pub row4 : Writes "8/8/8/8/8/8/8/8 w - e4" "8/8/8/8/8/8/8/8 w - e6 0 1"
   pub row5 : Writes "8/8/8/8/8/8/8/8 b - z9" "8/8/8/8/8/8/8/8 b - - 0 1"
   pub row6 : (Moves "e2e4q" 22284) × (Moves "e2e4qx" 1804)
-  pub row7 : (NoMove "e2e4k" invalidUciMove 4) × (NoMove "e2e" invalidUciMove 3)
-  pub row8 : NoMove "z9e4" invalidSquare 0
+  pub row7 : (ReadsNoMove "e2e4k" invalidUciMove 4) × (ReadsNoMove "e2e" invalidUciMove 3)
+  pub row8 : ReadsNoMove "z9e4" invalidSquare 0
   -- knight b1, list 1153
   pub row9 : Reads knight (1153 ∷ []) "Nc3+?!" 1153
   pub row10 : Refuses knight (1153 ∷ []) "Nc3x"
@@ -26,5 +26,5 @@ pub record SixteenRows : Type 0 where
   pub row13 : (Reads rook (388 ∷ []) "O-O" 388) × (Refuses rook (388 ∷ []) "O-O+")
   pub row14 : Named rook (388 ∷ 388 ∷ []) 388 "O-O"
   -- pawn e5, list 2788
-  pub row15 : (Refuses pawn (2788 ∷ []) "exd6") × (Reads pawn (2788 ∷ []) "d6" 2788)
-  pub row16 : Named pawn (2788 ∷ []) 2788 "exd6 e.p."
+  pub row15 : (Refuses onlyPawn (2788 ∷ []) "exd6") × (Reads onlyPawn (2788 ∷ []) "d6" 2788)
+  pub row16 : Named onlyPawn (2788 ∷ []) 2788 "exd6 e.p."

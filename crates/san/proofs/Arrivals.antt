@@ -9,7 +9,7 @@ use lib.Dec.{eqb}
 use borrow.Author.Tests.{eq-eqb, eqb-true}
 use Rattle.chess_move.specs.Number.{sourceOf, destOf, promotionOf}
 use Rattle.san_text.specs.declared.San.{San}
-use Rattle.san_text.specs.Resolve.{kindAt, agrees, fits}
+use Rattle.san_text.specs.Resolve.{kindOn, agrees, fits}
 use Rattle.san.specs.CodeFitting.{sourceFits}
 
 -- what `m / 64` is of an entry that arrives as the text says
@@ -37,7 +37,7 @@ module _ (pieces : List ℕ) (t : San) (m : ℕ) where
   arrives-elsewhere n = go (eqb (destOf m) (t .dest)) (eqb (promotionOf m) (t .promotion)) refl refl
     where
       kind : Bool
-      kind = eqb (kindAt pieces (sourceOf m)) (t .piece)
+      kind = eqb (kindOn pieces (sourceOf m)) (t .piece)
 
       file : Bool
       file = agrees (t .file) (sourceOf m % 8 + 1)

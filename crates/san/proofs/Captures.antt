@@ -15,7 +15,7 @@ use Rattle.san_text.specs.declared.San.{San}
 use Rattle.san_text.specs.declared.SanText.{SanText}
 use Rattle.san_text.specs.declared.SanText.the-variants.{KingSide, QueenSide, Move, Refused}
 use Rattle.san_text.specs.Place.{given}
-use Rattle.san_text.specs.Resolve.{kindAt, emptyAt, fits, captureTest}
+use Rattle.san_text.specs.Resolve.{kindOn, emptyOn, fits, captureTest}
 use Rattle.san_text.specs.Name.{changesFiles, takesOf}
 use Rattle.san_text.specs.Form.{castled, resolved}
 use Rattle.san_text.specs.Standard.{standardCaptures, standardCastles}
@@ -52,45 +52,45 @@ rule-pawn false true mark false straight file = refl
 rule-pawn false false mark true straight file = refl
 rule-pawn false false mark false straight file = refl
 
-module _ (form : Bool) (pieces : List ℕ) (t : San) (m : ℕ) (h : kindAt pieces (sourceOf m) ≡ t .piece) where
+module _ (form : Bool) (pieces : List ℕ) (t : San) (m : ℕ) (h : kindOn pieces (sourceOf m) ≡ t .piece) where
   -- the form's test, the man being a pawn or not
   abbrev with : Bool → Bool
-  with pawn = rule form (t .takes) (t .mark) (emptyAt pieces (destOf m)) pawn (eqb (sourceOf m % 8) (destOf m % 8)) (given (t .file))
+  with pawn = rule form (t .takes) (t .mark) (emptyOn pieces (destOf m)) pawn (eqb (sourceOf m % 8) (destOf m % 8)) (given (t .file))
 
   form-rule : formOf form .captures pieces t m ≡ with (eqb (t .piece) 1)
   unfolding standardCaptures takesOf changesFiles captureTest
   form-rule = go form
     where
       go : (f : Bool) → formOf f .captures pieces t m
-          ≡ rule f (t .takes) (t .mark) (emptyAt pieces (destOf m)) (eqb (t .piece) 1) (eqb (sourceOf m % 8) (destOf m % 8)) (given (t .file))
+          ≡ rule f (t .takes) (t .mark) (emptyOn pieces (destOf m)) (eqb (t .piece) 1) (eqb (sourceOf m % 8) (destOf m % 8)) (given (t .file))
       go true = rw h
       go false = refl
 
   pub captures-other : (t .piece ≡ 1 → ⊥) → formOf form .captures pieces t m ≡ cond (t .takes)
-      ((not form && t .mark) || not (emptyAt pieces (destOf m))) (not (not (emptyAt pieces (destOf m))))
+      ((not form && t .mark) || not (emptyOn pieces (destOf m))) (not (not (emptyOn pieces (destOf m))))
   captures-other n = form-rule ∙ ap with (ne-eqb _ _ n) ∙ rule-other form (t .takes) (t .mark) _ _ _
 
   pub captures-pawn : t .piece ≡ 1 → formOf form .captures pieces t m ≡ cond (t .takes)
-      ((not form && t .mark) || ((not (emptyAt pieces (destOf m)) || (form && not (eqb (sourceOf m % 8) (destOf m % 8)))) && (not form || given (t .file))))
-      (not (not (emptyAt pieces (destOf m)) || (form && not (eqb (sourceOf m % 8) (destOf m % 8)))))
+      ((not form && t .mark) || ((not (emptyOn pieces (destOf m)) || (form && not (eqb (sourceOf m % 8) (destOf m % 8)))) && (not form || given (t .file))))
+      (not (not (emptyOn pieces (destOf m)) || (form && not (eqb (sourceOf m % 8) (destOf m % 8)))))
   captures-pawn e = form-rule ∙ ap with (eq-eqb _ _ e) ∙ rule-pawn form (t .takes) (t .mark) _ _ _
 
 -- ---- the one entry that fits
 
-fits-kind : (pieces : List ℕ) (t : San) (m : ℕ) → fits pieces t m ≡ true → kindAt pieces (sourceOf m) ≡ t .piece
+fits-kind : (pieces : List ℕ) (t : San) (m : ℕ) → fits pieces t m ≡ true → kindOn pieces (sourceOf m) ≡ t .piece
 unfolding fits
-fits-kind pieces t m e = go (eqb (kindAt pieces (sourceOf m)) (t .piece)) refl _ e
+fits-kind pieces t m e = go (eqb (kindOn pieces (sourceOf m)) (t .piece)) refl _ e
   where
-    go : (b : Bool) → eqb (kindAt pieces (sourceOf m)) (t .piece) ≡ b → (x : Bool) → b && x ≡ true → kindAt pieces (sourceOf m) ≡ t .piece
+    go : (b : Bool) → eqb (kindOn pieces (sourceOf m)) (t .piece) ≡ b → (x : Bool) → b && x ≡ true → kindOn pieces (sourceOf m) ≡ t .piece
     go true w x k = eqb-true _ _ w
     go false w x k =
         let n : _≡_ {A = ℕ} 0 1 = cc in
         absurd (omega arith)
 
-pub sole-kind : (pieces : List ℕ) (t : San) (l : List ℕ) → count (fits pieces t) l ≡ 1 → kindAt pieces (sourceOf (firstOf (fits pieces t) l)) ≡ t .piece
+pub sole-kind : (pieces : List ℕ) (t : San) (l : List ℕ) → count (fits pieces t) l ≡ 1 → kindOn pieces (sourceOf (firstOf (fits pieces t) l)) ≡ t .piece
 sole-kind pieces t l e = fits-kind pieces t (firstOf (fits pieces t) l) (first-passes (fits pieces t) l (omega arith))
 
-pub kind-here : (pieces : List ℕ) (t : San) (d source : ℕ) → kindFits pieces t source ≡ true → kindAt pieces (sourceOf (d * 64 + source % 64)) ≡ t .piece
+pub kind-here : (pieces : List ℕ) (t : San) (d source : ℕ) → kindFits pieces t source ≡ true → kindOn pieces (sourceOf (d * 64 + source % 64)) ≡ t .piece
 unfolding kindFits
 kind-here pieces t d source e =
     let s : sourceOf (d * 64 + source % 64) ≡ sourceOf source = omega arith in

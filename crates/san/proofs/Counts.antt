@@ -12,7 +12,7 @@ use lib.Seq.{drop-cons}
 use borrow.Author.Tests.{ne-eqb, eqb-true}
 use Rattle.move_list.specs.MoveList.{count, firstOf}
 use Rattle.san.specs.declared.resolve.Fitting.{Fitting}
-use Rattle.san.specs.CodeFitting.{added}
+use Rattle.san.specs.CodeFitting.{withEntry}
 
 -- `f` is the count and the first of the entries before place i
 pub record CountedTo (g : ℕ → Bool) (l : List ℕ) (i : ℕ) (f : Fitting) : Type 0 where
@@ -26,8 +26,8 @@ module _ (g : ℕ → Bool) (l : List ℕ) where
   counted-start = record { few = omega arith; counts = omega arith; first = refl; none = λ e. refl }
 
   -- one more entry, which passes or not
-  pub counted-turn : (i : ℕ) (f : Fitting) → i < length l → CountedTo g l i f → CountedTo g l (i + 1) (added f (g (getD l i 0)) (getD l i 0))
-  unfolding count firstOf added
+  pub counted-turn : (i : ℕ) (f : Fitting) → i < length l → CountedTo g l i f → CountedTo g l (i + 1) (withEntry f (g (getD l i 0)) (getD l i 0))
+  unfolding count firstOf withEntry
   counted-turn i f h inv = rw (add-one i) (go (g x) refl)
     where
       x : ℕ
@@ -42,7 +42,7 @@ module _ (g : ℕ → Bool) (l : List ℕ) where
       never : n + 1 ≡ 0 → ⊥
       never z = omega arith
 
-      go : (b : Bool) → g x ≡ b → CountedTo g l (suc i) (added f b x)
+      go : (b : Bool) → g x ≡ b → CountedTo g l (suc i) (withEntry f b x)
       go true e =
           let few = inv .few in
           let counts : n + suc (count g (drop (suc i) l)) ≡ count g l = rw (here, e) at (inv .counts) in
@@ -53,7 +53,7 @@ module _ (g : ℕ → Bool) (l : List ℕ) where
           record { few = omega arith; counts = rw (here, e) at (inv .counts); first = rw (here, e) at (inv .first); none = inv .none }
 
   pub counted-pass : (i : ℕ) (f : Fitting) → i < length l → g (getD l i 0) ≡ false → CountedTo g l i f → CountedTo g l (i + 1) f
-  unfolding added
+  unfolding withEntry
   counted-pass i f h e inv = rw e at (counted-turn i f h inv)
 
   pub counted-end : (i : ℕ) (f : Fitting) → length l ≤ i → CountedTo g l i f → (f .count ≡ count g l) × (f .first ≡ firstOf g l)

@@ -14,7 +14,7 @@ use Rattle.move_list.specs.MoveList.{count, firstOf}
 use Rattle.san_text.specs.declared.San.{San}
 use Rattle.san_text.specs.declared.SanText.{SanText}
 use Rattle.san_text.specs.declared.SanText.the-variants.{KingSide, QueenSide, Move, Refused}
-use Rattle.san_text.specs.Resolve.{kindAt, agrees, fits, soleThat}
+use Rattle.san_text.specs.Resolve.{kindOn, agrees, fits, soleThat}
 use Rattle.san_text.specs.Forms.{formOf}
 use Rattle.san.specs.declared.resolve.Fitting.{Fitting}
 
@@ -25,12 +25,12 @@ boardWith side pieces = board pieces side 0 0 0
 -- piece kind, file and rank of the source agree
 unfoldable pub sourceFits : List ℕ → San → ℕ → Bool
 sourceFits pieces t m =
-    eqb (kindAt pieces (sourceOf m)) (t .piece) && (agrees (t .file) (sourceOf m % 8 + 1) && agrees (t .rank) (sourceOf m / 8 + 1))
+    eqb (kindOn pieces (sourceOf m)) (t .piece) && (agrees (t .file) (sourceOf m % 8 + 1) && agrees (t .rank) (sourceOf m / 8 + 1))
 
 -- the count and the first so far, whether the next entry fits, and the entry
-unfoldable pub added : Fitting → Bool → ℕ → Fitting
-added f true m = record { count = f .count + 1; first = cond (eqb (f .count) 0) m (f .first) }
-added f false m = f
+unfoldable pub withEntry : Fitting → Bool → ℕ → Fitting
+withEntry f true m = record { count = f .count + 1; first = cond (eqb (f .count) 0) m (f .first) }
+withEntry f false m = f
 
 -- the count and the first of the entries that fit
 pub record Counted (pieces : List ℕ) (t : San) (moves : List ℕ) (f : Fitting) : Type 0 where

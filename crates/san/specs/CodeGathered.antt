@@ -16,7 +16,7 @@ use Rattle.chess_move.specs.Number.{lastMove, sourceOf}
 use Rattle.move_list.specs.MoveList.{listInRange}
 use Rattle.san_text.specs.declared.San.{San}
 use Rattle.san_text.specs.Place.{given}
-use Rattle.san_text.specs.Resolve.{kindAt}
+use Rattle.san_text.specs.Resolve.{kindOn}
 use Rattle.san_text.specs.Forms.{formOf}
 use Rattle.san.specs.declared.gathering.Gathered.{Gathered}
 
@@ -40,7 +40,7 @@ picked mask want m = eqb (bitAnd m mask) want
 
 -- the man on the source is of the text's kind
 unfoldable pub kindFits : List ℕ → San → ℕ → Bool
-kindFits pieces t m = eqb (kindAt pieces (sourceOf m)) (t .piece)
+kindFits pieces t m = eqb (kindOn pieces (sourceOf m)) (t .piece)
 
 -- a source, if its entry is picked, before those of the entries behind it
 unfoldable pub kept : Bool → ℕ → List ℕ → List ℕ

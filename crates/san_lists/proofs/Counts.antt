@@ -14,7 +14,7 @@ use Rattle.answer.proofs.Numbers.{both-left, both-right}
 use Rattle.chess_move.specs.Number.{lastMove}
 use Rattle.move_list.specs.MoveList.{longestList, listInRange, count, firstOf}
 use Rattle.move_list.proofs.Counting.{count-listed}
-use Rattle.san_lists.specs.Lists.{times, Reordered, Within}
+use Rattle.san_lists.specs.Lists.{occurrences, Reordered, Within}
 
 -- ---- every test
 
@@ -34,12 +34,12 @@ more-swap false true n = refl
 more-swap false false n = refl
 
 -- that entry put back is counted as itself
-without-count : (f : ℕ → Bool) (n : ℕ) (k : List ℕ) → 1 ≤ times n k → count f k ≡ more (f n) (count f (without n k))
+without-count : (f : ℕ → Bool) (n : ℕ) (k : List ℕ) → 1 ≤ occurrences n k → count f k ≡ more (f n) (count f (without n k))
 unfolding count without
 without-count f n [] h = absurd (omega arith)
 without-count f n (x ∷ xs) h = go (eqb x n) refl (without-count f n xs) h
   where
-    go : (b : Bool) → eqb x n ≡ b → (1 ≤ times n xs → count f xs ≡ more (f n) (count f (without n xs))) → 1 ≤ more b (times n xs)
+    go : (b : Bool) → eqb x n ≡ b → (1 ≤ occurrences n xs → count f xs ≡ more (f n) (count f (without n xs))) → 1 ≤ more b (occurrences n xs)
         → more (f x) (count f xs) ≡ more (f n) (count f (cond b xs (x ∷ without n xs)))
     go true e ih p = ap (λ (y : ℕ). more (f y) (count f xs)) (eqb-true x n e)
     go false e ih p = ap (more (f x)) (ih p) ∙ more-swap (f x) (f n) (count f (without n xs))
@@ -49,7 +49,7 @@ pub within-count : (f : ℕ → Bool) (l k : List ℕ) → Within l k → count 
 unfolding count
 within-count f [] k w = omega arith
 within-count f (x ∷ xs) k w =
-    let here : 1 ≤ times x k = first-there (times x xs) (times x k) (rw (eq-eqb x x refl) at (w x)) in
+    let here : 1 ≤ occurrences x k = first-there (occurrences x xs) (occurrences x k) (rw (eq-eqb x x refl) at (w x)) in
     let rest = within-count f xs (without x k) (λ n. less (eqb x n) (rw (without-count (λ (y : ℕ). eqb y n) x k here) at (w n))) in
     rw (without-count f x k here) (add (f x) rest)
   where
@@ -76,13 +76,13 @@ reordered-count f l k r =
 
 -- ---- what is read off the counts
 
-listed-count : (m : ℕ) (l : List ℕ) → among m l ≡ not (eqb (times m l) 0)
+listed-count : (m : ℕ) (l : List ℕ) → among m l ≡ not (eqb (occurrences m l) 0)
 unfolding among count
 listed-count m [] = refl
 listed-count m (x ∷ xs) = go (eqb x m) (listed-count m xs)
   where
-    go : (b : Bool) → among m xs ≡ not (eqb (times m xs) 0) → b || among m xs ≡ not (eqb (more b (times m xs)) 0)
-    go true e = rw (eqb·suc-zero (times m xs))
+    go : (b : Bool) → among m xs ≡ not (eqb (occurrences m xs) 0) → b || among m xs ≡ not (eqb (more b (occurrences m xs)) 0)
+    go true e = rw (eqb·suc-zero (occurrences m xs))
     go false e = e
 
 length-count : (l : List ℕ) → length l ≡ count (λ (x : ℕ). true) l

@@ -17,7 +17,7 @@ use Rattle.san_text.specs.declared.SanText.{SanText}
 use Rattle.san_text.specs.declared.SanText.the-variants.{KingSide, QueenSide, Move, Refused}
 use Rattle.san_text.specs.Resolve.{fits, soleThat, castle}
 use Rattle.san_text.specs.Form.{Form, castled, resolved, readAnswer}
-use Rattle.san_text.specs.Name.{isMove, names, nameOf, nameText, nameCheck}
+use Rattle.san_text.specs.Name.{isThisMove, names, nameOf, nameText, nameCheck}
 use Rattle.san_lists.specs.Lists.{Reordered}
 use Rattle.san_lists.specs.Calls.{callsOf}
 use Rattle.san_lists.specs.Promises.{AnyOrder}
@@ -62,7 +62,7 @@ module _ (l k : List ℕ) (r : Reordered l k) where
     -- the same name
     name-same : (m : ℕ) → nameOf F b l m ≡ nameOf F b k m
     unfolding nameOf names
-    name-same m = rw (fun-ext (λ (t : List ℕ). ap (λ (a : Answer). isMove a m) (text-same (F .read t))))
+    name-same m = rw (fun-ext (λ (t : List ℕ). ap (λ (a : Answer). isThisMove a m) (text-same (F .read t))))
 
     name-text-same : (m : ℕ) → nameText F b l m ≡ nameText F b k m
     unfolding nameText

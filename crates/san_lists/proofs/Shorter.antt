@@ -17,7 +17,7 @@ use Rattle.answer.proofs.Writes.{check-passed}
 use Rattle.board_builder.specs.declared.BoardBuilder.{BoardBuilder}
 use Rattle.chess_move.specs.Number.{sourceOf}
 use Rattle.san_text.specs.Text.{kingSideText, queenSideText}
-use Rattle.san_text.specs.Resolve.{kindAt, castlingMove}
+use Rattle.san_text.specs.Resolve.{kindOn, castlingMove}
 use Rattle.san_text.specs.Form.{Form, resolved}
 use Rattle.san_text.specs.Name.{optional, changesFiles, headOf, candidates, names, castlingName, firstName, kingFirst}
 use Rattle.san_text.specs.Name.{nameOf, textOr, noneIs8, nameText, nameCheck}
@@ -28,7 +28,7 @@ use Rattle.san_text.proofs.Lawful.{Castling, Lawful}
 use Rattle.san_text.proofs.ReadBack.{checks}
 use Rattle.san_lists.specs.Lists.{Within}
 use Rattle.san_lists.specs.Calls.{callsOf}
-use Rattle.san_lists.specs.Promises.{NoLonger, NamesGetNoLonger, WasCastling, NoLongerOrWasCastling}
+use Rattle.san_lists.specs.Promises.{NameNoLonger, NamesGetNoLonger, WasCastling, NoLongerOrWasCastling}
 use Rattle.san_lists.proofs.Fewer.{text-kept}
 use Rattle.san_lists.proofs.Names.{Name, name-there, ready-left, written-front}
 
@@ -140,19 +140,19 @@ module _ (F : Form) (grows : Grows F) (b : BoardBuilder) (whole left : List ℕ)
   name-shorter : (u : List ℕ) → nameOf F b whole m ≡ some u → Found (nameOf F b left m) (length u) ⊎ ByResort u
   unfolding nameOf
   name-shorter u e =
-      king-first (eqb (kindAt (b .pieces) (sourceOf m)) 6) (castlingName (b .«side_to_move») m) _ _ u e
+      king-first (eqb (kindOn (b .pieces) (sourceOf m)) 6) (castlingName (b .«side_to_move») m) _ _ u e
       (λ tried. first-shorter (names F b left m) (names F b whole m) names-wider (rising F grows (b .pieces) m (changesFiles (b .pieces) m)) _ _ u tried)
 
   -- the whole answers
   fits-too : (room : ℕ) → (n : Name F b whole m) → callsOf F .name .answer b whole m room .number ≡ 0 → Found (nameOf F b left m) (length (n .text))
-      → NoLonger (callsOf F) b whole left m room
+      → NameNoLonger (callsOf F) b whole left m room
   unfolding nameText writeAnswer
   fits-too room n e f =
       let c : nameCheck F b whole m ≡ 0 = check-passed (nameCheck F b whole m) (nameText F b whole m) room e in
       let d : nameCheck F b left m ≡ 0 = checks F b left m (ready-left whole left w here (n .ready)) ∙ ap noneIs8 (f .found) in
       go (leb (length (n .text)) room) refl c d
     where
-      go : (t : Bool) → leb (length (n .text)) room ≡ t → nameCheck F b whole m ≡ 0 → nameCheck F b left m ≡ 0 → NoLonger (callsOf F) b whole left m room
+      go : (t : Bool) → leb (length (n .text)) room ≡ t → nameCheck F b whole m ≡ 0 → nameCheck F b left m ≡ 0 → NameNoLonger (callsOf F) b whole left m room
       go true h c d =
           let enough : length (f .text) ≤ room = omega (arith, leb-true (length (n .text)) room h, f .short) in
           record {
@@ -162,10 +162,10 @@ module _ (F : Form) (grows : Grows F) (b : BoardBuilder) (whole left : List ℕ)
       go false h c d = absurd (let z : _≡_ {A = ℕ} 7 0 = rw (c, n .name, h) at e in omega arith)
 
   pub no-longer : (room : ℕ) (n : Name F b whole m) → callsOf F .name .answer b whole m room .number ≡ 0
-      → NoLonger (callsOf F) b whole left m room ⊎ ByResort (n .text)
+      → NameNoLonger (callsOf F) b whole left m room ⊎ ByResort (n .text)
   no-longer room n e = go (name-shorter (n .text) (n .name))
     where
-      go : Found (nameOf F b left m) (length (n .text)) ⊎ ByResort (n .text) → NoLonger (callsOf F) b whole left m room ⊎ ByResort (n .text)
+      go : Found (nameOf F b left m) (length (n .text)) ⊎ ByResort (n .text) → NameNoLonger (callsOf F) b whole left m room ⊎ ByResort (n .text)
       go (inl f) = inl (fits-too room n e f)
       go (inr r) = inr r
 
@@ -182,7 +182,8 @@ names-get-no-longer F grows none-left b whole left m room w here e = go (no-long
     n : Name F b whole m
     n = name-told F b whole m room e
 
-    go : NoLonger (callsOf F) b whole left m room ⊎ (F .resort (castlingName (b .«side_to_move») m) ≡ some (n .text)) → NoLonger (callsOf F) b whole left m room
+    go : NameNoLonger (callsOf F) b whole left m room ⊎ (F .resort (castlingName (b .«side_to_move») m) ≡ some (n .text))
+        → NameNoLonger (callsOf F) b whole left m room
     go (inl k) = k
     go (inr r) = absurd (none-not (sym (none-left (castlingName (b .«side_to_move») m)) ∙ r))
       where
@@ -214,8 +215,8 @@ no-longer-or-was-castling F law grows b whole left m out w here e = go (no-longe
     castling (inl k) = inl (written-front F b whole m out e ∙ written kingSideText k)
     castling (inr k) = inr (written-front F b whole m out e ∙ written queenSideText k)
 
-    go : NoLonger (callsOf F) b whole left m (length out) ⊎ (F .resort (castlingName (b .«side_to_move») m) ≡ some (n .text)) → Castling F b
-        → NoLonger (callsOf F) b whole left m (length out) ⊎ WasCastling (callsOf F) b whole m out
+    go : NameNoLonger (callsOf F) b whole left m (length out) ⊎ (F .resort (castlingName (b .«side_to_move») m) ≡ some (n .text)) → Castling F b
+        → NameNoLonger (callsOf F) b whole left m (length out) ⊎ WasCastling (callsOf F) b whole m out
     go (inl k) c = inl k
     go (inr r) (Castling.whatever-stands c same) =
         inr (castling (castling-is (b .«side_to_move») m (n .text) (sym (same (castlingName (b .«side_to_move») m)) ∙ r)))

@@ -10,7 +10,7 @@ use Rattle.answer.specs.Ascii.{ascii}
 use Rattle.board_builder.specs.declared.BoardBuilder.{BoardBuilder}
 use Rattle.board_builder.specs.Steps.{withPiece}
 use Rattle.san_text.specs.Slips.{knight, knights, rook}
-use Rattle.san_lists.specs.Lists.{times, Reordered}
+use Rattle.san_lists.specs.Lists.{occurrences, Reordered}
 use Rattle.san_lists.specs.Calls.{Calls, callsOf, paperCalls, standardCalls}
 use Rattle.san_text.specs.Paper.{paper}
 use Rattle.san_text.specs.Standard.{standard}
@@ -27,44 +27,45 @@ pub record Named (c : Calls) (b : BoardBuilder) (moves : List ℕ) (m : ℕ) (na
   pub text : take (length (ascii name)) (c .name .room b moves m (replicate 11 0)) ≡ ascii name
 
 -- one list and the same in another order, one entry of the two, and the same entry twice
-abbrev pub two : List ℕ
-two = 1153 ∷ 1164 ∷ []
+abbrev pub twoEntries : List ℕ
+twoEntries = 1153 ∷ 1164 ∷ []
 
-abbrev pub turned : List ℕ
-turned = 1164 ∷ 1153 ∷ []
+abbrev pub entriesTurned : List ℕ
+entriesTurned = 1164 ∷ 1153 ∷ []
 
-abbrev pub one : List ℕ
-one = 1153 ∷ []
+abbrev pub oneEntry : List ℕ
+oneEntry = 1153 ∷ []
 
 abbrev pub twice : List ℕ
 twice = 1153 ∷ 1153 ∷ []
 
 -- how often a number stands in a list; one entry is not the same entry twice in another order
 pub record ListsAtSmallest : Type 0 where
-  pub not-there : times 1164 one ≡ 0
-  pub once : times 1153 two ≡ 1
-  pub counted-each : times 1153 twice ≡ 2
-  pub not-reordered : Reordered one twice → ⊥
+  pub not-there : occurrences 1164 oneEntry ≡ 0
+  pub once : occurrences 1153 twoEntries ≡ 1
+  pub counted-each : occurrences 1153 twice ≡ 2
+  pub not-reordered : Reordered oneEntry twice → ⊥
 
 -- for either form
 pub record InOneForm (c : Calls) : Type 0 where
   -- another order: the same move, the same name, the same refusals
-  pub read : (Reads c knights two "Nbc3" 1153) × (Reads c knights turned "Nbc3" 1153)
-  pub not-alone : (Refuses c knights two "Nc3") × (Refuses c knights turned "Nc3")
-  pub named : (Named c knights two 1153 "Nbc3") × (Named c knights turned 1153 "Nbc3")
-  pub too-short : (c .name .answer knights two 1153 3 ≡ tooShort 4) × (c .name .answer knights turned 1153 3 ≡ tooShort 4)
-  pub not-listed : (c .name .answer knights two 0 11 ≡ refused notListed) × (c .name .answer knights turned 0 11 ≡ refused notListed)
-  pub unnamed : (c .name .answer knights (1153 ∷ two) 1153 11 ≡ refused noName) × (c .name .answer knights (1153 ∷ turned) 1153 11 ≡ refused noName)
+  pub read : (Reads c knights twoEntries "Nbc3" 1153) × (Reads c knights entriesTurned "Nbc3" 1153)
+  pub not-alone : (Refuses c knights twoEntries "Nc3") × (Refuses c knights entriesTurned "Nc3")
+  pub named : (Named c knights twoEntries 1153 "Nbc3") × (Named c knights entriesTurned 1153 "Nbc3")
+  pub too-short : (c .name .answer knights twoEntries 1153 3 ≡ tooShort 4) × (c .name .answer knights entriesTurned 1153 3 ≡ tooShort 4)
+  pub not-listed : (c .name .answer knights twoEntries 0 11 ≡ refused notListed) × (c .name .answer knights entriesTurned 0 11 ≡ refused notListed)
+  pub unnamed : (c .name .answer knights (1153 ∷ twoEntries) 1153 11 ≡ refused noName)
+      × (c .name .answer knights (1153 ∷ entriesTurned) 1153 11 ≡ refused noName)
   -- an entry removed: the same move, and the name may be shorter
-  pub left : Reads c knights one "Nbc3" 1153
-  pub shorter : Named c knights one 1153 "Nc3"
+  pub left : Reads c knights oneEntry "Nbc3" 1153
+  pub shorter : Named c knights oneEntry 1153 "Nc3"
   -- the resolved move is the one entry that must stay: without it the text is refused, or read as another
   pub all-gone : Refuses c knights (1164 ∷ []) "Nbc3"
   -- an entry removed may make a refused text a good one
-  pub refused-no-more : Reads c knights one "Nc3" 1153
+  pub refused-no-more : Reads c knights oneEntry "Nc3" 1153
   -- an entry added: the same move, or 4, also for the same entry once more
-  pub kept : (Reads c knight one "Nc3" 1153) × (Reads c knight (0 ∷ one) "Nc3" 1153)
-  pub one-too-many : Refuses c knights two "Nc3"
+  pub kept : (Reads c knight oneEntry "Nc3" 1153) × (Reads c knight (0 ∷ oneEntry) "Nc3" 1153)
+  pub one-too-many : Refuses c knights twoEntries "Nc3"
   pub same-again : Refuses c knight twice "Nc3"
   -- 255 entries in all, and one more
   pub full : Reads c knight (1153 ∷ replicate 254 0) "Nc3" 1153

@@ -7,13 +7,13 @@ use lib.Dec.{eqb}
 use Rattle.move_list.specs.MoveList.{count}
 
 -- how often a number stands in a list
-abbrev pub times : ℕ → List ℕ → ℕ
-times n l = count (λ (x : ℕ). eqb x n) l
+abbrev pub occurrences : ℕ → List ℕ → ℕ
+occurrences n l = count (λ (x : ℕ). eqb x n) l
 
 -- the same entries, each as often
 abbrev pub Reordered : List ℕ → List ℕ → Type 0
-Reordered l k = (n : ℕ) → times n l ≡ times n k
+Reordered l k = (n : ℕ) → occurrences n l ≡ occurrences n k
 
 -- only entries of the second list, none more often
 abbrev pub Within : List ℕ → List ℕ → Type 0
-Within l k = (n : ℕ) → times n l ≤ times n k
+Within l k = (n : ℕ) → occurrences n l ≤ occurrences n k

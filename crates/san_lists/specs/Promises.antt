@@ -49,14 +49,14 @@ AddingNamesNone c =
     → c .name .answer b l m room .number ≡ noName → c .name .answer b more m room .number ≡ noName
 
 -- the name on what is left fits the room that was long enough, and has no more bytes
-pub record NoLonger (c : Calls) (b : BoardBuilder) (whole left : List ℕ) (m room : ℕ) : Type 0 where
+pub record NameNoLonger (c : Calls) (b : BoardBuilder) (whole left : List ℕ) (m room : ℕ) : Type 0 where
   pub number : c .name .answer b left m room .number ≡ 0
   pub value : c .name .answer b left m room .value ≤ c .name .answer b whole m room .value
 
 abbrev pub NamesGetNoLonger : Calls → Type 0
 NamesGetNoLonger c =
     (b : BoardBuilder) (whole left : List ℕ) (m room : ℕ) → Within left whole → among m left ≡ true
-    → c .name .answer b whole m room .number ≡ 0 → NoLonger c b whole left m room
+    → c .name .answer b whole m room .number ≡ 0 → NameNoLonger c b whole left m room
 
 -- or the name on the whole list was a castling text: document 01's last resort
 abbrev pub WasCastling : Calls → BoardBuilder → List ℕ → ℕ → List ℕ → Type 0
@@ -67,4 +67,4 @@ WasCastling c b whole m out =
 abbrev pub NoLongerOrWasCastling : Calls → Type 0
 NoLongerOrWasCastling c =
     (b : BoardBuilder) (whole left : List ℕ) (m : ℕ) (out : List ℕ) → Within left whole → among m left ≡ true
-    → c .name .answer b whole m (length out) .number ≡ 0 → NoLonger c b whole left m (length out) ⊎ WasCastling c b whole m out
+    → c .name .answer b whole m (length out) .number ≡ 0 → NameNoLonger c b whole left m (length out) ⊎ WasCastling c b whole m out

@@ -21,7 +21,7 @@ use Rattle.san_text.specs.Text.{readText}
 use Rattle.san_text.specs.Resolve.{fits, captureTest, soleThat}
 use Rattle.san_text.specs.Form.{castled, resolved, readAnswer}
 use Rattle.san_text.specs.Paper.{paper}
-use Rattle.san_text.specs.Promises.{Alike, SameSanAnswer}
+use Rattle.san_text.specs.Promises.{BoardsAlike, SameSanAnswer}
 
 -- tests that agree on the listed entries find the same one, whatever the form
 pub sole-alike : (f f′ g g′ : ℕ → Bool) (l : List ℕ) → ((m : ℕ) → among m l ≡ true → f m ≡ f′ m) → ((m : ℕ) → among m l ≡ true → g m ≡ g′ m)
@@ -40,7 +40,7 @@ sole-alike f f′ g g′ l hf hg =
         rw (hg (firstOf f′ l) (first-listed f′ l (omega arith)))
     go false e = refl
 
-module _ (b c : BoardBuilder) (l : List ℕ) (a : Alike b c l) where
+module _ (b c : BoardBuilder) (l : List ℕ) (a : BoardsAlike b c l) where
   pub fits-same : (u : San) (m : ℕ) → among m l ≡ true → fits (b .pieces) u m ≡ fits (c .pieces) u m
   unfolding fits
   fits-same u m h = rw (a .kinds m h)

@@ -11,8 +11,8 @@ use Rattle.answer.specs.Numbers.{same}
 use Rattle.chess_move.specs.Number.{sourceOf, destOf, promotionOf}
 use Rattle.san_text.specs.declared.San.{San}
 use Rattle.san_text.specs.Place.{filePlace, rankPlace, squareAt, fileByte, rankByte}
-use Rattle.san_text.specs.Text.{Dest, promotionKind, pieceKind, first, after, pieceOr, readTakes, readRank, readFile, readPiece}
-use Rattle.san_text.specs.Resolve.{kindAt}
+use Rattle.san_text.specs.Text.{Dest, promotionKind, pieceKind, firstByte, after, pieceOr, readTakes, readRank, readFile, readPiece}
+use Rattle.san_text.specs.Resolve.{kindOn}
 use Rattle.san_text.specs.Name.{optional, promotionLetter, pieceLetter, takesOf, headOf}
 use Rattle.san_text.proofs.Places.{place-of-byte, square-of-places}
 use Rattle.san_text.proofs.Says.{Moves}
@@ -53,11 +53,11 @@ square-back sq h = rw (file-back sq, rank-back sq h, square-of-places (sq % 8) (
 
 -- ---- the parts
 
-pub read-no-letter : (dest : Dest) (s : List ℕ) → pieceKind (first s) ≡ 0 → readPiece dest s ≡ readFile dest 0 s
+pub read-no-letter : (dest : Dest) (s : List ℕ) → pieceKind (firstByte s) ≡ 0 → readPiece dest s ≡ readFile dest 0 s
 unfolding readPiece after
 read-no-letter dest s e = rw e
 
-pub read-letter : (dest : Dest) {k : ℕ} → Moves k → (s : List ℕ) → pieceKind (first s) ≡ 0
+pub read-letter : (dest : Dest) {k : ℕ} → Moves k → (s : List ℕ) → pieceKind (firstByte s) ≡ 0
     → readPiece dest (pieceLetter k ++ s) ≡ readFile dest (letterKind k) s
 unfolding readPiece pieceLetter promotionLetter pieceKind promotionKind after
 read-letter dest Moves.pawn s e = read-no-letter dest s e
@@ -72,7 +72,7 @@ pub read-source : (dest : Dest) (k sq : ℕ) (s : List ℕ) → sq < 64
 unfolding readFile readRank after
 read-source dest k sq s h = rw (file-back sq, there (sq % 8), rank-back sq h, there (sq / 8))
 
-pub read-takes : (dest : Dest) (k f r : ℕ) (x : Bool) (s : List ℕ) → eqb (first s) 120 ≡ false
+pub read-takes : (dest : Dest) (k f r : ℕ) (x : Bool) (s : List ℕ) → eqb (firstByte s) 120 ≡ false
     → readTakes dest k f r (optional x (120 ∷ []) ++ s) ≡ dest k f r x s
 unfolding readTakes after optional
 read-takes dest k f r true s e = refl
@@ -105,7 +105,7 @@ no-castling Moves.king sq s t = refl
 abbrev pub bothWith : List ℕ → ℕ → Bool → Bool → San
 bothWith pieces m takes mark =
     record {
-      piece = kindAt pieces (sourceOf m);
+      piece = kindOn pieces (sourceOf m);
       file = sourceOf m % 8 + 1;
       rank = sourceOf m / 8 + 1;
       takes = takes;
@@ -121,14 +121,14 @@ afterFile pieces m tail = rankByte (sourceOf m) ∷ (optional (takesOf pieces m)
 module _ (pieces : List ℕ) (m : ℕ) (tail : List ℕ) where
   -- the text from the front
   pub both-text : headOf pieces m true true ++ (fileByte (destOf m) ∷ rankByte (destOf m) ∷ tail)
-      ≡ pieceLetter (kindAt pieces (sourceOf m)) ++ (fileByte (sourceOf m) ∷ afterFile pieces m tail)
+      ≡ pieceLetter (kindOn pieces (sourceOf m)) ++ (fileByte (sourceOf m) ∷ afterFile pieces m tail)
   unfolding headOf optional
   both-text = simp append-assoc
 
   -- read up to the destination
-  pub both-read : (dest : Dest) → Moves (kindAt pieces (sourceOf m))
-      → readPiece dest (pieceLetter (kindAt pieces (sourceOf m)) ++ (fileByte (sourceOf m) ∷ afterFile pieces m tail))
-      ≡ dest (letterKind (kindAt pieces (sourceOf m))) (sourceOf m % 8 + 1) (sourceOf m / 8 + 1) (takesOf pieces m)
+  pub both-read : (dest : Dest) → Moves (kindOn pieces (sourceOf m))
+      → readPiece dest (pieceLetter (kindOn pieces (sourceOf m)) ++ (fileByte (sourceOf m) ∷ afterFile pieces m tail))
+      ≡ dest (letterKind (kindOn pieces (sourceOf m))) (sourceOf m % 8 + 1) (sourceOf m / 8 + 1) (takesOf pieces m)
           (fileByte (destOf m) ∷ rankByte (destOf m) ∷ tail)
   both-read dest k =
       read-letter dest k (fileByte src ∷ afterFile pieces m tail) (no-letter src)
@@ -142,7 +142,7 @@ module _ (pieces : List ℕ) (m : ℕ) (tail : List ℕ) where
       dst = destOf m
 
       kind : ℕ
-      kind = letterKind (kindAt pieces src)
+      kind = letterKind (kindOn pieces src)
 
       end : List ℕ
       end = fileByte dst ∷ rankByte dst ∷ tail

@@ -22,7 +22,7 @@ use Rattle.san_text.specs.Text.{kingSideText, promotionKind, pieceKind, 
 use Rattle.square.specs.Piece.{kindOf}
 use Rattle.san_text.specs.Resolve.{castlingMove, castle}
 use Rattle.san_text.specs.Form.{castled, resolved, readAnswer}
-use Rattle.san_text.specs.Name.{isMove, castlingName, kingFirst, nameOf, nameText, nameCheck}
+use Rattle.san_text.specs.Name.{isThisMove, castlingName, kingFirst, nameOf, nameText, nameCheck}
 use Rattle.san_text.specs.Paper.{fromSan, nameAnswer}
 use Rattle.san_text.specs.Promises.{Namer, namer, Ready, NamedSo, Unnamed, Demand3}
 use Rattle.san_text.specs.Promises.{RefusingNamerFails, SilentNamerFails, RefusingReaderFails, RefusingPairKeepsDemand3}
@@ -68,16 +68,16 @@ pub refusing-namer-fails : RefusingNamerFails
 refusing-namer-fails w refuses keeps = refuses king listed castling (length room) (names-it w keeps .number)
 
 -- no front of the room as it was reads as the move
-silent : (n : ℕ) → n < 12 → isMove (fromSan king listed (take n room)) castling ≡ false
+silent : (n : ℕ) → n < 12 → isThisMove (fromSan king listed (take n room)) castling ≡ false
 unfolding readAnswer inRange allAtMost listInRange among resolved castled castle castlingMove readText same readPiece readFile readRank readTakes
     readDest pieceKind promotionKind placeFrom squareAt after
-silent n h = fails _ (below (λ (k : ℕ). not (isMove (fromSan king listed (take k room)) castling)) 12 tt n h)
+silent n h = fails _ (below (λ (k : ℕ). not (isThisMove (fromSan king listed (take k room)) castling)) 12 tt n h)
 
 lt-suc : {n : ℕ} → n ≤ 11 → n < 12
 lt-suc h = omega arith
 
-is-it : (a : Answer) → a ≡ accepted castling → isMove a castling ≡ true
-is-it a e = ap (λ (r : Answer). isMove r castling) e
+is-it : (a : Answer) → a ≡ accepted castling → isThisMove a castling ≡ true
+is-it a e = ap (λ (r : Answer). isThisMove r castling) e
 
 pub silent-namer-fails : SilentNamerFails
 silent-namer-fails w writes-nothing keeps =

@@ -9,14 +9,14 @@ use Rattle.board_builder.specs.declared.BoardBuilder.{BoardBuilder}
 use Rattle.chess_move.specs.Number.{sourceOf, promotionOf}
 use Rattle.san_text.specs.declared.SanText.the-variants.{KingSide, QueenSide, Move}
 use Rattle.san_text.specs.Text.{kingSideText, queenSideText}
-use Rattle.san_text.specs.Resolve.{kindAt}
+use Rattle.san_text.specs.Resolve.{kindOn}
 use Rattle.san_text.specs.Form.{Form}
 use Rattle.san_text.proofs.Says.{Moves, Promotes, Says}
 use Rattle.san_text.proofs.Front.{bothWith}
 
 -- the kind of man on file e of the back rank of the side to move
 abbrev pub kindOnE : BoardBuilder → ℕ
-kindOnE b = kindAt (b .pieces) (56 * b .«side_to_move» + 4)
+kindOnE b = kindOn (b .pieces) (56 * b .«side_to_move» + 4)
 
 -- castling on a board: taken whatever stands on e, with the castling text as the last resort; or taken only for a king there, with no
 -- last resort
@@ -33,7 +33,7 @@ pub record Both (F : Form) (pieces : List ℕ) (m : ℕ) : Type 0 where
 
 pub record Lawful (F : Form) : Type 0 where
   pub says : (s : List ℕ) → Says (F .read s)
-  pub both : (pieces : List ℕ) (m : ℕ) → Moves (kindAt pieces (sourceOf m)) → Promotes (promotionOf m) → Both F pieces m
+  pub both : (pieces : List ℕ) (m : ℕ) → Moves (kindOn pieces (sourceOf m)) → Promotes (promotionOf m) → Both F pieces m
   pub king-side : F .read kingSideText ≡ KingSide
   pub queen-side : F .read queenSideText ≡ QueenSide
   pub castling : (b : BoardBuilder) → Castling F b

@@ -18,7 +18,7 @@ use Rattle.san_text.specs.declared.San.{San}
 use Rattle.san_text.specs.declared.SanText.{SanText}
 use Rattle.san_text.specs.declared.SanText.the-variants.{KingSide, QueenSide, Move, Refused}
 use Rattle.san_text.specs.Text.{kingSideText, queenSideText}
-use Rattle.san_text.specs.Resolve.{kindAt, fits, soleThat, castlingMove, castle}
+use Rattle.san_text.specs.Resolve.{kindOn, fits, soleThat, castlingMove, castle}
 use Rattle.san_text.specs.Form.{Form, castled, resolved}
 use Rattle.san_text.specs.Name.{changesFiles, candidates, names, castlingName, firstName, kingFirst, nameOf}
 use Rattle.san_text.proofs.Says.{Moves, Promotes, Says}
@@ -103,12 +103,12 @@ module _ (F : Form) (law : Lawful F) (b : BoardBuilder) (l : List ℕ) (m : ℕ)
   unfolding castled castle
   castled-to file c e = rw (c, e, h)
 
-  king-castles : kindAt (b .pieces) (sourceOf m) ≡ 6 → Pair (b .«side_to_move») m → F .castles b ≡ true
+  king-castles : kindOn (b .pieces) (sourceOf m) ≡ 6 → Pair (b .«side_to_move») m → F .castles b ≡ true
   king-castles k p = go (law .castling b)
     where
       go : Castling F b → F .castles b ≡ true
       go (Castling.whatever-stands c r) = c
-      go (Castling.for-a-king c d r) = c (ap (kindAt (b .pieces)) (sym (pair-source (b .«side_to_move») m low p)) ∙ k)
+      go (Castling.for-a-king c d r) = c (ap (kindOn (b .pieces)) (sym (pair-source (b .«side_to_move») m low p)) ∙ k)
 
   -- ---- if any text resolves to the move, it has a name
 
@@ -120,7 +120,7 @@ module _ (F : Form) (law : Lawful F) (b : BoardBuilder) (l : List ℕ) (m : ℕ)
       castling = castlingName (b .«side_to_move») m
 
       test : Bool
-      test = eqb (kindAt (b .pieces) (sourceOf m)) 6
+      test = eqb (kindOn (b .pieces) (sourceOf m)) 6
 
       tried : Option (List ℕ) → Option (List ℕ)
       tried o = firstName (names F b l m) (candidates (F .text (b .pieces) m) (changesFiles (b .pieces) m)) o
@@ -129,8 +129,8 @@ module _ (F : Form) (law : Lawful F) (b : BoardBuilder) (l : List ℕ) (m : ℕ)
       go (Castling.whatever-stands d r) =
           named-king test castling (tried (F .resort castling)) (named-last _ _ (F .resort castling) (rw (r castling) (pair-named (b .«side_to_move») m p)))
       go (Castling.for-a-king k d r) =
-          let king : kindAt (b .pieces) (sourceOf m) ≡ 6 = ap (kindAt (b .pieces)) (pair-source (b .«side_to_move») m low p) ∙ d c in
-          rw (eq-eqb (kindAt (b .pieces) (sourceOf m)) 6 king) (named-first castling (tried (F .resort castling)) (pair-named (b .«side_to_move») m p))
+          let king : kindOn (b .pieces) (sourceOf m) ≡ 6 = ap (kindOn (b .pieces)) (pair-source (b .«side_to_move») m low p) ∙ d c in
+          rw (eq-eqb (kindOn (b .pieces) (sourceOf m)) 6 king) (named-first castling (tried (F .resort castling)) (pair-named (b .«side_to_move») m p))
 
   -- only one entry fits what some text says, whatever that text's own test
   both-named : (test : ℕ → Bool) (u : San) → Moves (u .piece) → Promotes (u .promotion) → soleThat (fits (b .pieces) u) test l ≡ accepted m
@@ -204,8 +204,8 @@ module _ (F : Form) (law : Lawful F) (b : BoardBuilder) (l : List ℕ) (m : ℕ)
   right : Right (nameOf F b l m)
   unfolding nameOf
   right =
-      right-king (eqb (kindAt (b .pieces) (sourceOf m)) 6) (castlingName (b .«side_to_move») m) _
-      (λ k. right-castling (king-castles (eqb-true (kindAt (b .pieces) (sourceOf m)) 6 k)))
+      right-king (eqb (kindOn (b .pieces) (sourceOf m)) 6) (castlingName (b .«side_to_move») m) _
+      (λ k. right-castling (king-castles (eqb-true (kindOn (b .pieces) (sourceOf m)) 6 k)))
       (right-first (candidates (F .text (b .pieces) m) (changesFiles (b .pieces) m)) _ right-resort)
 
   -- a name resolves to exactly its move

@@ -10,9 +10,9 @@ use Rattle.answer.specs.Numbers.{same}
 use Rattle.chess_move.specs.Number.{sourceOf, destOf, promotionOf}
 use Rattle.san_text.specs.declared.SanText.the-variants.{Move}
 use Rattle.san_text.specs.Place.{given, filePlace, rankPlace, squareAt, fileByte, rankByte}
-use Rattle.san_text.specs.Text.{kingSideText, queenSideText, markText, promotionKind, isCheck, first}
+use Rattle.san_text.specs.Text.{kingSideText, queenSideText, markText, promotionKind, isCheck, firstByte}
 use Rattle.san_text.specs.Text.{after, pieceOr, readEnd, readPromotion, readDest, readText}
-use Rattle.san_text.specs.Resolve.{kindAt, emptyAt, captureTest}
+use Rattle.san_text.specs.Resolve.{kindOn, emptyOn, captureTest}
 use Rattle.san_text.specs.Name.{optional, promotionLetter, pieceLetter, changesFiles, takesOf}
 use Rattle.san_text.specs.Paper.{markOf, endOf, sanText, paper}
 use Rattle.san_text.proofs.Says.{Moves, Promotes, promotes, Says, says-cond, says-piece}
@@ -23,12 +23,12 @@ use Rattle.san_text.proofs.Lawful.{Castling, Lawful}
 
 say-tail : (k f r : ℕ) (x : Bool) (sq : ℕ) (s : List ℕ) → Moves (pieceOr k) → Says (readPromotion k f r x sq s)
 unfolding readPromotion readEnd
-say-tail k f r x sq s h = Says.move h (promotes (first s))
+say-tail k f r x sq s h = Says.move h (promotes (firstByte s))
 
 say-dest : (k f r : ℕ) (x : Bool) (s : List ℕ) → Moves (pieceOr k) → Says (readDest k f r x s)
 unfolding readDest
 say-dest k f r x s h =
-    let q = squareAt (filePlace (first s)) (rankPlace (getD s 1 0)) in
+    let q = squareAt (filePlace (firstByte s)) (rankPlace (getD s 1 0)) in
     says-cond (given q) (say-tail k f r x q (drop 2 s) h)
     (says-cond (given (squareAt f r)) (say-tail k 0 0 x (squareAt f r) s h) Says.nothing-said)
 
@@ -56,7 +56,7 @@ read-tail k f r x sq Promotes.rook false = rw (less sq)
 read-tail k f r x sq Promotes.queen true = rw (less sq)
 read-tail k f r x sq Promotes.queen false = rw (less sq)
 
-read-both : (pieces : List ℕ) (m : ℕ) → Moves (kindAt pieces (sourceOf m)) → Promotes (promotionOf m)
+read-both : (pieces : List ℕ) (m : ℕ) → Moves (kindOn pieces (sourceOf m)) → Promotes (promotionOf m)
     → readText (sanText pieces m true true) ≡ Move (bothWith pieces m (takesOf pieces m) (markOf pieces m))
 unfolding readText sanText endOf
 read-both pieces m k p =
@@ -69,17 +69,17 @@ read-both pieces m k p =
     src = sourceOf m
 
     kind : ℕ
-    kind = letterKind (kindAt pieces src)
+    kind = letterKind (kindOn pieces src)
 
     tail : List ℕ
     tail = promotionLetter (promotionOf m) ++ optional (markOf pieces m) markText
 
-    text : sanText pieces m true true ≡ pieceLetter (kindAt pieces src) ++ (fileByte src ∷ afterFile pieces m tail)
+    text : sanText pieces m true true ≡ pieceLetter (kindOn pieces src) ++ (fileByte src ∷ afterFile pieces m tail)
     text = both-text pieces m tail
 
 both-captures : (pieces : List ℕ) (m : ℕ) → captureTest pieces (bothWith pieces m (takesOf pieces m) (markOf pieces m)) m ≡ true
 unfolding captureTest takesOf markOf
-both-captures pieces m = go (emptyAt pieces (destOf m)) (changesFiles pieces m)
+both-captures pieces m = go (emptyOn pieces (destOf m)) (changesFiles pieces m)
   where
     go : (e c : Bool) → cond (not e || c) (c && e || not e) e ≡ true
     go true true = refl

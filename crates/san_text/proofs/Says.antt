@@ -7,7 +7,7 @@ use lib.Dec.{eqb}
 use Rattle.san_text.specs.declared.San.{San}
 use Rattle.san_text.specs.declared.SanText.{SanText}
 use Rattle.san_text.specs.declared.SanText.the-variants.{KingSide, QueenSide, Move, Refused}
-use Rattle.san_text.specs.Text.{Dest, promotionKind, pieceKind, first, pieceOr, readTakes, readRank, readFile, readPiece}
+use Rattle.san_text.specs.Text.{Dest, promotionKind, pieceKind, firstByte, pieceOr, readTakes, readRank, readFile, readPiece}
 
 -- 0, or 2 to 5: nothing, N B R Q
 pub data Promotes : ℕ → Type 0 where
@@ -67,4 +67,4 @@ says-cond false p q = q
 -- a form that reads on from the destination says what it says there
 pub says-piece : (dest : Dest) → ((k f r : ℕ) (x : Bool) (s : List ℕ) → Moves (pieceOr k) → Says (dest k f r x s)) → (s : List ℕ) → Says (readPiece dest s)
 unfolding readPiece readFile readRank readTakes
-says-piece dest h s = h (pieceKind (first s)) _ _ _ _ (moves (first s))
+says-piece dest h s = h (pieceKind (firstByte s)) _ _ _ _ (moves (firstByte s))

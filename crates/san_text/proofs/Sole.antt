@@ -16,8 +16,8 @@ use Rattle.chess_move.proofs.Numbers.{same-number, same-square}
 use Rattle.move_list.specs.MoveList.{count, firstOf}
 use Rattle.move_list.proofs.Counting.{first-passes, sole}
 use Rattle.san_text.specs.declared.San.{San}
-use Rattle.san_text.specs.Resolve.{kindAt, agrees, fits, soleThat, castlingMove, castle}
-use Rattle.san_text.specs.Name.{isMove}
+use Rattle.san_text.specs.Resolve.{kindOn, agrees, fits, soleThat, castlingMove, castle}
+use Rattle.san_text.specs.Name.{isThisMove}
 use Rattle.san_text.proofs.Says.{Moves, Promotes}
 use Rattle.san_text.proofs.Front.{bothWith}
 
@@ -31,13 +31,13 @@ refused-not e =
     let z : _≡_ {A = ℕ} 4 0 = ap (λ (r : Answer). r .number) e in
     omega arith
 
-pub move-is : (a : Answer) (m : ℕ) → isMove a m ≡ true → a ≡ accepted m
+pub move-is : (a : Answer) (m : ℕ) → isThisMove a m ≡ true → a ≡ accepted m
 move-is a m e =
     ap₂ (λ (n v : ℕ). record { number = n; value = v })
     (eqb-true (a .number) 0 (both-left (eqb (a .number) 0) (eqb (a .value) m) e))
     (eqb-true (a .value) m (both-right (eqb (a .number) 0) (eqb (a .value) m) e))
 
-pub is-move : (m : ℕ) → isMove (accepted m) m ≡ true
+pub is-move : (m : ℕ) → isThisMove (accepted m) m ≡ true
 is-move m = eq-eqb m m refl
 
 pub castle-is : (side : ℕ) (l : List ℕ) (file m : ℕ) → castle side l file ≡ accepted m → castlingMove side file ≡ m
@@ -71,7 +71,7 @@ alone f g l m e = go (eqb (count f l) 1) (g (firstOf f l)) refl refl e
 -- ---- an entry that fits
 
 pub record Fitted (pieces : List ℕ) (u : San) (m : ℕ) : Type 0 where
-  pub kind : kindAt pieces (sourceOf m) ≡ u .piece
+  pub kind : kindOn pieces (sourceOf m) ≡ u .piece
   pub file : agrees (u .file) (sourceOf m % 8 + 1) ≡ true
   pub rank : agrees (u .rank) (sourceOf m / 8 + 1) ≡ true
   pub dest : destOf m ≡ u .dest
@@ -87,7 +87,7 @@ all-five false b c d e p = absurd (false≢true p)
 pub fitted : (pieces : List ℕ) (u : San) (m : ℕ) → fits pieces u m ≡ true → Fitted pieces u m
 unfolding fits
 fitted pieces u m e =
-    let kind = eqb (kindAt pieces (sourceOf m)) (u .piece) in
+    let kind = eqb (kindOn pieces (sourceOf m)) (u .piece) in
     let file = agrees (u .file) (sourceOf m % 8 + 1) in
     let rank = agrees (u .rank) (sourceOf m / 8 + 1) in
     let h = all-five kind file rank (eqb (destOf m) (u .dest)) (eqb (promotionOf m) (u .promotion)) e in
@@ -112,7 +112,7 @@ module _ (pieces : List ℕ) (m : ℕ) (takes mark : Bool) where
   unfolding fits
   both-fits =
       rw (
-        eq-eqb (kindAt pieces (sourceOf m)) (kindAt pieces (sourceOf m)) refl,
+        eq-eqb (kindOn pieces (sourceOf m)) (kindOn pieces (sourceOf m)) refl,
         agrees-same (sourceOf m % 8 + 1),
         agrees-same (sourceOf m / 8 + 1),
         eq-eqb (destOf m) (destOf m) refl,
@@ -145,7 +145,7 @@ module _ (pieces : List ℕ) (m : ℕ) (takes mark : Bool) where
 -- a kind and a promotion that a text can say are those of the move that it names
 pub sayable : (pieces : List ℕ) (u : San) (g : ℕ → Bool) (l : List ℕ) (m : ℕ) → soleThat (fits pieces u) g l ≡ accepted m → Moves (u .piece)
     → Promotes (u .promotion)
-    → (Moves (kindAt pieces (sourceOf m))) × (Promotes (promotionOf m))
+    → (Moves (kindOn pieces (sourceOf m))) × (Promotes (promotionOf m))
 sayable pieces u g l m e k p =
     let t = fitted pieces u m (alone (fits pieces u) g l m e .passes) in
     (rw (t .kind) k, rw (t .promotion) p)

@@ -9,7 +9,7 @@ use lib.Dec.{eqb}
 use Rattle.board_builder.specs.declared.BoardBuilder.{BoardBuilder}
 use Rattle.chess_move.specs.Number.{sourceOf}
 use Rattle.san_text.specs.Text.{kingSideText, queenSideText}
-use Rattle.san_text.specs.Resolve.{kindAt, castlingMove}
+use Rattle.san_text.specs.Resolve.{kindOn, castlingMove}
 use Rattle.san_text.specs.Form.{Form}
 use Rattle.san_text.specs.Name.{changesFiles, candidates, names, castlingName, firstName, kingFirst, nameOf, textOr, nameText}
 use Rattle.san_text.proofs.Lawful.{Castling, Lawful}
@@ -62,7 +62,7 @@ module _ (P : List ℕ → Type 0) where
     pub name-if : If P (nameOf F b l m)
     unfolding nameOf
     name-if =
-        if-king (eqb (kindAt (b .pieces) (sourceOf m)) 6) (castlingName (b .«side_to_move») m) _ (if-castling k q (b .«side_to_move») m)
+        if-king (eqb (kindOn (b .pieces) (sourceOf m)) 6) (castlingName (b .«side_to_move») m) _ (if-castling k q (b .«side_to_move») m)
         (if-first (names F b l m) (F .text (b .pieces) m) (changesFiles (b .pieces) m) _ texts if-resort)
 
     pub name-has : (t : List ℕ) → nameOf F b l m ≡ some t → P t

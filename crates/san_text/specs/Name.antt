@@ -15,7 +15,7 @@ use Rattle.chess_move.specs.Number.{sourceOf, destOf}
 use Rattle.move_list.specs.MoveList.{listInRange}
 use Rattle.san_text.specs.Place.{fileByte, rankByte}
 use Rattle.san_text.specs.Text.{kingSideText, queenSideText}
-use Rattle.san_text.specs.Resolve.{kindAt, emptyAt, castlingMove}
+use Rattle.san_text.specs.Resolve.{kindOn, emptyOn, castlingMove}
 use Rattle.san_text.specs.Form.{Form, resolved}
 
 -- a part, if it is there
@@ -33,16 +33,16 @@ pieceLetter k = cond (eqb k 6) (75 ∷ []) (promotionLetter k)
 
 -- a pawn changes files
 unfoldable pub changesFiles : List ℕ → ℕ → Bool
-changesFiles pieces m = eqb (kindAt pieces (sourceOf m)) 1 && not (eqb (sourceOf m % 8) (destOf m % 8))
+changesFiles pieces m = eqb (kindOn pieces (sourceOf m)) 1 && not (eqb (sourceOf m % 8) (destOf m % 8))
 
 -- `x` if the destination is occupied or a pawn changes files
 unfoldable pub takesOf : List ℕ → ℕ → Bool
-takesOf pieces m = not (emptyAt pieces (destOf m)) || changesFiles pieces m
+takesOf pieces m = not (emptyOn pieces (destOf m)) || changesFiles pieces m
 
 -- the letter, the source's file and rank as far as they are wanted, and `x`
 unfoldable pub headOf : List ℕ → ℕ → Bool → Bool → List ℕ
 headOf pieces m file rank =
-    pieceLetter (kindAt pieces (sourceOf m))
+    pieceLetter (kindOn pieces (sourceOf m))
     ++ (optional file (fileByte (sourceOf m) ∷ []) ++ (optional rank (rankByte (sourceOf m) ∷ []) ++ optional (takesOf pieces m) (120 ∷ [])))
 
 -- the texts to try: the first source part of none, file, rank, both that resolves (a pawn changing files: file, then both)
@@ -51,12 +51,12 @@ candidates text true = text true false ∷ text true true ∷ []
 candidates text false = text false false ∷ text true false ∷ text false true ∷ text true true ∷ []
 
 -- an answer that is this very move
-abbrev pub isMove : Answer → ℕ → Bool
-isMove a m = eqb (a .number) 0 && eqb (a .value) m
+abbrev pub isThisMove : Answer → ℕ → Bool
+isThisMove a m = eqb (a .number) 0 && eqb (a .value) m
 
 -- the text resolves to the move
 unfoldable pub names : Form → BoardBuilder → List ℕ → ℕ → List ℕ → Bool
-names F b moves m text = isMove (resolved F b moves (F .read text)) m
+names F b moves m text = isThisMove (resolved F b moves (F .read text)) m
 
 -- the castling text of a castling pair
 unfoldable pub castlingName : ℕ → ℕ → Option (List ℕ)
@@ -77,7 +77,7 @@ kingFirst false castling other = other
 unfoldable pub nameOf : Form → BoardBuilder → List ℕ → ℕ → Option (List ℕ)
 nameOf F b moves m =
     let castling = castlingName (b .«side_to_move») m in
-    kingFirst (eqb (kindAt (b .pieces) (sourceOf m)) 6) castling
+    kingFirst (eqb (kindOn (b .pieces) (sourceOf m)) 6) castling
     (firstName (names F b moves m) (candidates (F .text (b .pieces) m) (changesFiles (b .pieces) m)) (F .resort castling))
 
 -- ---- what the namer writes, and its checks before 7: 5, 6, 11, 8

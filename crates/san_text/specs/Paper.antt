@@ -11,13 +11,13 @@ use Rattle.board_builder.specs.declared.BoardBuilder.{BoardBuilder}
 use Rattle.chess_move.specs.Number.{destOf, promotionOf}
 use Rattle.san_text.specs.Place.{fileByte, rankByte}
 use Rattle.san_text.specs.Text.{markText, readText}
-use Rattle.san_text.specs.Resolve.{emptyAt, captureTest}
+use Rattle.san_text.specs.Resolve.{emptyOn, captureTest}
 use Rattle.san_text.specs.Form.{Form, readAnswer}
 use Rattle.san_text.specs.Name.{optional, promotionLetter, changesFiles, headOf, nameText, nameCheck}
 
 -- ` e.p.` if a pawn changes files to an empty square
 unfoldable pub markOf : List ℕ → ℕ → Bool
-markOf pieces m = changesFiles pieces m && emptyAt pieces (destOf m)
+markOf pieces m = changesFiles pieces m && emptyOn pieces (destOf m)
 
 -- the square, the promotion letter and the mark
 unfoldable pub endOf : List ℕ → ℕ → List ℕ

@@ -14,7 +14,7 @@ use Rattle.board_builder.specs.declared.BoardBuilder.{BoardBuilder}
 use Rattle.board_builder.specs.BoardBuilder.{inRange}
 use Rattle.chess_move.specs.Number.{sourceOf, destOf}
 use Rattle.move_list.specs.MoveList.{listInRange}
-use Rattle.san_text.specs.Resolve.{kindAt, emptyAt}
+use Rattle.san_text.specs.Resolve.{kindOn, emptyOn}
 use Rattle.san_text.specs.Name.{nameText}
 use Rattle.san_text.specs.Paper.{paper, fromSan, nameAnswer, nameBytes}
 use Rattle.san_text.specs.Standard.{fromSanStandard, standardNameAnswer, standardNameBytes}
@@ -142,15 +142,15 @@ StandardSevenIsTrue =
     × (room < standardNameAnswer b moves m room .value)
 
 -- two records that agree on the side, on piece kinds at listed sources and on emptiness of listed destinations
-pub record Alike (b c : BoardBuilder) (moves : List ℕ) : Type 0 where
+pub record BoardsAlike (b c : BoardBuilder) (moves : List ℕ) : Type 0 where
   pub side : b .«side_to_move» ≡ c .«side_to_move»
-  pub kinds : (m : ℕ) → among m moves ≡ true → kindAt (b .pieces) (sourceOf m) ≡ kindAt (c .pieces) (sourceOf m)
-  pub empty : (m : ℕ) → among m moves ≡ true → emptyAt (b .pieces) (destOf m) ≡ emptyAt (c .pieces) (destOf m)
+  pub kinds : (m : ℕ) → among m moves ≡ true → kindOn (b .pieces) (sourceOf m) ≡ kindOn (c .pieces) (sourceOf m)
+  pub empty : (m : ℕ) → among m moves ≡ true → emptyOn (b .pieces) (destOf m) ≡ emptyOn (c .pieces) (destOf m)
 
 -- with one text and one list, two such records in range get the same SAN answer, however rights and en passant differ
 abbrev pub SameSanAnswer : Type 0
 SameSanAnswer =
-    (b c : BoardBuilder) (moves text : List ℕ) → inRange b ≡ true → inRange c ≡ true → Alike b c moves → fromSan b moves text ≡ fromSan c moves text
+    (b c : BoardBuilder) (moves text : List ℕ) → inRange b ≡ true → inRange c ≡ true → BoardsAlike b c moves → fromSan b moves text ≡ fromSan c moves text
 
 -- between the forms: a move that document 01's namer leaves unnamed, the standard's does too; the other way round does not hold
 abbrev pub UnnamedInBoth : Type 0

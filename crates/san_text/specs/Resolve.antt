@@ -14,11 +14,11 @@ use Rattle.move_list.specs.MoveList.{count, firstOf}
 use Rattle.san_text.specs.declared.San.{San}
 
 -- the kind of man on a square, and whether none is there
-abbrev pub kindAt : List ℕ → ℕ → ℕ
-kindAt pieces square = kindOf (getD pieces square 0)
+abbrev pub kindOn : List ℕ → ℕ → ℕ
+kindOn pieces square = kindOf (getD pieces square 0)
 
-abbrev pub emptyAt : List ℕ → ℕ → Bool
-emptyAt pieces square = eqb (getD pieces square 0) 0
+abbrev pub emptyOn : List ℕ → ℕ → Bool
+emptyOn pieces square = eqb (getD pieces square 0) 0
 
 -- a part that the text does not have agrees with anything
 unfoldable pub agrees : ℕ → ℕ → Bool
@@ -27,12 +27,12 @@ agrees wanted found = eqb wanted 0 || eqb wanted found
 -- an entry fits if piece kind on its source, file, rank, destination and promotion agree
 unfoldable pub fits : List ℕ → San → ℕ → Bool
 fits pieces t m =
-    eqb (kindAt pieces (sourceOf m)) (t .piece)
+    eqb (kindOn pieces (sourceOf m)) (t .piece)
     && (agrees (t .file) (sourceOf m % 8 + 1) && (agrees (t .rank) (sourceOf m / 8 + 1) && (eqb (destOf m) (t .dest) && eqb (promotionOf m) (t .promotion))))
 
 -- the capture test: without `x` the destination is empty; with `x` and without the mark it is occupied; with both it always passes
 unfoldable pub captureTest : List ℕ → San → ℕ → Bool
-captureTest pieces t m = cond (t .takes) (t .mark || not (emptyAt pieces (destOf m))) (emptyAt pieces (destOf m))
+captureTest pieces t m = cond (t .takes) (t .mark || not (emptyOn pieces (destOf m))) (emptyOn pieces (destOf m))
 
 -- accepted exactly when only one entry passes f, and it also passes the further test
 unfoldable pub soleThat : (ℕ → Bool) → (ℕ → Bool) → List ℕ → Answer

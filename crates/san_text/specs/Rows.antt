@@ -10,43 +10,43 @@ use Rattle.answer.specs.Ascii.{ascii}
 use Rattle.board_builder.specs.declared.BoardBuilder.{BoardBuilder}
 use Rattle.board_builder.specs.Steps.{withPiece}
 use Rattle.san_text.specs.Standard.{fromSanStandard, standardNameAnswer, standardNameBytes}
-use Rattle.san_text.specs.Slips.{knight, taken, rook, blackKing, pawn, promoting}
+use Rattle.san_text.specs.Slips.{knight, knightAndPawn, rook, blackKing, onlyPawn, promoting}
 
 -- a text is read as the move, or refused with 4; a move is named so
-abbrev pub Reads : BoardBuilder → List ℕ → String → ℕ → Type 0
-Reads b moves text m = fromSanStandard b moves (ascii text) ≡ accepted m
+abbrev pub StandardReads : BoardBuilder → List ℕ → String → ℕ → Type 0
+StandardReads b moves text m = fromSanStandard b moves (ascii text) ≡ accepted m
 
-abbrev pub Refuses : BoardBuilder → List ℕ → String → Type 0
-Refuses b moves text = fromSanStandard b moves (ascii text) ≡ refused invalidSanMove
+abbrev pub StandardRefuses : BoardBuilder → List ℕ → String → Type 0
+StandardRefuses b moves text = fromSanStandard b moves (ascii text) ≡ refused invalidSanMove
 
-pub record Named (b : BoardBuilder) (moves : List ℕ) (m : ℕ) (name : String) : Type 0 where
+pub record StandardNamed (b : BoardBuilder) (moves : List ℕ) (m : ℕ) (name : String) : Type 0 where
   pub answer : standardNameAnswer b moves m 8 ≡ accepted (length (ascii name))
   pub text : take (length (ascii name)) (standardNameBytes b moves m (replicate 8 0)) ≡ ascii name
 
 -- white pawns on e5 and d5, to d6: with a man on d6 the straight one needs `x` and its file as well
 abbrev pub straight : BoardBuilder
-straight = withPiece (withPiece pawn 35 1) 43 7
+straight = withPiece (withPiece onlyPawn 35 1) 43 7
 
 pub record StandardRows : Type 0 where
   -- promotion needs `=`
-  pub equals : Reads promoting (24372 ∷ []) "e8=Q#" 24372
-  pub no-equals : Refuses promoting (24372 ∷ []) "e8Q"
-  pub named-equals : Named promoting (24372 ∷ []) 24372 "e8=Q"
+  pub equals : StandardReads promoting (24372 ∷ []) "e8=Q#" 24372
+  pub no-equals : StandardRefuses promoting (24372 ∷ []) "e8Q"
+  pub named-equals : StandardNamed promoting (24372 ∷ []) 24372 "e8=Q"
   -- the destination is the last square, no tail is dropped, one mark at most
-  pub takes-behind : Refuses taken (1153 ∷ []) "Nc3x"
-  pub tail : Refuses knight (1153 ∷ []) "Nc3+?!"
-  pub two-marks : Refuses knight (1153 ∷ []) "Nc3+#"
+  pub takes-behind : StandardRefuses knightAndPawn (1153 ∷ []) "Nc3x"
+  pub tail : StandardRefuses knight (1153 ∷ []) "Nc3+?!"
+  pub two-marks : StandardRefuses knight (1153 ∷ []) "Nc3+#"
   -- an en passant capture has `x` and the file, and no mark
-  pub en-passant : Reads pawn (2788 ∷ []) "exd6" 2788
-  pub without : Refuses pawn (2788 ∷ []) "d6"
-  pub marked : Refuses pawn (2788 ∷ []) "exd6 e.p."
-  pub named-en-passant : Named pawn (2788 ∷ []) 2788 "exd6"
+  pub en-passant : StandardReads onlyPawn (2788 ∷ []) "exd6" 2788
+  pub without : StandardRefuses onlyPawn (2788 ∷ []) "d6"
+  pub marked : StandardRefuses onlyPawn (2788 ∷ []) "exd6 e.p."
+  pub named-en-passant : StandardNamed onlyPawn (2788 ∷ []) 2788 "exd6"
   -- a pawn's `x` needs its file, also straight on
-  pub fileless : Refuses straight (2788 ∷ []) "xd6"
-  pub straight-on : Named straight (2787 ∷ []) 2787 "dxd6"
+  pub fileless : StandardRefuses straight (2788 ∷ []) "xd6"
+  pub straight-on : StandardNamed straight (2787 ∷ []) 2787 "dxd6"
   -- castling needs a king, of either colour, and takes a check mark; a listed pair twice is still taken
-  pub rook-on-e : Refuses rook (388 ∷ []) "O-O"
-  pub castling : Reads blackKing (388 ∷ 388 ∷ []) "O-O+" 388
-  pub rook-named : Named rook (388 ∷ []) 388 "Rg1"
+  pub rook-on-e : StandardRefuses rook (388 ∷ []) "O-O"
+  pub castling : StandardReads blackKing (388 ∷ 388 ∷ []) "O-O+" 388
+  pub rook-named : StandardNamed rook (388 ∷ []) 388 "Rg1"
   -- and no last resort: document 01's namer says `O-O` here
   pub no-resort : standardNameAnswer rook (388 ∷ 388 ∷ []) 388 8 ≡ refused noName

@@ -31,8 +31,8 @@ knight = withPiece emptyBoard 1 2
 abbrev pub knights : BoardBuilder
 knights = withPiece knight 12 2
 
-abbrev pub taken : BoardBuilder
-taken = withPiece knight 18 7
+abbrev pub knightAndPawn : BoardBuilder
+knightAndPawn = withPiece knight 18 7
 
 abbrev pub rook : BoardBuilder
 rook = withPiece emptyBoard 4 4
@@ -40,8 +40,8 @@ rook = withPiece emptyBoard 4 4
 abbrev pub blackKing : BoardBuilder
 blackKing = withPiece emptyBoard 4 12
 
-abbrev pub pawn : BoardBuilder
-pawn = withPiece emptyBoard 36 1
+abbrev pub onlyPawn : BoardBuilder
+onlyPawn = withPiece emptyBoard 36 1
 
 abbrev pub promoting : BoardBuilder
 promoting = withPiece emptyBoard 52 1
@@ -50,15 +50,15 @@ pub record Slips : Type 0 where
   -- "letting a second fit through because the text says `x`": two knights to an occupied c3
   pub second-fit : Refuses (withPiece knights 18 7) (1153 ∷ 1164 ∷ []) "Nxc3"
   -- "refusing `Nc3x` when c3 is occupied and one knight fits"
-  pub takes-behind : Reads taken (1153 ∷ []) "Nc3x" 1153
+  pub takes-behind : Reads knightAndPawn (1153 ∷ []) "Nc3x" 1153
   -- "equal entries count twice"
   pub equal-entries : Refuses knight (1153 ∷ 1153 ∷ []) "Nc3"
   -- the mark without `x` still needs an empty destination
-  pub mark-alone : Refuses taken (1153 ∷ []) "Nc3 e.p."
+  pub mark-alone : Refuses knightAndPawn (1153 ∷ []) "Nc3 e.p."
   -- "optional `+` or `#`, and a mark if what is left is exactly ` e.p.`": one sign of either kind before the mark, and no second
-  pub check-then-mark : Reads pawn (2788 ∷ []) "exd6+ e.p." 2788
-  pub mate-then-mark : Reads pawn (2788 ∷ []) "exd6# e.p." 2788
-  pub one-sign : Refuses pawn (2788 ∷ []) "exd6+# e.p."
+  pub check-then-mark : Reads onlyPawn (2788 ∷ []) "exd6+ e.p." 2788
+  pub mate-then-mark : Reads onlyPawn (2788 ∷ []) "exd6# e.p." 2788
+  pub one-sign : Refuses onlyPawn (2788 ∷ []) "exd6+# e.p."
   -- a king of either colour on the source of a castling pair gives the castling text
   pub either-king : Named blackKing (388 ∷ []) 388 "O-O"
   -- `e8K` would read as the move without promotion, so the move with promotion 6 has no name

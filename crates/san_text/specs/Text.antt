@@ -34,8 +34,8 @@ pieceKind b = cond (eqb b 75) 6 (promotionKind b)
 unfoldable pub isCheck : ℕ → Bool
 isCheck b = eqb b 43 || eqb b 35
 
-abbrev pub first : List ℕ → ℕ
-first s = getD s 0 0
+abbrev pub firstByte : List ℕ → ℕ
+firstByte s = getD s 0 0
 
 -- what is left after a part of one byte, if the part is there
 unfoldable pub after : Bool → List ℕ → List ℕ
@@ -52,18 +52,18 @@ Dest = ℕ → ℕ → ℕ → Bool → List ℕ → SanText
 
 -- optional `x`
 unfoldable pub readTakes : Dest → ℕ → ℕ → ℕ → List ℕ → SanText
-readTakes dest kind file rank s = let takes = eqb (first s) 120 in dest kind file rank takes (after takes s)
+readTakes dest kind file rank s = let takes = eqb (firstByte s) 120 in dest kind file rank takes (after takes s)
 
 -- optional rank, optional file
 unfoldable pub readRank : Dest → ℕ → ℕ → List ℕ → SanText
-readRank dest kind file s = let rank = rankPlace (first s) in readTakes dest kind file rank (after (given rank) s)
+readRank dest kind file s = let rank = rankPlace (firstByte s) in readTakes dest kind file rank (after (given rank) s)
 
 unfoldable pub readFile : Dest → ℕ → List ℕ → SanText
-readFile dest kind s = let file = filePlace (first s) in readRank dest kind file (after (given file) s)
+readFile dest kind s = let file = filePlace (firstByte s) in readRank dest kind file (after (given file) s)
 
 -- optional N B R Q K
 unfoldable pub readPiece : Dest → List ℕ → SanText
-readPiece dest s = let kind = pieceKind (first s) in readFile dest kind (after (given kind) s)
+readPiece dest s = let kind = pieceKind (firstByte s) in readFile dest kind (after (given kind) s)
 
 -- ---- the form of document 01
 
@@ -77,18 +77,18 @@ readEnd kind file rank takes square promotion s =
       takes = takes;
       dest = square - 1;
       promotion = promotion;
-      mark = same (after (isCheck (first s)) s) markText;
+      mark = same (after (isCheck (firstByte s)) s) markText;
     })
 
 unfoldable pub readPromotion : ℕ → ℕ → ℕ → Bool → ℕ → List ℕ → SanText
 readPromotion kind file rank takes square s =
-    let promotion = promotionKind (first s) in
+    let promotion = promotionKind (firstByte s) in
     readEnd kind file rank takes square promotion (after (given promotion) s)
 
 -- a square. If no square follows, file and rank together become the destination and are no longer a source; lacking either, refuse
 unfoldable pub readDest : Dest
 readDest kind file rank takes s =
-    let square = squareAt (filePlace (first s)) (rankPlace (getD s 1 0)) in
+    let square = squareAt (filePlace (firstByte s)) (rankPlace (getD s 1 0)) in
     cond (given square) (readPromotion kind file rank takes square (drop 2 s))
     (cond (given (squareAt file rank)) (readPromotion kind 0 0 takes (squareAt file rank) s) Refused)
 

@@ -9,7 +9,7 @@ use lib.Dec.{eqb, eqb→eq}
 use Rattle.answer.specs.declared.Placed.{Placed}
 use Rattle.square.specs.declared.Pair.{Pair}
 use Rattle.square.specs.declared.Pair.the-variants.{Square, BadFile, BadRank, Missing}
-use Rattle.square.specs.Square.{readSquare, squareNamed, squareText, told}
+use Rattle.square.specs.Square.{readSquare, squareNamed, squareText, pairTold}
 use Rattle.square.specs.Promises.{SquareReadsBack, ToldApart}
 use Rattle.answer.proofs.Below.{below}
 
@@ -50,7 +50,7 @@ offset : {p q : Placed} → p ≡ q → p .offset ≡ q .offset
 offset e = ap (λ (r : Placed). r .offset) e
 
 pub told-apart : ToldApart
-unfolding told
+unfolding pairTold
 told-apart start long (Square s) (Square t) e = ap (λ (r : Placed). Square (r .value)) e
 told-apart start long (Square s) BadFile e = absurd (omega (arith, number e))
 told-apart start long (Square s) BadRank e = absurd (omega (arith, number e))

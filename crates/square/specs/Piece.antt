@@ -3,7 +3,9 @@
 -- Assumes nothing.
 use Prim.Native.Nat.{ℕ, _-_}
 use mathlib.Core.Bool.{cond}
+use mathlib.Core.List.{List}
 use lib.Dec.{eqb, leb}
+use lib.ListN.{getD}
 
 -- P N B R Q K are 1 to 6, p n b r q k are 7 to 12, any other byte is 0
 unfoldable pub pieceOf : ℕ → ℕ
@@ -40,3 +42,14 @@ letterOf p =
 -- the kind of man, 1 to 6, of a code 0 to 12, whatever its colour; 0 where the square is empty
 unfoldable pub kindOf : ℕ → ℕ
 kindOf code = cond (leb code 6) code (code - 6)
+
+-- the kinds of men that have rules of their own
+abbrev pub pawn : ℕ
+pawn = 1
+
+abbrev pub king : ℕ
+king = 6
+
+-- what stands on a square of a board, 0 for nothing
+abbrev pub manOn : List ℕ → ℕ → ℕ
+manOn squares square = getD squares square 0

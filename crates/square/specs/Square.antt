@@ -39,11 +39,11 @@ readSquare (a ∷ b ∷ rest) = squareNamed a b
 
 -- order 3: what is said about a pair that starts at a place in a text of a length: the faulty byte's place with 2, the text's length with 3 where the pair
 -- is not there
-unfoldable pub told : ℕ → ℕ → Pair → Placed
-told start long (Square s) = readAs s
-told start long BadFile = faultAt invalidSquare start
-told start long BadRank = faultAt invalidSquare (start + 1)
-told start long Missing = faultAt invalidUciMove long
+unfoldable pub pairTold : ℕ → ℕ → Pair → Placed
+pairTold start long (Square s) = readAs s
+pairTold start long BadFile = faultAt invalidSquare start
+pairTold start long BadRank = faultAt invalidSquare (start + 1)
+pairTold start long Missing = faultAt invalidUciMove long
 
 -- a square's text: its file's letter, its rank's digit
 abbrev pub squareText : ℕ → List ℕ

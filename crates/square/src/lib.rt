@@ -7,8 +7,14 @@ use answer::Placed;
 ghost use mathlib.Core.Path.{_≡_};
 ghost use lib.ListN.{length};
 ghost use Rattle.answer.specs.Answer.{writeAnswer, writeBytes};
-ghost use Rattle.square.specs.Square.{makeSquare, rankOf, fileOf, backRank, squareNamed, readSquare, told, squareText, squareCheck};
+ghost use Rattle.square.specs.Square.{makeSquare, rankOf, fileOf, backRank, squareNamed, readSquare, pairTold, squareText, squareCheck};
 ghost use Rattle.square.specs.Piece.{letterOf, kindOf};
+
+// The kinds of men that have rules of their own.
+
+pub const PAWN: u8 = 1;
+
+pub const KING: u8 = 6;
 
 // A pair of bytes read as a square: the square, or what is wrong with it.
 pub enum Pair {
@@ -82,7 +88,7 @@ pub fn from_str(text: &[u8]) -> Pair
 
 // What is said about a pair that starts at `start` in a text of `long` bytes.
 pub fn told(start: u8, long: usize, pair: Pair) -> Placed
-    ensures { λ r. ⌜ r ≡ told start long pair ⌝ }
+    ensures { λ r. ⌜ r ≡ pairTold start long pair ⌝ }
 {
     match pair {
         Pair::Square(s) => answer::read_as(s as u64),

@@ -1,4 +1,4 @@
-//! Writes for each FEN text on standard input, one a line, its key, or `! N OFFSET` with the answer number and the place in the text.
+//! Writes for each FEN text on standard input, one per line, its key, or `! N OFFSET` with the answer number and the place in the text.
 
 use menkhodur::Board;
 use std::io::{self, BufRead, BufReader, BufWriter, ErrorKind, Read, Write};

@@ -256,7 +256,7 @@ pub fn fen_write(record: &Record, out: &mut [u8]) -> Result<usize, Error> {
     length(unsafe { ffi::menkhodur_fen_write(ffi::Board::of(record), out.as_mut_ptr(), out.len()) })
 }
 
-/// Reads a page of FEN texts, one a line, and gives the number of lines. Each has the next 68 bytes of `records`, its record, or zeros if
+/// Reads a page of FEN texts, one per line, and gives the number of lines. Each has the next 68 bytes of `records`, its record, or zeros if
 /// it is refused, and the next two of `numbers`, its answer number and its offset from the line's start, as [`fen_read`] gives them for the
 /// line alone; what lies behind the last line's is left alone. A newline byte ends a line; an unended last line counts if it has a byte in
 /// it. Refused: 7, with the number of lines, if either room is too short. [`Page`](crate::Page) has the same in types.

@@ -40,7 +40,7 @@ fn both(what: &str, moves: &[ChessMove]) {
 }
 
 pub fn longer(random: &mut Random) {
-    println!("(order 11: our queries after 1,024 and after 4,096 moves, nanoseconds a question, and the second over the first; at most 4.40 is asked)");
+    println!("(order 11: our queries after 1,024 and after 4,096 moves, nanoseconds per question, and the second over the first; at most 4.40 is asked)");
     println!("{:<48} {:>7} {:>10} {:>7} {:>10} {:>9}", "what", "run", "1,024", "run", "4,096", "ratio");
     both("a random game", &long_game(LONGER, random));
     both("knights anywhere", &knights_game(LONGER, random));

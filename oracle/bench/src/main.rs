@@ -79,8 +79,8 @@ fn round<I, T>(inputs: &[I], work: &mut impl FnMut(&I) -> T) -> f64 {
     start.elapsed().as_nanos() as f64
 }
 
-/// Nanoseconds for one input by the crate and by us, the best of the rounds. They take turns, so that a machine whose clock
-/// wanders is the same for both.
+/// Nanoseconds for one input by the crate and by us, the best of the rounds. They take turns, so that changes of the
+/// clock rate affect both alike.
 fn times<I, T, O>(inputs: &[I], mut theirs: impl FnMut(&I) -> T, mut ours: impl FnMut(&I) -> O) -> (f64, f64) {
     let (start, mut rounds, mut best) = (Instant::now(), 0, (f64::MAX, f64::MAX));
     while rounds < ROUNDS || start.elapsed() < LEAST {
@@ -287,7 +287,7 @@ fn main() {
     let parts = parts();
     let mut random = Random::new(1, "bench");
     let places: Vec<Place> = different_positions(POSITIONS, &mut random).iter().map(place_of).collect();
-    println!("{} different positions of games; nanoseconds an input, best of {} rounds or more", places.len(), ROUNDS);
+    println!("{} different positions of games; nanoseconds per input, best of {} rounds or more", places.len(), ROUNDS);
     println!("{:<48} {:>8} {:>12} {:>12} {:>9} {:>6}", "what", "inputs", "crate", "ours", "ratio", "asked");
     for part in parts {
         match part.as_str() {

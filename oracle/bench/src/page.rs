@@ -23,7 +23,7 @@ struct Page<'a> {
     numbers: Vec<u64>,
 }
 
-/// So many different FEN texts, one a line.
+/// So many different FEN texts, one per line.
 fn different_texts(count: usize, random: &mut Random) -> String {
     let (mut known, mut text) = (HashSet::new(), String::new());
     while known.len() < count {
@@ -102,7 +102,7 @@ fn check(page: &mut Page, lines: &[&[u8]], small: usize) {
     }
 }
 
-/// The ways take turns, so that a machine whose clock wanders is the same for all; the best round of each counts.
+/// The ways take turns, so that changes of the clock rate affect all of them alike; the best round of each counts.
 pub fn pages() {
     let text = different_texts(LINES, &mut Random::new(1, "page"));
     let lines: Vec<&[u8]> = text.lines().map(str::as_bytes).collect();

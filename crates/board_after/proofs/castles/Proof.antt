@@ -4,33 +4,23 @@ use mathlib.Core.Path.{ap, ap₂, _∙_}
 use mathlib.Core.Bool.{Bool, _&&_}
 use lib.Dec.{eqb}
 use Prim.Native.Nat.{ℕ, _/_}
-use Rattle.board_after.specs.After.{castles}
-use Rattle.board_after.proofs.Squares.{two-on-rank}
+use Rattle.move_rules.specs.After.{castles}
+use Rattle.board_after.proofs.Touched.{two-on-rank}
 use Rattle.board_after.proofs.castles.Statement.{statement}
 use Rattle.board_after.proofs.castles.Tie as tie
-use Rattle.board_after.proofs.castles.Reads as reads
-use Rattle.board_after.proofs.castles.Lts as lts
-use Rattle.board_after.proofs.two_apart.Reads as two-apart-reads
-use Rattle.answer.proofs.both.Reads as both-reads
-use Rattle.square.proofs.kind_of.Reads as kind-of-reads
 
--- src/lib.rt:58:9
 two-apart-requires : tie.Need-two-apart-requires
 two-apart-requires c κs = search needs
 
--- src/lib.rt:60:9
 kind-of-requires : tie.Need-kind-of-requires
 kind-of-requires c κs = search needs
 
--- src/lib.rt:61:9
 both-requires : tie.Need-both-requires
 both-requires c κs = search needs
 
--- src/lib.rt:59:5
 both-requires-2 : tie.Need-both-requires-2
 both-requires-2 c κs = search needs
 
--- src/lib.rt:54:1
 returns : tie.Need-returns
 unfolding castles
 returns c =

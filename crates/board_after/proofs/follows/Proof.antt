@@ -7,69 +7,49 @@ use borrow.Author.Tests.{not-true, not-false}
 use Rattle.board_after.proofs.Tests.{not-side, not-rights, not-file, so-by-squares}
 use Rattle.board_after.proofs.follows.Statement.{statement}
 use Rattle.board_after.proofs.follows.Tie as tie
-use Rattle.board_after.proofs.follows.Reads as reads
-use Rattle.board_after.proofs.follows.Lts as lts
-use Rattle.board_after.proofs.file_after.Reads as file-after-reads
-use Rattle.board_after.proofs.rights_follow.Reads as rights-follow-reads
-use Rattle.board_after.proofs.side_after.Reads as side-after-reads
-use Rattle.board_after.proofs.squares_follow.Reads as squares-follow-reads
 
--- src/lib.rt:353:18
 cast-source : tie.Need-cast-source
 cast-source c = search needs
 
--- src/lib.rt:354:16
 cast-dest : tie.Need-cast-dest
 cast-dest c = search needs
 
--- src/lib.rt:355:21
 cast-promotion : tie.Need-cast-promotion
 cast-promotion c = search needs
 
--- src/lib.rt:356:9
 slice-aggregate-old : tie.Need-slice-aggregate-old
 slice-aggregate-old c = simp length-take (omega (arith, c .before .before .before .pre .0))
 
--- src/lib.rt:357:8
 shared-slice-read-if1 : tie.Need-shared-slice-read-if1
 shared-slice-read-if1 c = search needs
 
--- src/lib.rt:357:33
 shared-slice-read-side-after : tie.Need-shared-slice-read-side-after
 shared-slice-read-side-after c = search needs
 
--- src/lib.rt:357:22
 side-after-requires : tie.Need-side-after-requires
 side-after-requires c κs = search needs
 
--- src/lib.rt:358:9
 returns : tie.Need-returns
 returns c =
     let a = c .before .before .before .before .before .before .before .args in
     let at-pre = c .before .before .before .before .before .before .before .pre in
     not-side (a .p .now) (a .q .now) (a .m) (at-pre .0) (at-pre .1) _ (c .before .side-after .ensures) (c .if1 .taken)
 
--- src/lib.rt:361:9
 shared-slice-read-rights-follow : tie.Need-shared-slice-read-rights-follow
 shared-slice-read-rights-follow c = search needs
 
--- src/lib.rt:362:9
 shared-slice-read-rights-follow-2 : tie.Need-shared-slice-read-rights-follow-2
 shared-slice-read-rights-follow-2 c = search needs
 
--- src/lib.rt:365:9
 shared-slice-read-rights-follow-3 : tie.Need-shared-slice-read-rights-follow-3
 shared-slice-read-rights-follow-3 c = search needs
 
--- src/lib.rt:366:9
 shared-slice-read-rights-follow-4 : tie.Need-shared-slice-read-rights-follow-4
 shared-slice-read-rights-follow-4 c = search needs
 
--- src/lib.rt:360:9
 rights-follow-requires : tie.Need-rights-follow-requires
 rights-follow-requires c κs = search needs
 
--- src/lib.rt:368:9
 returns-2 : tie.Need-returns-2
 returns-2 c =
     let a = c .before .before .before .before .before .before .before .before .before .before .before .before .before .args in
@@ -77,29 +57,24 @@ returns-2 c =
     let at-rights-follow = c .before .rights-follow in
     not-rights (a .p .now) (a .q .now) (a .m) (at-pre .0) (at-pre .1) (sym (at-rights-follow .ensures) ∙ not-true (at-rights-follow .result) (c .if2 .taken))
 
--- src/lib.rt:370:8
 shared-slice-read-if3 : tie.Need-shared-slice-read-if3
 shared-slice-read-if3 c = search needs
 
--- src/lib.rt:370:48
 cast-file-after : tie.Need-cast-file-after
 cast-file-after c = search needs
 
--- src/lib.rt:370:44
 shared-slice-read-file-after : tie.Need-shared-slice-read-file-after
 shared-slice-read-file-after c =
     let early = c .before .before .before .before .before .before .before .before .before .before .before .before in
     let at-pre = early .before .before .before .pre in
     simp length-take (omega (arith, at-pre .0))
 
--- src/lib.rt:370:28
 file-after-requires : tie.Need-file-after-requires
 file-after-requires c κs =
     let early = c .before .before .before .before .before .before .before .before .before .before .before .before in
     let at-pre = early .before .before .before .pre in
     (simp length-take (omega (arith, at-pre .0)), omega arith, omega arith)
 
--- src/lib.rt:371:9
 returns-3 : tie.Need-returns-3
 returns-3 c =
     let early = c .before .before .before .before .before .before .before .before .before .before .before .before in
@@ -107,21 +82,18 @@ returns-3 c =
     let at-pre = early .before .before .before .before .before .pre in
     not-file (a .p .now) (a .q .now) (a .m) (at-pre .0) (at-pre .1) _ (c .before .file-after .ensures) (c .if3 .taken)
 
--- src/lib.rt:373:50
 slice-aggregate-squares-follow : tie.Need-slice-aggregate-squares-follow
 slice-aggregate-squares-follow c =
     let early = c .before .before .before .before .before .before .before .before .before .before .before .before in
     let at-pre = early .before .before .before .before .before .before .pre in
     simp length-take (omega (arith, at-pre .1))
 
--- src/lib.rt:373:5
 squares-follow-requires : tie.Need-squares-follow-requires
 squares-follow-requires c κs =
     let early = c .before .before .before .before .before .before .before .before .before .before .before .before in
     let at-pre = early .before .before .before .before .before .before .pre in
     (simp length-take (omega (arith, at-pre .0)), simp length-take (omega (arith, at-pre .1)), omega arith, omega arith, omega arith)
 
--- src/lib.rt:349:1
 returns-4 : tie.Need-returns-4
 returns-4 c =
     let early = c .before .before .before .before .before .before .before .before .before .before .before .before in

@@ -1,50 +1,36 @@
 -- `leads_to_board` of lib.rt meets its contract: r ≡ leadsToBoard (now (p .entry)) m next.
 use borrow.Author.Needs.{needs}
 use mathlib.Core.Path.{ap, _∙_}
-use mathlib.Core.Bool.{Bool}
-use Prim.Native.Nat.{ℕ, _/_, _%_}
+use Prim.Native.Nat.{_/_, _%_}
 use Rattle.answer.specs.Numbers.{same}
 use Rattle.board_builder.specs.declared.BoardBuilder.{BoardBuilder}
 use Rattle.board_builder.specs.BoardBuilder.{numbers}
-use Rattle.board_after.specs.After.{afterParts, recordAfter}
+use Rattle.move_rules.specs.After.{afterParts, recordAfter}
 use Rattle.board_after.proofs.Tests.{none-before, from-record}
 use Rattle.board_after.proofs.leads_to_board.Statement.{statement}
 use Rattle.board_after.proofs.leads_to_board.Tie as tie
-use Rattle.board_after.proofs.leads_to_board.Reads as reads
-use Rattle.board_after.proofs.leads_to_board.Lts as lts
-use Rattle.board_after.proofs.after.Reads as after-reads
-use Rattle.board_after.proofs.record_at.Reads as record-at-reads
-use Rattle.board_after.proofs.same_record.Reads as same-record-reads
 
--- src/lib.rt:430:9
 returns : tie.Need-returns
 returns c = none-before (c .before .before .args .p .now) (c .before .before .args .m) (numbers (c .before .before .args .next)) (c .if1 .taken)
 
--- src/lib.rt:433:9
 record-at-requires : tie.Need-record-at-requires
 record-at-requires c κs = search needs
 
--- src/lib.rt:434:9
 cast-after : tie.Need-cast-after
 cast-after c = search needs
 
--- src/lib.rt:435:9
 cast-after-2 : tie.Need-cast-after-2
 cast-after-2 c = search needs
 
--- src/lib.rt:436:9
 cast-after-3 : tie.Need-cast-after-3
 cast-after-3 c = search needs
 
--- src/lib.rt:432:9
 after-requires : tie.Need-after-requires
 after-requires c κs = search needs
 
--- src/lib.rt:438:5
 same-record-requires : tie.Need-same-record-requires
 same-record-requires c κs = search needs
 
--- src/lib.rt:426:1
 returns-2 : tie.Need-returns-2
 unfolding recordAfter
 returns-2 c =

@@ -1,29 +1,21 @@
 -- `rights_follow` of lib.rt meets its contract: r ≡ (eqb left (rightsAfter 0 white source dest) && eqb right (rightsAfter 1 black source dest)).
 use borrow.Author.Needs.{needs}
-use mathlib.Core.Path.{ap, ap₂, sym, _∙_}
-use mathlib.Core.Bool.{Bool, _&&_}
+use mathlib.Core.Path.{ap, sym, _∙_}
 use Prim.Native.Nat.{ℕ}
 use lib.Dec.{eqb}
 use borrow.Author.Tests.{eq-eqb, ne-eqb, eqb-true}
 use Rattle.answer.proofs.Numbers.{both-left, both-right}
-use Rattle.board_after.specs.After.{rightsAfter}
-use Rattle.board_after.proofs.Rights.{none-left}
+use Rattle.move_rules.specs.After.{rightsAfter}
+use Rattle.move_rules.proofs.Rights.{none-left}
 use Rattle.board_after.proofs.rights_follow.Statement.{statement}
 use Rattle.board_after.proofs.rights_follow.Tie as tie
-use Rattle.board_after.proofs.rights_follow.Reads as reads
-use Rattle.board_after.proofs.rights_follow.Lts as lts
-use Rattle.board_after.proofs.rights_after.Reads as rights-after-reads
-use Rattle.answer.proofs.both.Reads as both-reads
 
--- src/lib.rt:339:8
 both-requires : tie.Need-both-requires
 both-requires c κs = search needs
 
--- src/lib.rt:340:9
 both-requires-2 : tie.Need-both-requires-2
 both-requires-2 c κs = search needs
 
--- src/lib.rt:340:9
 returns : tie.Need-returns
 returns c =
     let a = c .before .before .before .args in
@@ -33,21 +25,17 @@ returns c =
     ∙ none-left (a .source) (a .dest) (a .left) (a .right) (a .white) (a .black) (eqb-true _ _ (both-left (eqb (a .white) 0) (eqb (a .black) 0) zeros))
     (eqb-true _ _ (both-right (eqb (a .white) 0) (eqb (a .black) 0) zeros))
 
--- src/lib.rt:342:16
 rights-after-requires : tie.Need-rights-after-requires
 rights-after-requires c κs = search needs
 
--- src/lib.rt:343:9
 returns-2 : tie.Need-returns-2
 returns-2 c =
     let a = c .before .before .before .before .args in
     rw (ne-eqb (a .left) (rightsAfter 0 (a .white) (a .source) (a .dest)) (λ e. c .if2 .taken (e ∙ sym (c .before .rights-after .ensures))))
 
--- src/lib.rt:345:14
 rights-after-requires-2 : tie.Need-rights-after-requires-2
 rights-after-requires-2 c κs = search needs
 
--- src/lib.rt:335:1
 returns-3 : tie.Need-returns-3
 returns-3 c =
     let a = c .before .before .before .before .before .args in

@@ -1,20 +1,13 @@
 -- `rights_without` of lib.rt meets its contract: r ≡ rightsWithout color rights square.
 use borrow.Author.Needs.{needs}
 use native.Mathlib.Omega.{arith}
-use Rattle.board_after.specs.After.{rightsWithout}
-use Rattle.board_after.proofs.Rights.{gone-is, gone-small, less-of}
+use Rattle.move_rules.proofs.Rights.{gone-is, gone-small, less-of}
 use Rattle.board_after.proofs.rights_without.Statement.{statement}
 use Rattle.board_after.proofs.rights_without.Tie as tie
-use Rattle.board_after.proofs.rights_without.Reads as reads
-use Rattle.board_after.proofs.rights_without.Lts as lts
-use Rattle.board_after.proofs.without.Reads as without-reads
-use Rattle.castle_rights.proofs.square_to_castle_rights.Reads as square-to-castle-rights-reads
 
--- src/lib.rt:149:16
 square-to-castle-rights-requires : tie.Need-square-to-castle-rights-requires
 square-to-castle-rights-requires c κs = search needs
 
--- src/lib.rt:149:16
 cast-gone : tie.Need-cast-gone
 cast-gone c =
     let a = c .before .before .args in
@@ -22,23 +15,18 @@ cast-gone c =
     let at-square-to-castle-rights = c .before .square-to-castle-rights in
     omega (arith, gone-small (a .color) (a .square) (at-square-to-castle-rights .result) (at-pre .0) (at-pre .1) (at-square-to-castle-rights .ensures))
 
--- src/lib.rt:150:5
 without-requires : tie.Need-without-requires
 without-requires c κs = search needs
 
--- src/lib.rt:150:41
 without-requires-2 : tie.Need-without-requires-2
 without-requires-2 c κs = search needs
 
--- src/lib.rt:150:37
 mul-result : tie.Need-mul-result
 mul-result c = search needs
 
--- src/lib.rt:150:5
 add-result : tie.Need-add-result
 add-result c = search needs
 
--- src/lib.rt:145:1
 returns : tie.Need-returns
 returns c =
     let a = c .before .before .before .before .args in

@@ -4,14 +4,10 @@ use mathlib.Core.Path.{_≡_, sym, _∙_}
 use lib.ListN.{length}
 use borrow.Author.Needs.{length-unmapped}
 use Rattle.board_builder.specs.BoardBuilder.{numbers}
-use Rattle.board_after.proofs.Records.{off-side, off-white, off-black, off-file, by-squares}
+use Rattle.move_rules.proofs.Records.{off-side, off-white, off-black, off-file, by-squares}
 use Rattle.board_after.proofs.same_record.Statement.{statement}
 use Rattle.board_after.proofs.same_record.Tie as tie
-use Rattle.board_after.proofs.same_record.Reads as reads
-use Rattle.board_after.proofs.same_record.Lts as lts
-use Rattle.board_after.proofs.same_squares.Reads as same-squares-reads
 
--- src/lib.rt:415:9
 returns : tie.Need-returns
 unfolding numbers
 returns c =
@@ -22,7 +18,6 @@ returns c =
     let h = ha ∙ sym hb in
     off-side (at-args .a .pieces) _ _ _ _ (at-args .b) h (c .if1 .taken)
 
--- src/lib.rt:418:9
 returns-2 : tie.Need-returns-2
 unfolding numbers
 returns-2 c =
@@ -33,7 +28,6 @@ returns-2 c =
     let h = ha ∙ sym hb in
     off-white (at-args .a .pieces) _ _ _ _ (at-args .b) h (c .if2 .taken)
 
--- src/lib.rt:421:9
 returns-3 : tie.Need-returns-3
 unfolding numbers
 returns-3 c =
@@ -44,7 +38,6 @@ returns-3 c =
     let h = ha ∙ sym hb in
     off-black (at-args .a .pieces) _ _ _ _ (at-args .b) h (c .if3 .taken)
 
--- src/lib.rt:424:9
 returns-4 : tie.Need-returns-4
 unfolding numbers
 returns-4 c =
@@ -55,11 +48,9 @@ returns-4 c =
     let h = ha ∙ sym hb in
     off-file (at-args .a .pieces) _ _ _ _ (at-args .b) h (c .if4 .taken)
 
--- src/lib.rt:428:5
 same-squares-requires : tie.Need-same-squares-requires
 same-squares-requires c κs = search needs
 
--- src/lib.rt:411:1
 returns-5 : tie.Need-returns-5
 unfolding numbers
 returns-5 c =

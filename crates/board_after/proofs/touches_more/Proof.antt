@@ -6,29 +6,19 @@ use lib.Dec.{eqb}
 use Rattle.board_after.specs.CodeDiffer.{touchesMore}
 use Rattle.board_after.proofs.touches_more.Statement.{statement}
 use Rattle.board_after.proofs.touches_more.Tie as tie
-use Rattle.board_after.proofs.touches_more.Reads as reads
-use Rattle.board_after.proofs.touches_more.Lts as lts
-use Rattle.board_after.proofs.castles.Reads as castles-reads
-use Rattle.board_after.proofs.takes_in_passing.Reads as takes-in-passing-reads
-use Rattle.answer.proofs.either.Reads as either-reads
 
--- src/lib.rt:278:9
 takes-in-passing-requires : tie.Need-takes-in-passing-requires
 takes-in-passing-requires c κs = search needs
 
--- src/lib.rt:280:9
 castles-requires : tie.Need-castles-requires
 castles-requires c κs = search needs
 
--- src/lib.rt:281:9
 either-requires : tie.Need-either-requires
 either-requires c κs = search needs
 
--- src/lib.rt:279:5
 either-requires-2 : tie.Need-either-requires-2
 either-requires-2 c κs = search needs
 
--- src/lib.rt:274:1
 returns : tie.Need-returns
 unfolding touchesMore
 returns c =

@@ -1,7 +1,7 @@
--- `move_of` of lib.rt meets its contract: r ≡ moveOf w.
+-- `move_of` of lib.rt meets its contract: r ≡ moveWalked w.
 use borrow.Author.Needs.{needs}
 use mathlib.Core.Path.{sym, ap, _∙_}
-use Rattle.pgn.specs.CodeWalkers.{moveOf}
+use Rattle.pgn.specs.CodeWalkers.{moveWalked}
 use Rattle.pgn.proofs.move_of.Statement.{statement}
 use Rattle.pgn.proofs.move_of.Tie as tie
 
@@ -24,16 +24,16 @@ no-move-requires-2 : tie.Need-no-move-requires-2
 no-move-requires-2 c κs = search needs
 
 returns : tie.Need-returns
-unfolding moveOf
-returns c = c .no-move .ensures ∙ sym (ap moveOf (c .before .enum-told .given .1))
+unfolding moveWalked
+returns c = c .no-move .ensures ∙ sym (ap moveWalked (c .before .enum-told .given .1))
 
 returns-2 : tie.Need-returns-2
-unfolding moveOf
-returns-2 c = c .move-at .ensures ∙ sym (ap moveOf (c .before .before .w .given .1))
+unfolding moveWalked
+returns-2 c = c .move-at .ensures ∙ sym (ap moveWalked (c .before .before .w .given .1))
 
 returns-3 : tie.Need-returns-3
-unfolding moveOf
-returns-3 c = c .no-move2 .ensures ∙ sym (ap moveOf (c .before .before .w2 .given .1))
+unfolding moveWalked
+returns-3 c = c .no-move2 .ensures ∙ sym (ap moveWalked (c .before .before .w2 .given .1))
 
 pub move-of-spec : {M : Type 1} → statement M
 move-of-spec =

@@ -1,11 +1,11 @@
--- `next` of lib.rt meets its contract: r ≡ next (now (text .entry)) offset level.
+-- `next` of lib.rt meets its contract: r ≡ nextMove (now (text .entry)) offset level.
 use borrow.Author.Needs.{needs}
 use mathlib.Core.Path.{sym, ap, _∙_}
 use native.Mathlib.Omega.{arith}
 use lib.ListN.{drop, replicate, length-replicate}
 use borrow.Author.Tests.{lt-ltb, le-ltb}
-use Rattle.pgn_text.specs.Walk.{next, first, walk, walkFrom}
-use Rattle.pgn.specs.CodeWalkers.{moveOf}
+use Rattle.pgn_text.specs.Walk.{nextMove, firstMove, walk, walkFrom}
+use Rattle.pgn.specs.CodeWalkers.{moveWalked}
 use Rattle.pgn.proofs.Walkers.{first-of, near-told}
 use Rattle.pgn.proofs.next.Statement.{statement}
 use Rattle.pgn.proofs.next.Tie as tie
@@ -14,14 +14,14 @@ no-move-requires : tie.Need-no-move-requires
 no-move-requires c κs = search needs
 
 returns : tie.Need-returns
-unfolding next walkFrom first
+unfolding nextMove walkFrom firstMove
 returns c = simp (lt-ltb _ _ (c .before .if1 .taken), c .no-move .ensures)
 
 no-move-requires-2 : tie.Need-no-move-requires-2
 no-move-requires-2 c κs = search needs
 
 returns-2 : tie.Need-returns-2
-unfolding next walkFrom first
+unfolding nextMove walkFrom firstMove
 returns-2 c = simp (le-ltb _ _ (c .before .before .if1 .left), lt-ltb _ _ (c .before .if2 .taken), c .no-move2 .ensures)
 
 near-requires : tie.Need-near-requires
@@ -34,12 +34,12 @@ move-at-requires : tie.Need-move-at-requires
 move-at-requires c κs = search needs
 
 returns-3 : tie.Need-returns-3
-unfolding next walkFrom moveOf
+unfolding nextMove walkFrom moveWalked
 returns-3 c =
     let a = c .before .before .before .before .before .before .args in
     let os = replicate (a .level) (a .offset) in
     c .move-at .ensures ∙ sym
-        (ap moveOf (near-told (a .text .now) (a .level) (a .offset) _ os (length-replicate (a .level) (a .offset)) (c .before .if3 .taken)
+        (ap moveWalked (near-told (a .text .now) (a .level) (a .offset) _ os (length-replicate (a .level) (a .offset)) (c .before .if3 .taken)
         (c .before .before .near .ensures))) ∙ first-of 0 (walk 0 (a .offset) os (drop (a .offset) (a .text .now)))
         ∙ simp (le-ltb _ _ (c .before .before .before .before .if1 .left), le-ltb _ _ (c .before .before .before .if2 .left))
 
@@ -50,11 +50,11 @@ move-of-requires : tie.Need-move-of-requires
 move-of-requires c κs = search needs
 
 returns-4 : tie.Need-returns-4
-unfolding next walkFrom
+unfolding nextMove walkFrom
 returns-4 c =
     let a = c .before .before .before .before .before .before .before .args in
     let os = replicate (a .level) (a .offset) in
-    c .move-of .ensures ∙ ap moveOf (c .before .outward .ensures) ∙ first-of 0 (walk 0 (a .offset) os (drop (a .offset) (a .text .now)))
+    c .move-of .ensures ∙ ap moveWalked (c .before .outward .ensures) ∙ first-of 0 (walk 0 (a .offset) os (drop (a .offset) (a .text .now)))
         ∙ simp (le-ltb _ _ (c .before .before .before .before .before .if1 .left), le-ltb _ _ (c .before .before .before .before .if2 .left))
 
 pub next-spec : {M : Type 1} → statement M

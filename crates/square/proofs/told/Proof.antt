@@ -1,6 +1,6 @@
--- `told` of lib.rt meets its contract: r ≡ told start long pair.
+-- `told` of lib.rt meets its contract: r ≡ pairTold start long pair.
 use borrow.Author.Needs.{needs}
-use Rattle.square.specs.Square.{told}
+use Rattle.square.specs.Square.{pairTold}
 use Rattle.square.proofs.told.Statement.{statement}
 use Rattle.square.proofs.told.Tie as tie
 
@@ -35,19 +35,19 @@ fault-at-requires-3 : tie.Need-fault-at-requires-3
 fault-at-requires-3 c κs = search needs
 
 returns : tie.Need-returns
-unfolding told
+unfolding pairTold
 returns c = rw (c .before .before .pair .given .1) (c .read-as .ensures)
 
 returns-2 : tie.Need-returns-2
-unfolding told
+unfolding pairTold
 returns-2 c = rw (c .before .enum-told .given .1) (c .fault-at .ensures)
 
 returns-3 : tie.Need-returns-3
-unfolding told
+unfolding pairTold
 returns-3 c = rw (c .before .enum-told2 .given .1) (c .fault-at2 .ensures)
 
 returns-4 : tie.Need-returns-4
-unfolding told
+unfolding pairTold
 returns-4 c = rw (c .before .enum-told3 .given .1) (c .fault-at3 .ensures)
 
 pub told-spec : {M : Type 1} → statement M

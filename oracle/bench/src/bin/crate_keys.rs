@@ -1,4 +1,4 @@
-//! `keys` over the crate chess 3.2.0: for each FEN text of a file, one a line, the crate's own text of it, or `!` alone: what is wrong with a
+//! `keys` over the crate chess 3.2.0: for each FEN text of a file, one per line, the crate's own text of it, or `!` alone: what is wrong with a
 //! text and where, the crate does not say. With `--check` only the lines that are not their own text are written.
 
 use chess::BoardBuilder;

@@ -5,7 +5,7 @@ use Prim.Native.Nat.{_+_, _<_}
 use native.Mathlib.Omega.{arith}
 use lib.ListN.{length}
 use borrow.Author.Tests.{eq-eqb, ne-eqb}
-use Rattle.fen_text.specs.Lines.{lines, ended}
+use Rattle.fen_text.specs.Lines.{lines, endedLines}
 use Rattle.fen_text.proofs.Lines.{count-by-last, lines-at-most, ended-at-most}
 use Rattle.fen_reader.proofs.lines.line_count.Statement.{statement}
 use Rattle.fen_reader.proofs.lines.line_count.Tie as tie
@@ -35,7 +35,7 @@ add-result : tie.Need-add-result
 add-result c = 
     let s = c .before .before .before .before .before .args .text .now in
     let some : 0 < length s = omega (arith, c .before .before .if1 .left) in
-    let all : length (lines s) ≡ length (ended s) + 1 = count-by-last s some ∙ simp (ne-eqb _ _ (c .if2 .left)) in
+    let all : length (lines s) ≡ length (endedLines s) + 1 = count-by-last s some ∙ simp (ne-eqb _ _ (c .if2 .left)) in
     let long : length s < 18446744073709551616 = search needs in
     omega (arith, c .before .before .before .newlines .ensures, lines-at-most s)
 
@@ -43,7 +43,7 @@ returns-3 : tie.Need-returns-3
 returns-3 c = 
     let s = c .before .before .before .before .before .args .text .now in
     let some : 0 < length s = omega (arith, c .before .before .if1 .left) in
-    let all : length (lines s) ≡ length (ended s) + 1 = count-by-last s some ∙ simp (ne-eqb _ _ (c .if2 .left)) in
+    let all : length (lines s) ≡ length (endedLines s) + 1 = count-by-last s some ∙ simp (ne-eqb _ _ (c .if2 .left)) in
     omega (arith, c .before .before .before .newlines .ensures)
 
 pub line-count-spec : {M : Type 1} → statement M

@@ -1,10 +1,10 @@
--- `newlines` of lines.rt meets its contract: r ≡ length (ended (now (text .entry))).
+-- `newlines` of lines.rt meets its contract: r ≡ length (endedLines (now (text .entry))).
 use borrow.Author.Needs.{needs}
 use mathlib.Core.Path.{_≡_}
 use Prim.Native.Nat.{_+_, _-_, _≤_, _<_, zero-le}
 use native.Mathlib.Omega.{arith}
 use lib.ListN.{length, drop}
-use Rattle.fen_text.specs.Lines.{ended}
+use Rattle.fen_text.specs.Lines.{endedLines}
 use Rattle.fen_text.proofs.Lines.{ended-at-most}
 use Rattle.fen_reader.proofs.Blocks.{counted-turn, counted-end}
 use Rattle.fen_reader.proofs.Blocks.{counted-turn, counted-end}
@@ -12,7 +12,7 @@ use Rattle.fen_reader.proofs.lines.newlines.Statement.{statement}
 use Rattle.fen_reader.proofs.lines.newlines.Tie as tie
 
 abbrev Inv-loop : tie.InvT-loop
-Inv-loop text n₀ at₀ n at = (at ≤ length text) × (n + length (ended (drop at text)) ≡ length (ended text))
+Inv-loop text n₀ at₀ n at = (at ≤ length text) × (n + length (endedLines (drop at text)) ≡ length (endedLines text))
 
 abbrev μ-loop : tie.MeasureT-loop
 μ-loop text n₀ at₀ n at = length text - at

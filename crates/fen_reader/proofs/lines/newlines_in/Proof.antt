@@ -1,18 +1,18 @@
--- `newlines_in` of lines.rt meets its contract: r ≡ length (ended (now (block .entry))).
+-- `newlines_in` of lines.rt meets its contract: r ≡ length (endedLines (now (block .entry))).
 use borrow.Author.Needs.{needs}
 use mathlib.Core.Path.{_≡_}
 use Prim.Native.Nat.{_+_, _-_, _≤_, zero-le}
 use native.Mathlib.Omega.{arith}
 use lib.Dec.{eqb}
 use lib.ListN.{length, drop, getD}
-use Rattle.fen_text.specs.Lines.{lineFeed, ended}
+use Rattle.fen_text.specs.Lines.{lineFeed, endedLines}
 use Rattle.fen_text.proofs.Lines.{ended-turn, ended-end}
 use Rattle.fen_reader.proofs.Seen.{one-at-most}
 use Rattle.fen_reader.proofs.lines.newlines_in.Statement.{statement}
 use Rattle.fen_reader.proofs.lines.newlines_in.Tie as tie
 
 abbrev Inv-loop : tie.InvT-loop
-Inv-loop block n₀ i₀ n i = (i ≤ length block) × (n ≤ i) × (n + length (ended (drop i block)) ≡ length (ended block))
+Inv-loop block n₀ i₀ n i = (i ≤ length block) × (n ≤ i) × (n + length (endedLines (drop i block)) ≡ length (endedLines block))
 
 abbrev μ-loop : tie.MeasureT-loop
 μ-loop block n₀ i₀ n i = length block - i

@@ -4,7 +4,7 @@ use mathlib.Core.Path.{_≡_, sym, _∙_}
 use native.Mathlib.Omega.{arith}
 use Prim.Native.Nat.{_+_, _-_, _≤_, _<_, zero-le}
 use lib.ListN.{length, drop, getD}
-use Rattle.fen_text.specs.Placement.{isBad, firstBad}
+use Rattle.fen_text.specs.Placement.{isNoSign, firstBad}
 use Rattle.fen_text.proofs.Tokens.{where-hit, where-miss, where-end, where-start}
 use Rattle.fen_reader.proofs.Classes.{class-bad, class-good}
 use Rattle.fen_reader.proofs.placement.first_bad.Statement.{statement}
@@ -35,7 +35,8 @@ returns c =
     let s = a .token .now in
     let i = at-loop .i in
     let byte : getD s i 0 < 256 = omega (arith, at-shared-slice-known2 .given i) in
-    sym (at-loop .inv .1 ∙ where-hit isBad s i (at-loop-test .taken) (class-bad (getD s i 0) (at-class-of .result) byte (at-class-of .ensures) (c .if1 .taken)))
+    sym
+    (at-loop .inv .1 ∙ where-hit isNoSign s i (at-loop-test .taken) (class-bad (getD s i 0) (at-class-of .result) byte (at-class-of .ensures) (c .if1 .taken)))
 
 add-i : tie.Need-add-i Inv-loop μ-loop
 add-i c = search needs
@@ -53,7 +54,7 @@ loop-again c =
     let s = a .token .now in
     let i = at-loop .i in
     let byte : getD s i 0 < 256 = omega (arith, at-shared-slice-known2 .given i) in
-    (search needs, at-loop .inv .1 ∙ where-miss isBad s i (at-loop-test .taken)
+    (search needs, at-loop .inv .1 ∙ where-miss isNoSign s i (at-loop-test .taken)
     (class-good (getD s i 0) (at-class-of .result) byte (at-class-of .ensures) (c .if1 .left)))
 
 returns-2 : tie.Need-returns-2 Inv-loop μ-loop

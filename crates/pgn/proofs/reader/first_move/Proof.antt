@@ -1,4 +1,4 @@
--- `pgn::reader::first_move` meets its contract: a walk of its MIR, by hand. A `Reader` that one call returns is held in a local and passed to the next. All
+-- `pgn::reader::first_move` meets its contract: a walk of its MIR, by hand. A `Reader` that one call returns is held in a local and passed to the nextMove. All
 -- that the proof knows of `new` and of `step` is that each meets its contract.
 -- The machine value that `new` returns is stored and passed on as it is. In a local of a body MIR erases the lifetime of the struct's type, so the value is
 -- shown to have the type at `erased`: what the struct owns does not say the lifetime's name.
@@ -38,7 +38,7 @@ use denote.Triple.Table.{entered, cited}
 use denote.Triple.Walked.{says, Stays, stay-none-slice, walkOf, goes-none-slice, Walks, ends-at, walked, walk-meets}
 use denote.Exit.{yes}
 use denote.Triple.Clauses.{ensured, lasts}
-use Rattle.pgn_text.specs.Walk.{next}
+use Rattle.pgn_text.specs.Walk.{nextMove}
 use Rattle.pgn.specs.Reader.{placed}
 use Rattle.pgn.specs.declared.reader.Reader.{Reader}
 use Rattle.pgn_text.specs.declared.PgnMove.{PgnMove}
@@ -81,7 +81,7 @@ module _ {M : Type 1} (𝓤 : URA M) (H : Heap 𝓤) (A : Atoms 𝓤) (W : Given
   v = sliceVal (s .ptr) (length (s .now))
 
   abbrev found : PgnMove
-  found = next (now s) 0 0
+  found = nextMove (now s) 0 0
 
   -- the struct's type as a local of a body has it
   abbrev αᵉ : NamedLft
@@ -117,8 +117,8 @@ module _ {M : Type 1} (𝓤 : URA M) (H : Heap 𝓤) (A : Atoms 𝓤) (W : Given
       join ! $ frame ! $ done !
 
   step-said : (r : Reader) (t : PgnMove)
-      → ent 𝓤 (ensured 𝓤 H A step.ended (step.clauses 𝓤 H A mem run) (κ, tt) (r, tt) tt t) (fact 𝓤 (t ≡ next (now (r .text)) (r .offset) (r .level)))
-  step-said r t = exE 𝓤 _ (λ ws. snd∗ 𝓤 (sem 𝓤 H A (lasts step.ended (κ, tt) (r, tt) ws)) (fact 𝓤 (t ≡ next (now (r .text)) (r .offset) (r .level))))
+      → ent 𝓤 (ensured 𝓤 H A step.ended (step.clauses 𝓤 H A mem run) (κ, tt) (r, tt) tt t) (fact 𝓤 (t ≡ nextMove (now (r .text)) (r .offset) (r .level)))
+  step-said r t = exE 𝓤 _ (λ ws. snd∗ 𝓤 (sem 𝓤 H A (lasts step.ended (κ, tt) (r, tt) ws)) (fact 𝓤 (t ≡ nextMove (now (r .text)) (r .offset) (r .level))))
 
   exits : (t : PgnMove) (u : Val) → t ≡ found → ent 𝓤 (⋆ 𝓤 H A (‵ (S.the-row .own t (u ∷ [])) ∷ (‵ (flft κ q) ⊛ ‵ ftrue) ∷ ‵ Own ∷ [])) (Post u)
   exits t u e =
@@ -147,14 +147,14 @@ module _ {M : Type 1} (𝓤 : URA M) (H : Heap 𝓤) (A : Atoms 𝓤) (W : Given
         calls-at ! fm (Step 𝓤 H A mem run) known-step (to-step r u) (and-then ! (load ! (from ! (stop !)) (look ! 2 refl)) (no-more !)) (λ u′.
         use1 W (later (some (λ (t : PgnMove). ((‵ (flft κ q) ⊛ ‵ ftrue) ⊛ ‵ (S.the-row .own t (u′ ∷ []))) ⊛ raw
             (ensured 𝓤 H A step.ended (step.clauses 𝓤 H A mem run) (κ, tt) (r, tt) tt t)))) (id⊢ 𝓤 _) $ await ! tt $ pick ! (λ t.
-        split ! $ move ! (1 ∷ []) $ use1 W (raw (fact 𝓤 (t ≡ next (now (r .text)) (r .offset) (r .level)))) (step-said r t) $
-            heard ! (t ≡ next (now (r .text)) (r .offset) (r .level)) (λ e′. split ! $ move ! (1 ∷ []) $
+        split ! $ move ! (1 ∷ []) $ use1 W (raw (fact 𝓤 (t ≡ nextMove (now (r .text)) (r .offset) (r .level)))) (step-said r t) $
+            heard ! (t ≡ nextMove (now (r .text)) (r .offset) (r .level)) (λ e′. split ! $ move ! (1 ∷ []) $
         -- [the result; the token; what s owns; _2; …; _1; …; room for _0; …]
         peeks ! S.the-row (Is S.the-row) (shows 𝓤 H A S.the-row) t (u′ ∷ []) (λ is′.
         land ! (from ! (stop !)) (init ! 7 refl (LL.lawful S.the-type S′.the-laws 𝓤 H A W .typed t _ is′ .0)) $
         returns ! (look ! 7 refl) $ forget ! 3 refl $ forget ! 5 refl $ forget ! 7 refl $ move ! (7 ∷ 8 ∷ []) $ free1 ! $ move ! (5 ∷ 6 ∷ []) $ free1 ! $
             move ! (3 ∷ 4 ∷ []) $ free1 ! $ free0 ! $
-        by ! (exits t u′ (e′ ∙ ap (λ (x : Reader). next (now (x .text)) (x .offset) (x .level)) e)))))))))))))
+        by ! (exits t u′ (e′ ∙ ap (λ (x : Reader). nextMove (now (x .text)) (x .offset) (x .level)) e)))))))))))))
 
 module _ {M : Type 1} (𝓤 : URA M) (H : Heap 𝓤) (A : Atoms 𝓤) (W : Given 𝓤 H A) (mem : Memory → SProp 𝓤) (run : Routine → Fun 𝓤) where
   first-walks : (C : Calls 𝓤 H) (Λ : Loops 𝓤 H) → FmC 𝓤 H (W .laws) C → Triple 𝓤 (C #new) (New 𝓤 H A mem run) → Triple 𝓤 (C #step) (Step 𝓤 H A mem run)

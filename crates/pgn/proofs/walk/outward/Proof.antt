@@ -7,14 +7,14 @@ use borrow.Author.Needs.{needs}
 use Prim.Native.Nat.{_≤_, zero-le}
 use lib.ListN.{length, replicate, length-replicate}
 use Rattle.pgn_text.specs.Walk.{deepest}
-use Rattle.pgn.specs.CodeWalkers.{told, toldFrom}
+use Rattle.pgn.specs.CodeWalkers.{walkedFrom, toldFrom}
 use Rattle.pgn.proofs.Walkers.{sequence-on, sequence-found, sequence-over, out-end, out-open, out-stray, out-more}
 use Rattle.pgn.proofs.walk.outward.Statement.{statement}
 use Rattle.pgn.proofs.walk.outward.Tie as tie
 
 abbrev Inv-loop : tie.InvT-loop
 Inv-loop s offset level stop at₀ inside₀ count₀ at inside count =
-    (at ≤ length s) × (inside ≤ deepest) × (count ≤ at) × (toldFrom s stop offset level ≡ told s stop (replicate inside offset) at count)
+    (at ≤ length s) × (inside ≤ deepest) × (count ≤ at) × (toldFrom s stop offset level ≡ walkedFrom s stop (replicate inside offset) at count)
 
 abbrev μ-loop : tie.MeasureT-loop
 μ-loop s offset level stop at₀ inside₀ count₀ at inside count = inside

@@ -6,7 +6,7 @@ use native.Mathlib.Omega.{arith}
 use Prim.Native.Nat.{_-_, _≤_}
 use lib.ListN.{length, getD}
 use Rattle.san_text.specs.Resolve.{fits}
-use Rattle.san.specs.CodeFitting.{added}
+use Rattle.san.specs.CodeFitting.{withEntry}
 use Rattle.san.proofs.Arrivals.{arrives, arrives-elsewhere}
 use Rattle.san.proofs.Counts.{CountedTo, counted-start, counted-turn, counted-pass, counted-end}
 use Rattle.san.proofs.resolve.count_fits.Statement.{statement}
@@ -60,7 +60,7 @@ loop-again c =
     let x = getD (a .moves .now) (l .i) 0 in
     let source = c .before .source-fits in
     let fit : source .result ≡ g x = source .ensures ∙ sym (arrives (a .pieces .now) (a .t) x (start .pre) (c .before .before .if1 .taken)) in
-    let next : c .add-fit .result ≡ added (l .f) (g x) x = c .add-fit .ensures ∙ ap (λ b. added (l .f) b x) fit in
+    let next : c .add-fit .result ≡ withEntry (l .f) (g x) x = c .add-fit .ensures ∙ ap (λ b. withEntry (l .f) b x) fit in
     (omega arith, rw next (counted-turn g (a .moves .now) (l .i) (l .f) (omega arith) (l .inv .1)))
 
 loop-less-2 : tie.Need-loop-less-2 Inv-loop μ-loop

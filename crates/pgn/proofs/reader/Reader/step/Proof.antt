@@ -1,4 +1,4 @@
--- `pgn::reader::Reader::step` meets its contract: a walk of its MIR, by hand. The struct is taken apart, and `next` is called on the slice and the two
+-- `pgn::reader::Reader::step` meets its contract: a walk of its MIR, by hand. The struct is taken apart, and `nextMove` is called on the slice and the two
 -- numbers. All that the proof knows of `next` is that it meets its contract.
 -- The struct is Copy: there are two copies of what it owns, one is kept whole for the exit, and of the other what text owns goes to the callee, beside the
 -- lifetime's token, which comes back.
@@ -46,7 +46,7 @@ use denote.Triple.Table.{entered, cited}
 use denote.Triple.Walked.{says, Stays, stay-none, walkOf, goes-none, Walks, ends-at, walked, walk-meets}
 use denote.Exit.{yes}
 use denote.Triple.Clauses.{ensured, lasts}
-use Rattle.pgn_text.specs.Walk.{next}
+use Rattle.pgn_text.specs.Walk.{nextMove}
 use Rattle.pgn.specs.declared.reader.Reader.{Reader}
 use Rattle.pgn_text.specs.declared.PgnMove.{PgnMove}
 use Rattle.pgn.proofs.reader.Reader as T
@@ -84,7 +84,7 @@ module _ {M : Type 1} (𝓤 : URA M) (H : Heap 𝓤) (A : Atoms 𝓤) (W : Given
   v = sliceVal (d .text .ptr) (length (d .text .now))
 
   abbrev found : PgnMove
-  found = next (now (d .text)) (d .offset) (d .level)
+  found = nextMove (now (d .text)) (d .offset) (d .level)
 
   abbrev Post : Val → SProp 𝓤
   Post = walkOf 𝓤 H A own.ended stayed (own.clauses 𝓤 H A mem run) .post (((κ, tt), (q, tt), tt, (d, tt), (mach ∷ [], tt)), tt)

@@ -2,9 +2,9 @@
 -- Assumes nothing.
 use mathlib.Core.Path.{refl}
 use Rattle.square.specs.Piece.{kindOf}
-use Rattle.board_after.specs.After.{colourStep, enemyPawn, twoApart, castles, corner, rookMoved, takesInPassing, pawnRemoved, setDown}
-use Rattle.board_after.specs.After.{squaresAfter, rightsWithout, rightsAfter, stepsTwice, stoodBefore, stoodBehind, fileAfter, afterParts}
-use Rattle.board_after.specs.AtSmallest.{Rows}
+use Rattle.move_rules.specs.After.{colourStep, enemyPawn, twoApart, castles, corner, rookMoved, takesInPassing, pawnRemoved, setDown}
+use Rattle.move_rules.specs.After.{squaresAfter, rightsWithout, rightsAfter, stepsTwice, stoodBefore, stoodBehind, fileAfter, afterParts}
+use Rattle.move_rules.specs.AtSmallest.{Rows}
 
 pub rows : Rows
 unfolding kindOf colourStep enemyPawn twoApart castles corner rookMoved takesInPassing pawnRemoved setDown squaresAfter rightsWithout rightsAfter

@@ -8,7 +8,7 @@ use lib.Dec.{eqb}
 use borrow.Author.Tests.{lt-ltb}
 use Rattle.answer.specs.declared.Answer.{Answer}
 use Rattle.castle_rights.specs.CastleRights.{castlesAt, removed, squareRights}
-use Rattle.board_after.specs.After.{rightsOn, rightsWithout, rightsAfter}
+use Rattle.move_rules.specs.After.{rightsOn, rightsWithout, rightsAfter}
 
 castles-small : (colour rank file : ℕ) → castlesAt colour rank file < 4
 castles-small colour rank file = go (eqb rank (colour * 7)) (eqb file 0) (eqb file 4) (eqb file 7)

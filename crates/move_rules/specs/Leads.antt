@@ -8,7 +8,7 @@ use lib.ListN.{length, take}
 use Rattle.answer.specs.Numbers.{same}
 use Rattle.board_builder.specs.declared.BoardBuilder.{BoardBuilder}
 use Rattle.board_builder.specs.BoardBuilder.{numbers, recordSize}
-use Rattle.board_after.specs.After.{recordAfter}
+use Rattle.move_rules.specs.After.{recordAfter}
 
 -- these numbers are the record after a move from the record in the first 68 bytes of p; fewer bytes hold no record
 unfoldable pub comesFrom : List ℕ → ℕ → List ℕ → Bool

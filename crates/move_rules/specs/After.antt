@@ -4,9 +4,9 @@ use mathlib.Core.Bool.{Bool, cond, not, _&&_, _||_}
 use mathlib.Core.List.{List}
 use Prim.Native.Nat.{ℕ, _+_, _-_, _/_, _%_}
 use lib.Dec.{eqb, leb, ltb}
-use lib.ListN.{getD, set}
+use lib.ListN.{set}
 use Rattle.answer.specs.Answer.{outOfRange, badList}
-use Rattle.square.specs.Piece.{kindOf}
+use Rattle.square.specs.Piece.{kindOf, pawn, king, manOn}
 use Rattle.square.specs.Square.{squareOf}
 use Rattle.castle_rights.specs.CastleRights.{castlesAt, removed}
 use Rattle.board_builder.specs.declared.BoardBuilder.{BoardBuilder}
@@ -20,17 +20,6 @@ rank square = square / 8
 
 abbrev pub file : ℕ → ℕ
 file square = square % 8
-
--- what stands on a square, 0 for nothing
-abbrev pub manOn : List ℕ → ℕ → ℕ
-manOn squares square = getD squares square 0
-
--- the kinds of men that have rules of their own
-abbrev pub pawn : ℕ
-pawn = 1
-
-abbrev pub king : ℕ
-king = 6
 
 -- what is added to a kind to make a man of the same colour as this one, and the pawn of the other colour
 unfoldable pub colourStep : ℕ → ℕ

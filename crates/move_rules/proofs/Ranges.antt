@@ -8,15 +8,16 @@ use native.Mathlib.Omega.{arith}
 use lib.ListN.{length, getD, take}
 use lib.Seq.{take-at, getD-append-add}
 use borrow.Author.Tests.{eq-eqb}
+use Rattle.square.specs.Piece.{manOn}
 use Rattle.board_builder.specs.declared.BoardBuilder.{BoardBuilder}
 use Rattle.board_builder.specs.BoardBuilder.{board, boardOf, numbers, inRange, numbersInRange, recordSize}
 use Rattle.board_builder.proofs.Ranges.{InRange, in-range, range-holds}
 use Rattle.board_builder.proofs.Numbers.{sixty-eight-numbers}
-use Rattle.board_after.specs.After.{afterParts, fileAfter, stepsTwice, stoodBeside, enemyPawn, boardAfter, recordAfter, manOn}
-use Rattle.board_after.specs.Promises.{AfterInRange, RecordAfterInRange}
-use Rattle.board_after.proofs.Rights.{rights-fewer}
-use Rattle.board_after.proofs.Squares.{squares-length, squares-codes}
-use Rattle.board_after.proofs.Records.{record-range}
+use Rattle.move_rules.specs.After.{afterParts, fileAfter, stepsTwice, stoodBeside, enemyPawn, boardAfter, recordAfter}
+use Rattle.move_rules.specs.Promises.{AfterInRange, RecordAfterInRange}
+use Rattle.move_rules.proofs.Rights.{rights-fewer}
+use Rattle.move_rules.proofs.Squares.{squares-length, squares-codes}
+use Rattle.move_rules.proofs.Records.{record-range}
 
 pub file-most : (l : List ℕ) (man source dest : ℕ) → fileAfter l man source dest ≤ 8
 unfolding fileAfter

@@ -5,18 +5,17 @@ use mathlib.Core.Bool.{Bool, true, false, cond, not, _||_, false≢true}
 use mathlib.Core.List.{List, [], _∷_, _++_}
 use Prim.Native.Nat.{ℕ, _+_, _*_, _/_, _%_, _<_}
 use native.Mathlib.Omega.{arith}
-use lib.Dec.{eqb, ltb, leb}
-use lib.ListN.{length, getD, set, length-set}
+use lib.Dec.{eqb, ltb}
+use lib.ListN.{length, set, length-set}
 use lib.Seq.{getD-set-same, getD-set-other}
 use borrow.Author.Tests.{eqb-true, eqb-false, eq-eqb, lt-leb, le-leb, ltb-true, ltb-false}
 use Rattle.answer.specs.Numbers.{among}
-use Rattle.square.specs.Piece.{kindOf}
+use Rattle.square.specs.Piece.{kindOf, king, manOn}
 use Rattle.answer.proofs.Numbers.{both-left, both-right}
-use Rattle.board_builder.specs.declared.BoardBuilder.{BoardBuilder}
-use Rattle.board_after.specs.After.{rank, file, king, twoApart, manOn, castles, corner, passedOver, rookMoved, takesInPassing, pawnRemoved, setDown}
-use Rattle.board_after.specs.After.{squaresAfter, afterAnswer}
-use Rattle.board_after.specs.Promises.{taken, named, OthersStay, NamedChange, RulesHold, CallIsAnswered}
-use Rattle.board_after.proofs.Squares.{rook-length, pawn-length, corner-below}
+use Rattle.move_rules.specs.After.{rank, file, twoApart, castles, corner, passedOver, rookMoved, takesInPassing, pawnRemoved, setDown}
+use Rattle.move_rules.specs.After.{squaresAfter, afterAnswer}
+use Rattle.move_rules.specs.Promises.{takenSquare, OthersStay, RulesHold, CallIsAnswered}
+use Rattle.move_rules.proofs.Squares.{rook-length, pawn-length, corner-below}
 
 -- a number that is not among some is none of them
 apart : (s x : ℕ) (l : List ℕ) → among s (x ∷ l) ≡ false → (s ≡ x → ⊥) × (among s l ≡ false)
@@ -61,7 +60,7 @@ module _ (l : List ℕ) (source dest promotion : ℕ) where
   by-castling c = rw (c, no-passing man source dest c crossed)
 
   by-passing : castles man source dest ≡ false → takesInPassing l man source dest ≡ true
-      → squaresAfter l source dest promotion ≡ moved (set l (taken source dest) 0)
+      → squaresAfter l source dest promotion ≡ moved (set l (takenSquare source dest) 0)
   unfolding squaresAfter rookMoved pawnRemoved
   by-passing c t = rw (c, t)
 
@@ -74,7 +73,7 @@ module _ (l : List ℕ) (source dest promotion : ℕ) where
   moved-past k s a b = getD-set-other (set k source 0) dest s (setDown man promotion) 0 b ∙ getD-set-other k source s 0 0 a
 
   stays : (s : ℕ) (c t : Bool) → castles man source dest ≡ c → takesInPassing l man source dest ≡ t
-      → among s (source ∷ dest ∷ (cond c (corner source dest ∷ passedOver source dest ∷ []) [] ++ cond t (taken source dest ∷ []) [])) ≡ false
+      → among s (source ∷ dest ∷ (cond c (corner source dest ∷ passedOver source dest ∷ []) [] ++ cond t (takenSquare source dest ∷ []) [])) ≡ false
       → manOn (squaresAfter l source dest promotion) s ≡ manOn l s
   stays s true t c e h =
       let from = apart s source _ h in
@@ -88,10 +87,10 @@ module _ (l : List ℕ) (source dest promotion : ℕ) where
   stays s false true c e h =
       let from = apart s source _ h in
       let to = apart s dest _ (from .1) in
-      let pawn = apart s (taken source dest) _ (to .1) in
+      let pawn = apart s (takenSquare source dest) _ (to .1) in
       ap (λ (k : List ℕ). manOn k s) (by-passing c e)
-      ∙ moved-past (set l (taken source dest) 0) s (from .0) (to .0)
-      ∙ getD-set-other l (taken source dest) s 0 0 (pawn .0)
+      ∙ moved-past (set l (takenSquare source dest) 0) s (from .0) (to .0)
+      ∙ getD-set-other l (takenSquare source dest) s 0 0 (pawn .0)
   stays s false false c e h =
       let from = apart s source _ h in
       let to = apart s dest _ (from .1) in
@@ -181,11 +180,11 @@ module _ (l : List ℕ) (source dest promotion : ℕ) (long : length l ≡ 64) (
     files-differ e =
         absurd (false≢true (sym (ap not (eq-eqb _ _ e)) ∙ both-left (not (eqb (source % 8) (dest % 8))) _ (both-right (eqb (kindOf here) 1) _ t)))
 
-    at-taken : (taken source dest ≡ dest → ⊥) → manOn after (taken source dest) ≡ 0
+    at-taken : (takenSquare source dest ≡ dest → ⊥) → manOn after (takenSquare source dest) ≡ 0
     at-taken n =
-        ap (λ (k : List ℕ). manOn k (taken source dest)) (by-passing l source dest promotion not-castling t)
-        ∙ moved-past l source dest promotion (set l (taken source dest) 0) (taken source dest) (λ e. files-differ (omega (arith, e))) n
-        ∙ getD-set-same l (taken source dest) 0 0 (omega (arith, long))
+        ap (λ (k : List ℕ). manOn k (takenSquare source dest)) (by-passing l source dest promotion not-castling t)
+        ∙ moved-past l source dest promotion (set l (takenSquare source dest) 0) (takenSquare source dest) (λ e. files-differ (omega (arith, e))) n
+        ∙ getD-set-same l (takenSquare source dest) 0 0 (omega (arith, long))
 
 pub rules-hold : RulesHold
 rules-hold l source dest promotion long hs hd =

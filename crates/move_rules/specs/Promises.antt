@@ -1,11 +1,11 @@
 -- What is promised about the board after a move, each as a statement that can be read by itself.
 -- Assumes nothing.
 use mathlib.Core.Path.{_≡_}
-use mathlib.Core.Bool.{Bool, true, false, cond, _&&_}
+use mathlib.Core.Bool.{true, false, cond}
 use mathlib.Core.List.{List, [], _∷_, _++_}
 use Prim.Native.Nat.{ℕ, _≤_, _<_}
-use lib.Dec.{eqb, leb}
 use lib.ListN.{length}
+use Rattle.square.specs.Piece.{manOn}
 use Rattle.answer.specs.Answer.{outOfRange, badList}
 use Rattle.answer.specs.Numbers.{among}
 use Rattle.square.specs.Square.{squareOf}
@@ -14,8 +14,8 @@ use Rattle.board_builder.specs.declared.Stepped.{Stepped}
 use Rattle.board_builder.specs.BoardBuilder.{inRange, numbersInRange}
 use Rattle.board_builder.specs.Steps.{stepped}
 use Rattle.chess_move.specs.Number.{lastMove}
-use Rattle.board_after.specs.After.{manOn, rank, file, castles, corner, passedOver, takesInPassing, setDown, squaresAfter, boardAfter, recordAfter}
-use Rattle.board_after.specs.After.{afterAnswer}
+use Rattle.move_rules.specs.After.{rank, file, castles, corner, passedOver, takesInPassing, setDown, squaresAfter, boardAfter, recordAfter}
+use Rattle.move_rules.specs.After.{afterAnswer}
 
 -- a record in range gives a record in range
 abbrev pub AfterInRange : Type 0
@@ -27,15 +27,15 @@ RecordAfterInRange = (l : List ℕ) (m : ℕ) → numbersInRange l ≡ true → 
 
 -- the squares that the rules of a move name: its source and its destination; in castling the corner and the square passed over; in taking in passing
 -- the square of the pawn taken
-abbrev pub taken : ℕ → ℕ → ℕ
-taken source dest = squareOf (rank source) (file dest)
+abbrev pub takenSquare : ℕ → ℕ → ℕ
+takenSquare source dest = squareOf (rank source) (file dest)
 
 abbrev pub named : List ℕ → ℕ → ℕ → List ℕ
 named squares source dest =
     source
     ∷ dest
     ∷ (cond (castles (manOn squares source) source dest) (corner source dest ∷ passedOver source dest ∷ []) []
-    ++ cond (takesInPassing squares (manOn squares source) source dest) (taken source dest ∷ []) [])
+    ++ cond (takesInPassing squares (manOn squares source) source dest) (takenSquare source dest ∷ []) [])
 
 -- all other squares are as before ..
 abbrev pub OthersStay : Type 0
@@ -50,8 +50,8 @@ pub record NamedChange (squares : List ℕ) (source dest promotion : ℕ) : Type
       → manOn (squaresAfter squares source dest promotion) (passedOver source dest) ≡ manOn squares (corner source dest)
   pub corner-empties : castles (manOn squares source) source dest ≡ true → (corner source dest ≡ dest → ⊥)
       → manOn (squaresAfter squares source dest promotion) (corner source dest) ≡ 0
-  pub pawn-goes : takesInPassing squares (manOn squares source) source dest ≡ true → (taken source dest ≡ dest → ⊥)
-      → manOn (squaresAfter squares source dest promotion) (taken source dest) ≡ 0
+  pub pawn-goes : takesInPassing squares (manOn squares source) source dest ≡ true → (takenSquare source dest ≡ dest → ⊥)
+      → manOn (squaresAfter squares source dest promotion) (takenSquare source dest) ≡ 0
 
 abbrev pub RulesHold : Type 0
 RulesHold = (squares : List ℕ) (source dest promotion : ℕ) → length squares ≡ 64 → source < 64 → dest < 64 → NamedChange squares source dest promotion

@@ -1,0 +1,6 @@
+pub mod AtSmallest
+pub mod Rights
+pub mod Squares
+pub mod Stay
+pub mod Records
+pub mod Ranges

@@ -1,0 +1,4 @@
+pub mod After
+pub mod AtSmallest
+pub mod Leads
+pub mod Promises
