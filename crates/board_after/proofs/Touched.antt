@@ -1,7 +1,7 @@
 -- What the tests of the code say of a move: one that touches no more than its two squares sets just those; a double step; squares two apart on one rank.
 -- Assumes nothing.
 use mathlib.Core.Path.{_≡_, refl, ap, sym, _∙_}
-use mathlib.Core.Bool.{Bool, true, false, cond, not, _&&_, _||_, and-true, and-false, false≢true}
+use mathlib.Core.Bool.{Bool, true, false, cond, not, _&&_, _||_, and-true, and-false}
 use mathlib.Core.List.{List}
 use Prim.Native.Nat.{ℕ, _+_, _<_}
 use lib.Dec.{T, eqb}
@@ -9,25 +9,23 @@ use lib.ListN.{set}
 use borrow.Author.Tests.{eq-eqb, eqb-true, eqb-false}
 use Rattle.square.specs.Piece.{kindOf, pawn, manOn}
 use Rattle.answer.proofs.Below.{holds, fails, belows}
+use Rattle.answer.proofs.Numbers.{or-left, or-right}
 use Rattle.move_rules.specs.After.{rank, file, twoApart, stepsTwice, colourStep, castles, rookMoved, takesInPassing}
 use Rattle.move_rules.specs.After.{pawnRemoved, setDown, squaresAfter}
 use Rattle.board_after.specs.CodeDiffer.{touchesMore}
-
-neither : (a b : Bool) → a || b ≡ false → (a ≡ false) × (b ≡ false)
-neither false b e = (refl, e)
-neither true b e = absurd (false≢true (sym e))
 
 -- a move that touches no more than its two squares
 module _ (l : List ℕ) (source dest promotion : ℕ) (e : touchesMore l (manOn l source) source dest ≡ false) where
   not-castles : castles (manOn l source) source dest ≡ false
   unfolding touchesMore
-  not-castles = neither (castles (manOn l source) source dest) (takesInPassing l (manOn l source) source dest || eqb source dest) e .0
+  not-castles = or-left (castles (manOn l source) source dest) (takesInPassing l (manOn l source) source dest || eqb source dest) e
 
   not-others : (takesInPassing l (manOn l source) source dest ≡ false) × (eqb source dest ≡ false)
   unfolding touchesMore
   not-others =
-      neither (takesInPassing l (manOn l source) source dest) (eqb source dest)
-      (neither (castles (manOn l source) source dest) (takesInPassing l (manOn l source) source dest || eqb source dest) e .1)
+      let rest = or-right (castles (manOn l source) source dest) (takesInPassing l (manOn l source) source dest || eqb source dest) e in
+      (or-left (takesInPassing l (manOn l source) source dest) (eqb source dest) rest,
+       or-right (takesInPassing l (manOn l source) source dest) (eqb source dest) rest)
 
   pub apart : source ≡ dest → ⊥
   apart = eqb-false source dest (not-others .1)

@@ -4,8 +4,10 @@ use mathlib.Core.Path.{sym, _∙_}
 use Rattle.answer.specs.Determined.{OneAnswer}
 use Rattle.claim.proofs.is_irreversible.Reads as is-irreversible
 use Rattle.claim.proofs.is_irreversible.Kinds as is-irreversible·k
-use Rattle.claim.proofs.run_at.Reads as run-at
-use Rattle.claim.proofs.run_at.Kinds as run-at·k
+use Rattle.claim.proofs.begun_by.Reads as begun-by
+use Rattle.claim.proofs.begun_by.Kinds as begun-by·k
+use Rattle.claim.proofs.run_begun.Reads as run-begun
+use Rattle.claim.proofs.run_begun.Kinds as run-begun·k
 use Rattle.claim.proofs.moves_since.Reads as moves-since
 use Rattle.claim.proofs.moves_since.Kinds as moves-since·k
 use Rattle.claim.proofs.stands.Reads as stands
@@ -14,8 +16,11 @@ use Rattle.claim.proofs.stands.Kinds as stands·k
 pub is-irreversible-answer : OneAnswer is-irreversible·k.ps is-irreversible·k.r is-irreversible.Learnt
 is-irreversible-answer κs a x y e f p q = p ∙ sym q
 
-pub run-at-answer : OneAnswer run-at·k.ps run-at·k.r run-at.Learnt
-run-at-answer κs a x y e f p q = p ∙ sym q
+pub begun-by-answer : OneAnswer begun-by·k.ps begun-by·k.r begun-by.Learnt
+begun-by-answer κs a x y e f p q = p ∙ sym q
+
+pub run-begun-answer : OneAnswer run-begun·k.ps run-begun·k.r run-begun.Learnt
+run-begun-answer κs a x y e f p q = p ∙ sym q
 
 pub moves-since-answer : OneAnswer moves-since·k.ps moves-since·k.r moves-since.Learnt
 moves-since-answer κs a x y e f p q = p ∙ sym q

@@ -1,16 +1,23 @@
--- What is known of a run, looking back from its end: 0 means not known yet, and is what the run begins with if nothing empties it.
+-- Where the run begins, as the code finds it: by how many actions there are up to the last one that emptied it. proofs/Back.antt shows that it is the run.
 -- Assumes nothing.
-use mathlib.Core.Bool.{Bool, cond, not, _&&_}
-use Prim.Native.Nat.{ℕ}
-use lib.Dec.{eqb}
+use mathlib.Core.Bool.{cond}
+use mathlib.Core.List.{List}
+use Prim.Native.Nat.{ℕ, zero, suc}
+use lib.Dec.{leb}
+use Rattle.chess_move.specs.Number.{lastMove}
+use Rattle.actions.specs.Part.{moveAt, movesIn}
+use Rattle.position.specs.Layout.{positionAt}
 use Rattle.claim.specs.declared.Run.{Run}
+use Rattle.claim.specs.Emptying.{emptiesRun}
 
-abbrev pub orElse : ℕ → ℕ → ℕ
-orElse known earlier = cond (eqb known 0) earlier known
+-- 0 where none of the first n actions emptied it
+unfoldable pub begunBy : List ℕ → List ℕ → ℕ → ℕ
+begunBy acts ps zero = 0
+begunBy acts ps (suc i) =
+    cond (leb (moveAt acts i) lastMove)
+    (cond (emptiesRun (positionAt ps (movesIn acts i)) (moveAt acts i) (positionAt ps (suc (movesIn acts i)))) (suc i) (begunBy acts ps i))
+    (begunBy acts ps i)
 
--- r is known of the end, earlier of what is before it
-unfoldable pub runBefore : Run → Run → Run
-runBefore r earlier = record { first = orElse (r .first) (earlier .first); since = orElse (r .since) (earlier .since) }
-
-abbrev pub runKnown : Run → Bool
-runKnown r = not (eqb (r .first) 0) && not (eqb (r .since) 0)
+-- the run, and the count, from the position after so many actions on
+abbrev pub runBegunBy : List ℕ → ℕ → Run
+runBegunBy acts begun = record { first = movesIn acts begun; since = movesIn acts begun }

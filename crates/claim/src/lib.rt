@@ -5,11 +5,10 @@ use board_builder::WHITE_RIGHTS_AT;
 use chess_move::LAST_MOVE;
 use square::PAWN;
 ghost use mathlib.Core.Path.{_≡_};
-ghost use mathlib.Core.Bool.{cond};
 ghost use Rattle.position.specs.Layout.{positionOf};
-ghost use Rattle.claim.specs.Emptying.{irreversible, rightsDiffer};
-ghost use Rattle.claim.specs.Claim.{runAfter, runAt, movesSince, claimIn, claimAt};
-ghost use Rattle.claim.specs.CodeBack.{orElse, runBefore, runKnown};
+ghost use Rattle.claim.specs.Emptying.{irreversible, rightsDiffer, emptiesRun};
+ghost use Rattle.claim.specs.Claim.{movesSince, claimIn, claimAt};
+ghost use Rattle.claim.specs.CodeBack.{begunBy, runBegunBy};
 
 // The reversible moves after which a draw may be claimed.
 pub const CLAIM_COUNT: usize = 100;
@@ -40,72 +39,42 @@ fn rights_differ(p: &[u8], q: &[u8]) -> bool
     answer::byte_at(p, BLACK_RIGHTS_AT) != answer::byte_at(q, BLACK_RIGHTS_AT)
 }
 
-fn from(emptied: bool, next: usize, before: usize) -> usize
-    ensures { λ r. ⌜ r ≡ cond emptied next before ⌝ }
-{
-    if emptied { next } else { before }
-}
-
-// The run after move `m` from position `p` to position `q`, which is the one with number `next`.
-fn run_after(p: &[u8], q: &[u8], m: u64, next: usize, r: Run) -> Run
-    ensures { λ s. ⌜ s ≡ runAfter (positionOf (now (p .entry))) m (positionOf (now (q .entry))) next r ⌝ }
+// Whether move `m` from position `p` empties the run and the count, where the position after it has the rights of position `q`.
+fn empties(p: &[u8], m: u64, q: &[u8]) -> bool
+    ensures { λ r. ⌜ r ≡ emptiesRun (positionOf (now (p .entry))) m (positionOf (now (q .entry))) ⌝ }
 {
     let undone = is_irreversible(p, m);
     let changed = rights_differ(p, q);
-    Run {
-        first: from(answer::either(undone, changed), next, r.first),
-        since: from(answer::either(undone, changed), next, r.since),
-    }
+    answer::either(undone, changed)
 }
 
-fn or_else(known: usize, earlier: usize) -> usize
-    ensures { λ r. ⌜ r ≡ orElse known earlier ⌝ }
+// How many of the first `n` actions there are up to the last one that emptied the run, 0 if none did. Looked for from the end back: no move that was passed
+// changed the rights, so that the last position has those of each position after one.
+pub fn begun_by(acts: &[u8], ps: &[u8], n: usize) -> usize
+    ensures { λ r. ⌜ r ≡ begunBy (now (acts .entry)) (now (ps .entry)) n ⌝ }
 {
-    if known == 0 { earlier } else { known }
-}
-
-// What is known of a run, looking back: 0 means not known yet.
-fn run_before(r: Run, earlier: Run) -> Run
-    ensures { λ s. ⌜ s ≡ runBefore r earlier ⌝ }
-{
-    Run {
-        first: or_else(r.first, earlier.first),
-        since: or_else(r.since, earlier.since),
-    }
-}
-
-fn is_known(r: Run) -> bool
-    ensures { λ t. ⌜ t ≡ runKnown r ⌝ }
-{
-    if r.first == 0 {
-        return false;
-    }
-    r.since != 0
-}
-
-// The run after the first `n` actions: back from the last one, until both numbers are known.
-pub fn run_at(acts: &[u8], ps: &[u8], n: usize) -> Run
-    ensures { λ r. ⌜ r ≡ runAt (now (acts .entry)) (now (ps .entry)) n ⌝ }
-{
-    let none = Run { first: 0, since: 0 };
-    let mut r = none;
     let mut k = actions::moves_in(acts, n);
+    let last = position::at(ps, k);
     let mut i = n;
     while 0 < i {
         i -= 1;
         let m = actions::move_at(acts, i);
         if m <= LAST_MOVE {
-            r = run_before(
-                r,
-                run_after(position::at(ps, k - 1), position::at(ps, k), m, k, none),
-            );
-            if is_known(r) {
-                return r;
+            if empties(position::at(ps, k - 1), m, last) {
+                return i + 1;
             }
             k -= 1;
         }
     }
-    r
+    0
+}
+
+// The run that the first `begun` actions began, and the count with it: what empties one empties the other.
+pub fn run_begun(acts: &[u8], begun: usize) -> Run
+    ensures { λ r. ⌜ r ≡ runBegunBy (now (acts .entry)) begun ⌝ }
+{
+    let k = actions::moves_in(acts, begun);
+    Run { first: k, since: k }
 }
 
 // How many moves lead from one position to another, 0 if it is not the later one.
@@ -131,5 +100,5 @@ pub fn stands(acts: &[u8], ps: &[u8], n: usize, m: usize) -> bool
     if acts.len() / ACTION_SIZE < n {
         return false;
     }
-    claim_in(ps, m, run_at(acts, ps, n))
+    claim_in(ps, m, run_begun(acts, begun_by(acts, ps, n)))
 }

@@ -1,22 +1,20 @@
--- The position from which the Laws' count runs, looked for back from the last action: as long as none was irreversible, what comes before decides. In the
--- run none was.
+-- The position from which the Laws' count runs, looked for back from the last action: as long as none was irreversible, what comes before decides.
 -- Assumes nothing.
 use mathlib.Core.Path.{_≡_, refl, ap, sym, _∙_}
-use mathlib.Core.Bool.{Bool, true, false, cond, _&&_}
+use mathlib.Core.Bool.{Bool, true, false, cond, _||_}
 use mathlib.Core.List.{List}
-use Prim.Native.Nat.{ℕ, suc, _+_, _-_, _≤_, _<_}
+use Prim.Native.Nat.{ℕ, zero, suc, _+_, _-_, _≤_, _<_}
 use native.Mathlib.Numerals.{add-one}
 use native.Mathlib.Omega.{arith}
 use lib.Dec.{leb}
-use borrow.Author.Tests.{le-leb, lt-leb, leb-false}
-use Rattle.answer.proofs.Numbers.{both-right}
+use borrow.Author.Tests.{le-leb, lt-leb}
+use Rattle.answer.specs.Parts.{item}
 use Rattle.chess_move.specs.Number.{lastMove}
 use Rattle.actions.specs.Part.{moveAt, movesIn}
 use Rattle.actions.proofs.Counting.{one-more}
-use Rattle.position.specs.Layout.{positionAt}
-use Rattle.claim.specs.Emptying.{irreversible}
-use Rattle.claim.specs.Claim.{runAt}
-use Rattle.claim.proofs.Back.{run-goes-on}
+use Rattle.position.specs.Layout.{Position, positionSize, positionOf, positionAt}
+use Rattle.claim.specs.Emptying.{irreversible, rightsDiffer}
+use Rattle.claim.specs.CodeBack.{begunBy}
 use Rattle.laws.specs.CodeSince.{lawsSince}
 
 pub since-start : (acts ps : List ℕ) → lawsSince acts ps 0 ≡ 0
@@ -37,20 +35,36 @@ module _ (acts ps : List ℕ) (i m : ℕ) (read : m ≡ moveAt acts i) where
       let g : k - 1 ≡ movesIn acts i = omega arith in
       rw (g, f, add-one i, ← read, le-leb m lastMove h)
 
-  -- The run goes from position `first` on, if it begins before position k, where the move leads; t tells whether the move is an irreversible one up to there.
-  module _ (h : m ≤ lastMove) (k : ℕ) (counted : k ≡ movesIn acts (i + 1)) (first : ℕ) (begins : first < k → runAt acts ps (i + 1) .first ≡ first)
-      (t : Bool) (told : t ≡ leb k first && irreversible (positionAt ps (k - 1)) m) where
-    pub since-found : t ≡ true → lawsSince acts ps (i + 1) ≡ k
-    since-found e =
+  -- t tells whether the move from p, which leads to position k, is irreversible
+  module _ (h : m ≤ lastMove) (k : ℕ) (counted : k ≡ movesIn acts (i + 1)) (p : List ℕ) (from : p ≡ item positionSize ps (k - 1))
+      (t : Bool) (told : t ≡ irreversible (positionOf p) m) where
+    since-told : lawsSince acts ps (i + 1) ≡ cond t k (lawsSince acts ps i)
+    since-told =
         since-by-move h k counted
-        ∙ ap (λ (u : Bool). cond u k (lawsSince acts ps i)) (both-right (leb k first) _ (sym told ∙ e))
+        ∙ ap (λ (u : Bool). cond u k (lawsSince acts ps i)) (sym (told ∙ ap (λ (x : List ℕ). irreversible (positionOf x) m) from))
 
-    reversible : (u : Bool) → leb k first ≡ u → t ≡ false → irreversible (positionAt ps (k - 1)) m ≡ false
-    reversible true e f = sym (told ∙ ap (λ (v : Bool). v && irreversible (positionAt ps (k - 1)) m) e) ∙ f
-    reversible false e f = run-goes-on acts ps i m read h k counted first (begins (leb-false k first e)) (leb-false k first e) .0
+    pub since-found : t ≡ true → lawsSince acts ps (i + 1) ≡ k
+    since-found e = since-told ∙ ap (λ (u : Bool). cond u k (lawsSince acts ps i)) e
 
     pub since-passed : t ≡ false → lawsSince acts ps (i + 1) ≡ lawsSince acts ps i
-    since-passed e = since-by-move h k counted ∙ ap (λ (u : Bool). cond u k (lawsSince acts ps i)) (reversible (leb k first) refl e)
+    since-passed e = since-told ∙ ap (λ (u : Bool). cond u k (lawsSince acts ps i)) e
 
-    pub begun-before : first < k - 1 → runAt acts ps i .first ≡ first
-    begun-before l = run-goes-on acts ps i m read h k counted first (begins (omega arith)) (omega arith) .1
+-- the run has none, so that what is before it says it
+pub since-begun : (acts ps : List ℕ) (n : ℕ) → lawsSince acts ps (begunBy acts ps n) ≡ lawsSince acts ps n
+unfolding lawsSince begunBy
+since-begun acts ps zero = refl
+since-begun acts ps (suc i) =
+    go (since-begun acts ps i) (leb (moveAt acts i) lastMove) refl (irreversible p (moveAt acts i)) refl (rightsDiffer p q)
+  where
+    p : Position
+    p = positionAt ps (movesIn acts i)
+    q : Position
+    q = positionAt ps (suc (movesIn acts i))
+    go : lawsSince acts ps (begunBy acts ps i) ≡ lawsSince acts ps i → (t : Bool) → leb (moveAt acts i) lastMove ≡ t
+        → (u : Bool) → irreversible p (moveAt acts i) ≡ u → (v : Bool)
+        → lawsSince acts ps (cond t (cond (u || v) (suc i) (begunBy acts ps i)) (begunBy acts ps i))
+        ≡ cond t (cond u (suc (movesIn acts i)) (lawsSince acts ps i)) (lawsSince acts ps i)
+    go was true e true f v = rw (e, f)
+    go was true e false f true = rw (e, f)
+    go was true e false f false = was
+    go was false e u f v = was

@@ -5,12 +5,10 @@ use chess_move::LAST_MOVE;
 use claim::CLAIM_COUNT;
 use ending::GOES_ON;
 ghost use mathlib.Core.Path.{_≡_};
-ghost use mathlib.Core.Bool.{cond, _&&_};
-ghost use Prim.Native.Nat.{_+_, _-_, _<_};
+ghost use mathlib.Core.Bool.{cond};
+ghost use Prim.Native.Nat.{_+_};
 ghost use lib.Dec.{leb};
-ghost use Rattle.position.specs.Layout.{positionAt};
-ghost use Rattle.claim.specs.Emptying.{irreversible};
-ghost use Rattle.claim.specs.Claim.{claimCount, runAt};
+ghost use Rattle.claim.specs.Claim.{claimCount};
 ghost use Rattle.game_rules.specs.Limits.{limits};
 ghost use Rattle.game_rules.specs.Good.{historyOf};
 ghost use Rattle.game_rules.specs.Calls.{logCheck};
@@ -32,20 +30,8 @@ pub struct Ruled {
     pub laws_claim: u64,
 }
 
-// Whether the move `m` to position `k` moved a pawn or captured. In the run, which begins with position `first`, none did: there nothing is looked up.
-fn counts_anew(ps: &[u8], first: usize, k: usize, m: u64) -> bool
-    requires { ⌜ 0 < k ⌝ }
-    ensures { λ r. ⌜ r ≡ (leb k first && irreversible (positionAt (now (ps .entry)) (k - 1)) m) ⌝ }
-{
-    if first < k {
-        return false;
-    }
-    claim::is_irreversible(position::at(ps, k - 1), m)
-}
-
-// The position from which the Laws' count runs: back from the last action to one that moved a pawn or captured. The run of positions begins with `first`.
-fn since(acts: &[u8], ps: &[u8], n: usize, first: usize) -> usize
-    requires { ⌜ runAt (now acts) (now ps) n .first ≡ first ⌝ }
+// The position from which the Laws' count runs: back from the last action to one that moved a pawn or captured.
+fn since(acts: &[u8], ps: &[u8], n: usize) -> usize
     ensures { λ r. ⌜ r ≡ lawsSince (now (acts .entry)) (now (ps .entry)) n ⌝ }
 {
     let mut k = actions::moves_in(acts, n);
@@ -54,7 +40,7 @@ fn since(acts: &[u8], ps: &[u8], n: usize, first: usize) -> usize
         i -= 1;
         let m = actions::move_at(acts, i);
         if m <= LAST_MOVE {
-            if counts_anew(ps, first, k, m) {
+            if claim::is_irreversible(position::at(ps, k - 1), m) {
                 return k;
             }
             k -= 1;
@@ -94,14 +80,15 @@ fn reason(going: bool, count: usize, equals: u64) -> u64
     number_if(CLAIM_COUNT <= count, 1) + number_if(2 <= equals, 2)
 }
 
-// For a log that passed its checks.
+// For a log that passed its checks. No move of the run moved a pawn or captured, so that the Laws' count is looked for before it.
 fn rule(acts: &[u8], ps: &[u8], n: usize, m: usize) -> Ruled
     requires { ⌜ logCheck limits (now acts) (now ps) n m ≡ 0 ⌝ }
     ensures { λ r. ⌜ r ≡ ruledOn (historyOf (now (acts .entry)) (now (ps .entry)) n) ⌝ }
 {
-    let run = claim::run_at(acts, ps, n);
+    let begun = claim::begun_by(acts, ps, n);
+    let run = claim::run_begun(acts, begun);
     let count = claim::moves_since(run.since, m);
-    let laws = since(acts, ps, n, run.first);
+    let laws = since(acts, ps, begun);
     let laws_count = claim::moves_since(laws, m);
     let places = position::equal_places(ps, run.first, m);
     let going = ending::result(acts, ps, n, m) == GOES_ON;
@@ -135,10 +122,11 @@ fn stands(acts: &[u8], ps: &[u8], n: usize, m: usize) -> bool
     requires { ⌜ logCheck limits (now acts) (now ps) n m ≡ 0 ⌝ }
     ensures { λ r. ⌜ r ≡ lawsClaimStands (historyOf (now (acts .entry)) (now (ps .entry)) n) ⌝ }
 {
-    let run = claim::run_at(acts, ps, n);
-    if CLAIM_COUNT <= claim::moves_since(since(acts, ps, n, run.first), m) {
+    let begun = claim::begun_by(acts, ps, n);
+    if CLAIM_COUNT <= claim::moves_since(since(acts, ps, begun), m) {
         return true;
     }
+    let run = claim::run_begun(acts, begun);
     position::equals_two_earlier(ps, run.first, m)
 }
 
