@@ -23,9 +23,10 @@ module _ (l : List ℕ) (source dest promotion : ℕ) (e : touchesMore l (manOn 
   not-others : (takesInPassing l (manOn l source) source dest ≡ false) × (eqb source dest ≡ false)
   unfolding touchesMore
   not-others =
-      let rest = or-right (castles (manOn l source) source dest) (takesInPassing l (manOn l source) source dest || eqb source dest) e in
-      (or-left (takesInPassing l (manOn l source) source dest) (eqb source dest) rest,
-       or-right (takesInPassing l (manOn l source) source dest) (eqb source dest) rest)
+      let rest = or-right (castles (manOn l source) source dest) (takesInPassing l (manOn l source) source dest || eqb source dest) e in (
+        or-left (takesInPassing l (manOn l source) source dest) (eqb source dest) rest,
+        or-right (takesInPassing l (manOn l source) source dest) (eqb source dest) rest,
+      )
 
   pub apart : source ≡ dest → ⊥
   apart = eqb-false source dest (not-others .1)

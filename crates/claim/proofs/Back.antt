@@ -62,7 +62,7 @@ module _ (acts ps : List ℕ) (i m : ℕ) (read : m ≡ moveAt acts i) where
     begun-told =
         begun-by-move h k counted
         ∙ ap (λ (u : Bool). cond (irreversible (positionAt ps (k - 1)) m || u) (i + 1) (begunBy acts ps i))
-          (alike-differ (positionAt ps (k - 1)) (positionAt ps k) last same)
+        (alike-differ (positionAt ps (k - 1)) (positionAt ps k) last same)
         ∙ ap (λ (u : Bool). cond u (i + 1) (begunBy acts ps i)) (sym told)
 
     pub begun-here : t ≡ true → begunBy acts ps (i + 1) ≡ i + 1
@@ -82,12 +82,14 @@ run-is-begun acts ps (suc i) = go (run-is-begun acts ps i) (leb (moveAt acts i) 
   where
     p : Position
     p = positionAt ps (movesIn acts i)
+
     q : Position
     q = positionAt ps (suc (movesIn acts i))
+
     go : runBegunBy acts (begunBy acts ps i) ≡ runAt acts ps i → (t : Bool) → leb (moveAt acts i) lastMove ≡ t → (u : Bool)
         → runBegunBy acts (cond t (cond u (suc i) (begunBy acts ps i)) (begunBy acts ps i))
         ≡ cond t (record { first = cond u (suc (movesIn acts i)) (runAt acts ps i .first); since = cond u (suc (movesIn acts i)) (runAt acts ps i .since) })
-          (runAt acts ps i)
+        (runAt acts ps i)
     go was true e true =
         let s : movesIn acts (suc i) ≡ suc (movesIn acts i) = rw e in
         ap₂ (λ (x y : ℕ). record { first = x; since = y }) s s

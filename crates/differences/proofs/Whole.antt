@@ -127,9 +127,10 @@ module _ (s t : List ℕ) (n m : ℕ) (a : Known s n) (b : Known t m) (l k : Lis
           → (r ≡ differencesAnswer limits s t (length out)) × (exit ≡ differencesRoom limits s t out)
       whole-answer passes passes-too out exit r er ee =
           let text-is : take all full ≡ differencesText limits s t = push-whole (both-put .pushed) .1 in
-          let check : 0 ≡ differencesCheck limits s t = sym (both-pass limits s t passes passes-too) in
-          (er ∙ ap₂ (λ (k : ℕ) (l : List ℕ). writeAnswer k l (length out)) check text-is,
-          ee ∙ ap₂ (λ (k : ℕ) (l : List ℕ). writeBytes k l out) check text-is)
+          let check : 0 ≡ differencesCheck limits s t = sym (both-pass limits s t passes passes-too) in (
+            er ∙ ap₂ (λ (k : ℕ) (l : List ℕ). writeAnswer k l (length out)) check text-is,
+            ee ∙ ap₂ (λ (k : ℕ) (l : List ℕ). writeBytes k l out) check text-is,
+          )
 
 -- ---- the same bytes
 
@@ -140,18 +141,20 @@ same-answer s t out r e f z =
     let none : [] ≡ differencesText limits s t = sym (ap (differencesText limits s) (sym equal) ∙ no-own-text limits s) in
     let passes : rollAnswer (readRoll limits t) .number ≡ 0 = ap (λ (u : List ℕ). rollAnswer (readRoll limits u) .number) (sym equal) ∙ z in
     let check : 0 ≡ differencesCheck limits s t = sym (both-pass limits s t z passes) in
-    let w = write-fits [] out (omega arith) in
-    (e ∙ w .answer ∙ ap₂ (λ (k : ℕ) (l : List ℕ). writeAnswer k l (length out)) check none,
-    w .bytes ∙ ap₂ (λ (k : ℕ) (l : List ℕ). writeBytes k l out) check none)
+    let w = write-fits [] out (omega arith) in (
+      e ∙ w .answer ∙ ap₂ (λ (k : ℕ) (l : List ℕ). writeAnswer k l (length out)) check none,
+      w .bytes ∙ ap₂ (λ (k : ℕ) (l : List ℕ). writeBytes k l out) check none,
+    )
 
 -- ---- refused
 
 module _ (s t out : List ℕ) (number : ℕ) (r : Answer) (e : r ≡ refused number) (some : number ≡ 0 → ⊥) (check : differencesCheck limits s t ≡ number) where
   pub refused-answer : (r ≡ differencesAnswer limits s t (length out)) × (out ≡ differencesRoom limits s t out)
   refused-answer =
-      let w = write-refused number (differencesText limits s t) out some in
-      (e ∙ w .answer ∙ ap (λ (k : ℕ). writeAnswer k (differencesText limits s t) (length out)) (sym check),
-      w .bytes ∙ ap (λ (k : ℕ). writeBytes k (differencesText limits s t) out) (sym check))
+      let w = write-refused number (differencesText limits s t) out some in (
+        e ∙ w .answer ∙ ap (λ (k : ℕ). writeAnswer k (differencesText limits s t) (length out)) (sym check),
+        w .bytes ∙ ap (λ (k : ℕ). writeBytes k (differencesText limits s t) out) (sym check),
+      )
 
 pub first-refused : (s t out : List ℕ) (number : ℕ) (r : Answer) → r ≡ refused number → (number ≡ 0 → ⊥)
     → number ≡ rollAnswer (readRoll limits s) .number → (r ≡ differencesAnswer limits s t (length out)) × (out ≡ differencesRoom limits s t out)

@@ -195,7 +195,14 @@ fn push_action(bytes: &mut [u8], n: usize, i: usize, x: u64, y: u64) -> usize
 }
 
 // The line of the first action that differs, or nothing: of the first `counted` of a text and the first `other` of another.
-fn push_actions(bytes: &mut [u8], n: usize, first: &[u8], counted: usize, second: &[u8], other: usize) -> usize
+fn push_actions(
+    bytes: &mut [u8],
+    n: usize,
+    first: &[u8],
+    counted: usize,
+    second: &[u8],
+    other: usize,
+) -> usize
     requires { ⌜ (counted ≤ 10000) × (other ≤ 10000) ⌝ }
     requires { ⌜ n + length (actionLine counted (now first) other (now second)) ≤ length (now bytes) ⌝ }
     ensures { λ r. ⌜ PutIn (now (bytes .entry)) n (actionLine counted (now (first .entry)) other (now (second .entry))) (now (bytes .exit)) r ⌝ }

@@ -83,8 +83,13 @@ start-bound i (m ∷ ms) (x ∷ xs) (y ∷ ys) h k =
     let a : x ≤ m = leb-true x m (both-left (leb x m) (withinBounds ms xs) h) in
     let b : y ≤ m = leb-true y m (both-left (leb y m) (withinBounds ms ys) k) in
     let both = ap length (lines-both (ifDiffers (startKey i) x y) (startDifferences (suc i) xs ys)) in
-    omega (arith, both, length-append (linesText (ifDiffers (startKey i) x y)) (linesText (startDifferences (suc i) xs ys)),
-    if-differs-long (startKey i) x y m a b, left)
+    omega (
+      arith,
+      both,
+      length-append (linesText (ifDiffers (startKey i) x y)) (linesText (startDifferences (suc i) xs ys)),
+      if-differs-long (startKey i) x y m a b,
+      left,
+    )
 
 all-at-bounds : atBounds 0 largestNumbers ≡ 602
 unfolding atBounds largestNumbers startKey decimal digits ascii
@@ -110,8 +115,16 @@ key-long i = length-append (ascii "action ") (decimal i)
 
 told-long : (i x y : ℕ) → i < 10000 → x ≤ largestNumber → y ≤ largestNumber → length (linesText (difference (actionKey i) x y ∷ [])) ≤ 26
 told-long i x y h k l =
-    omega (arith, one-line (actionKey i) x y, key-long i, no-longer 9999 i (omega arith), no-longer largestNumber x k, no-longer largestNumber y l,
-    largest-long, last-index-long)
+    omega (
+      arith,
+      one-line (actionKey i) x y,
+      key-long i,
+      no-longer 9999 i (omega arith),
+      no-longer largestNumber x k,
+      no-longer largestNumber y l,
+      largest-long,
+      last-index-long,
+    )
 
 pub action-long : (i : ℕ) (xs ys : List ℕ) → i + length xs ≤ 10000 → i + length ys ≤ 10000 → allAtMost largestNumber xs ≡ true
     → allAtMost largestNumber ys ≡ true → length (linesText (actionDifference i xs ys)) ≤ 26

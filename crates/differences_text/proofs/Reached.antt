@@ -66,8 +66,16 @@ text-long =
     let last = difference (actionKey 1000) 458738 458722 ∷ [] in
     ap (λ (ds : List Difference). length (linesText ds)) lines
     ∙ ap length (lines-both starts last)
-    ∙ omega (arith, length-append (linesText starts) (linesText last), starts-long, one-line (actionKey 1000) 458738 458722, key-long 1000, four-digits,
-    largest-long, six-digits)
+    ∙ omega (
+      arith,
+      length-append (linesText starts) (linesText last),
+      starts-long,
+      one-line (actionKey 1000) 458738 458722,
+      key-long 1000,
+      four-digits,
+      largest-long,
+      six-digits,
+    )
 
 pub longest-is-reached : LongestIsReached
 longest-is-reached room =

@@ -113,7 +113,7 @@ every-here all others i (x ∷ xs) (y ∷ ys) h k l j a b d =
     go true e true f left =
         let z : j ≡ i = eqb-true j i f in
         absurd (d (ap (λ (p : ℕ). getD all p 0) z ∙ left-first all i x xs h ∙ eqb-true x y e ∙ sym (left-first others i y ys k)
-            ∙ ap (λ (p : ℕ). getD others p 0) (sym z)))
+        ∙ ap (λ (p : ℕ). getD others p 0) (sym z)))
     go true e false f left = left (omega (arith, eqb-false j i f)) (omega arith) d
     go false e true f left = List·Memᴰ·head (eqb-true j i f)
     go false e false f left = List·Memᴰ·tail (left (omega (arith, eqb-false j i f)) (omega arith) d)

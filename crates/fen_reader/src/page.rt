@@ -1,11 +1,11 @@
 // A page of FENs at once: the single reader's answer for each line, put into two lent rooms.
+use crate::lines::line_count;
+use crate::lines::line_end;
+use crate::read_fen;
 use answer::Answer;
 use answer::OUTPUT_TOO_SHORT;
 use board_builder::BoardBuilder;
 use board_builder::RECORD_SIZE;
-use crate::lines::line_count;
-use crate::lines::line_end;
-use crate::read_fen;
 ghost use mathlib.Core.Path.{_≡_};
 ghost use Prim.Native.Nat.{_*_, _+_, _≤_};
 ghost use mathlib.Core.Bool.{cond};

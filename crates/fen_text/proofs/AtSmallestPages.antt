@@ -26,7 +26,7 @@ lines-at-smallest = record {
 
 pub pages-at-smallest : PagesAtSmallest
 unfolding ascii readSquare pieceOf among numbers onto joined tokens placeAfter placeWhere placeByte placeAll sideOf rightsOf sided assembled ofTokens
-  readFen lines overLines pageFits pageAnswer recordsLeft toldLeft
+    readFen lines overLines pageFits pageAnswer recordsLeft toldLeft
 pages-at-smallest = record {
   two = refl;
   records-short = refl;

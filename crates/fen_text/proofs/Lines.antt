@@ -21,7 +21,7 @@ use Rattle.fen_text.specs.Lines.{lineFeed, lines, ontoEnded, endedLinesB
 next-line : (t : Bool) (x : ℕ) (s : List ℕ)
     → (0 < length s → lines s ≡ take (placeOf lineFeed s) s ∷ lines (drop (suc (placeOf lineFeed s)) s))
     → joined t x (lines s)
-      ≡ take (placeAfter t (placeOf lineFeed s)) (x ∷ s) ∷ lines (drop (suc (placeAfter t (placeOf lineFeed s))) (x ∷ s))
+    ≡ take (placeAfter t (placeOf lineFeed s)) (x ∷ s) ∷ lines (drop (suc (placeAfter t (placeOf lineFeed s))) (x ∷ s))
 unfolding placeAfter placeWhere joined onto lines
 next-line true x s f = refl
 next-line false x [] f = refl

@@ -24,8 +24,16 @@ use Rattle.fen_text.specs.Token.{onto, joined}
 use Rattle.fen_text.specs.Read.{readFen}
 use Rattle.fen_text.specs.Lines.{lineFeed, lines, overLines}
 use Rattle.fen_text.specs.Page.{recordOf, toldOf, toldSize, lineCount, pageRecords, pageTold, pageFits, pageAnswer, recordsLeft, toldLeft}
-use Rattle.fen_text.specs.PagePromises.{lineAt, AsTheSingleReader, EachLineAsTheSingleReader, PagesAreJudgedSo, RefusedPagesChangeNothing,
-  OneLineIsTheSingleCall, Joined, PagesJoin}
+use Rattle.fen_text.specs.PagePromises.{
+  lineAt,
+  AsTheSingleReader,
+  EachLineAsTheSingleReader,
+  PagesAreJudgedSo,
+  RefusedPagesChangeNothing,
+  OneLineIsTheSingleCall,
+  Joined,
+  PagesJoin,
+}
 use Rattle.fen_text.proofs.Keys.{reads-in-range, refused-is-zero}
 use Rattle.fen_text.proofs.Lines.{length-over, over-append, lines-behind}
 
@@ -105,13 +113,13 @@ refused-pages-change-nothing s records told n = go (pageFits s (length records) 
 -- what a call that refuses the page answers and leaves, and one that takes it
 pub page-refused : (s records told : List ℕ) → pageFits s (length records) (length told) ≡ false
     → (tooShort (lineCount s) ≡ pageAnswer s (length records) (length told))
-      × (records ≡ recordsLeft s records (length told)) × (told ≡ toldLeft s (length records) told)
+    × (records ≡ recordsLeft s records (length told)) × (told ≡ toldLeft s (length records) told)
 unfolding pageAnswer recordsLeft toldLeft
 page-refused s records told e = (simp e, simp e, simp e)
 
 pub page-taken : (s records told : List ℕ) → pageFits s (length records) (length told) ≡ true
     → (accepted (lineCount s) ≡ pageAnswer s (length records) (length told))
-      × (overwrite (pageRecords s) records ≡ recordsLeft s records (length told)) × (overwrite (pageTold s) told ≡ toldLeft s (length records) told)
+    × (overwrite (pageRecords s) records ≡ recordsLeft s records (length told)) × (overwrite (pageTold s) told ≡ toldLeft s (length records) told)
 unfolding pageAnswer recordsLeft toldLeft
 page-taken s records told e = (simp e, simp e, simp e)
 

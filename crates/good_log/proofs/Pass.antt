@@ -311,7 +311,7 @@ module _
           go true f = reached acts ps n m (i + 1) (k + 1) (move-on acts ps n m i k g (passing acts ps n m i k at here) before bytes x read move (by ∙ f))
           go false f =
               let next : nextSound limits acts ps i ≡ false =
-                  move-off acts ps n m i k g (passing acts ps n m i k at here) before bytes x read move (by ∙ f) (omega (arith, moves-here)) in
+              move-off acts ps n m i k g (passing acts ps n m i k at here) before bytes x read move (by ∙ f) (omega (arith, moves-here)) in
               record {
                 far = omega arith;
                 counted = rw (add-one i, add-one k) (sym moves-here);

@@ -155,8 +155,15 @@ module _
           → positionMade (callOf (Holds a) q) ≡ [] → soundBy (Holds a) ≡ eqb (otherCheck acts ps i k a) 0
       unfolding answer same
       other-sound a e still own none made =
-          rw (on, own, room-for (callOf (Holds a) q) (λ t. absurd (false≢true (sym still ∙ t))), own-bytes a e, none, made,
-          own-alone (otherCheck acts ps i k a))
+          rw (
+            on,
+            own,
+            room-for (callOf (Holds a) q) (λ t. absurd (false≢true (sym still ∙ t))),
+            own-bytes a e,
+            none,
+            made,
+            own-alone (otherCheck acts ps i k a),
+          )
           (and-true (eqb (otherCheck acts ps i k a) 0))
 
     ended-is : (t : Bool) → eqb (result h) 0 ≡ t → ended h ≡ not t
@@ -175,14 +182,17 @@ module _
         go false g =
             let other : k ≡ m → ⊥ = eqb-false k m g in
             let more : k < m = omega (arith, other) in
-            rw (move-sound e x f more, le-leb (suc k) m more,
-                and-true (moveFits (item positionSize ps k) (numberAnswer x .value) (item positionSize ps (suc k))))
+            rw (
+              move-sound e x f more,
+              le-leb (suc k) m more,
+              and-true (moveFits (item positionSize ps k) (numberAnswer x .value) (item positionSize ps (suc k))),
+            )
     settled true e (Holds (OfferDraw c)) f = by-own (OfferDraw c) (other-sound e (OfferDraw c) f refl refl refl refl)
     settled true e (Holds AcceptDraw) f =
         by-own AcceptDraw (other-sound e AcceptDraw f refl (ap (λ (t : Bool). unless t noOffer ∷ []) (sym (offer-is limits acts ps i k counted ok))) refl refl)
     settled true e (Holds DeclareDraw) f =
         by-own DeclareDraw
-            (other-sound e DeclareDraw f refl (ap (λ (t : Bool). unless t noClaim ∷ []) (sym (claim-is acts ps i k counted room place))) refl refl)
+        (other-sound e DeclareDraw f refl (ap (λ (t : Bool). unless t noClaim ∷ []) (sym (claim-is acts ps i k counted room place))) refl refl)
     settled true e (Holds (Resign c)) f = by-own (Resign c) (other-sound e (Resign c) f refl refl refl refl)
     settled true e Nothing f = rw (ne-eqb _ 0 (nothing-refused limits h q))
 

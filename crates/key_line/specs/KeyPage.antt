@@ -46,7 +46,11 @@ keysAmong (l ∷ ls) = isKey l + keysAmong ls
 -- the bytes taken from the front of the text, those put into the room, and how many of the lines were accepted and refused
 abbrev pub pagedOf : List (List ℕ) → Paged
 pagedOf ls = record {
-  taken = bytesOf ls; ready = length (overLines keyLine ls); accepted = keysAmong ls; refused = length ls - keysAmong ls }
+  taken = bytesOf ls;
+  ready = length (overLines keyLine ls);
+  accepted = keysAmong ls;
+  refused = length ls - keysAmong ls;
+}
 
 abbrev pub keyPage : List ℕ → ℕ → Paged
 keyPage s room = pagedOf (going room (endedLines s))

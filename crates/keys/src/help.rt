@@ -14,7 +14,9 @@ pub(crate) fn tell_version() {
 pub(crate) fn tell() {
     put(b"keys [--] [FILE..]: the key of each FEN text\n");
     put(b"\n");
-    put(b"Reads FEN texts, one per line, from the files named, or from standard input if none is\n");
+    put(
+        b"Reads FEN texts, one per line, from the files named, or from standard input if none is\n",
+    );
     put(b"named or where a file is -, and writes one line for each, in order: its key, which is\n");
     put(b"the one FEN of its position, or\n");
     put(b"  ! 18 OFFSET    the text has fewer than four tokens; the offset is its length\n");
@@ -30,10 +32,18 @@ pub(crate) fn tell() {
     put(b"  --version     prints the version\n");
     put(b"  --            ends the options: what follows are files\n");
     put(b"\n");
-    put(b"Standard error names each file that cannot be opened or read (the others are read) and\n");
-    put(b"gives the number of lines at every million. The exit status is always 0: a script looks\n");
+    put(
+        b"Standard error names each file that cannot be opened or read (the others are read) and\n",
+    );
+    put(
+        b"gives the number of lines at every million. The exit status is always 0: a script looks\n",
+    );
     put(b"at the last line of standard error, which counts the lines that were written whole,\n");
     put(b"  keys: 5 lines, 3 accepted, 2 refused\n");
-    put(b"followed by \"; input incomplete\" if a file was not opened or read to its end, and by\n");
-    put(b"\"; output incomplete: ..\" if a write failed. If it ends in \"refused\", all went well.\n");
+    put(
+        b"followed by \"; input incomplete\" if a file was not opened or read to its end, and by\n",
+    );
+    put(
+        b"\"; output incomplete: ..\" if a write failed. If it ends in \"refused\", all went well.\n",
+    );
 }

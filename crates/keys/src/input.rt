@@ -142,7 +142,11 @@ fn stopped(name: &[u8], run: Run) -> Run
     ensures held { λ r. ⌜ r .held ≤ 0 ⌝ }
 {
     tell::failed(name);
-    tell::stopped(name, std::num::wrapping_sub_u64(run.lines, run.before), is_cut(run));
+    tell::stopped(
+        name,
+        std::num::wrapping_sub_u64(run.lines, run.before),
+        is_cut(run),
+    );
     let mut next = run;
     next.held = 0;
     next.long = false;

@@ -152,7 +152,10 @@ pub(crate) fn counted(run: Run, n: usize, accepted: u64, refused: u64, out: &[u8
     next.ready = run.ready + n;
     next.accepted = std::num::wrapping_add_u64(run.accepted, accepted);
     next.refused = std::num::wrapping_add_u64(run.refused, refused);
-    next.lines = std::num::wrapping_add_u64(run.lines, std::num::wrapping_add_u64(accepted, refused));
+    next.lines = std::num::wrapping_add_u64(
+        run.lines,
+        std::num::wrapping_add_u64(accepted, refused),
+    );
     let reached = told(next.lines);
     if reached != told(run.lines) {
         tell::progress(reached);

@@ -58,8 +58,10 @@ since-begun acts ps (suc i) =
   where
     p : Position
     p = positionAt ps (movesIn acts i)
+
     q : Position
     q = positionAt ps (suc (movesIn acts i))
+
     go : lawsSince acts ps (begunBy acts ps i) ≡ lawsSince acts ps i → (t : Bool) → leb (moveAt acts i) lastMove ≡ t
         → (u : Bool) → irreversible p (moveAt acts i) ≡ u → (v : Bool)
         → lawsSince acts ps (cond t (cond (u || v) (suc i) (begunBy acts ps i)) (begunBy acts ps i))

@@ -40,7 +40,7 @@ shown count laws places claim laws-claim = record {
   first = places .first;
   second = places .second;
   claim = claim;
-  «laws_claim» = laws-claim
+  «laws_claim» = laws-claim;
 }
 
 module _ (acts ps : List ℕ) (n m : ℕ) (passed : logCheck limits acts ps n m ≡ 0) where

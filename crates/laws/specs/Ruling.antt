@@ -38,7 +38,7 @@ ruledOn h = record {
   first = getD (equalsAt h) 0 0;
   second = getD (equalsAt h) 1 0;
   claim = reason h (ruling h .count);
-  «laws_claim» = reason h (lawsCount h)
+  «laws_claim» = reason h (lawsCount h);
 }
 
 -- a refused query: its number, and zeros

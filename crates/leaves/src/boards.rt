@@ -1,6 +1,6 @@
 // Boards, as the getters report them.
-use board_builder::BoardBuilder;
 use crate::put;
+use board_builder::BoardBuilder;
 
 // The line's end: side, both rights, the en passant square, and what stands on every square.
 pub(crate) fn tell(b: BoardBuilder) {

@@ -1,6 +1,6 @@
 // Squares and their texts.
-use answer::Answer;
 use crate::put;
+use answer::Answer;
 use square::Pair;
 
 // The original has one error for every pair that is not a square.

@@ -240,5 +240,5 @@ near-told s level place size os l z n =
     let c : size - 1 + 1 ≡ size = omega arith in
     let p : walkedFrom s true os place 0 ≡ walkedFrom s true os (place + 1 + 0) 0 = passed s true level place 0 (omega arith) zero-le 0 (q .1) .same os l in
     let m : walkedFrom s true os (place + 1) 0 ≡ Found (place + 1) (size - 1 + 1) level = move-stopped s level (place + 1) 0 h zero-le (size - 1) (q .2) true
-        refl os l in
+    refl os l in
     p ∙ ap (λ (i : ℕ). walkedFrom s true os i 0) e ∙ m ∙ ap (λ (i : ℕ). Found (place + 1) i level) c

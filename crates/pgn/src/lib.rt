@@ -4,13 +4,13 @@ mod reader;
 mod token;
 mod walk;
 
+use answer::ACCEPTED;
+use answer::TOO_DEEP;
+use answer::UNKNOWN_TOKEN;
 use pgn_text::PgnCount;
 use pgn_text::PgnMove;
 pub use reader::Reader;
 pub use reader::first_move;
-use answer::ACCEPTED;
-use answer::TOO_DEEP;
-use answer::UNKNOWN_TOKEN;
 use walk::DEEPEST;
 use walk::Walked;
 ghost use mathlib.Core.Path.{_≡_};
@@ -20,7 +20,11 @@ ghost use Rattle.pgn.specs.CodeWalkers.{countOf, moveWalked};
 fn end_count(counted: usize, number: u64, offset: usize) -> PgnCount
     ensures { λ r. ⌜ r ≡ endCount counted number offset ⌝ }
 {
-    let moves = if number == ACCEPTED { counted as u64 } else { 0 };
+    let moves = if number == ACCEPTED {
+        counted as u64
+    } else {
+        0
+    };
     PgnCount {
         number,
         offset: offset as u64,

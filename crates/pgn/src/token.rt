@@ -1,11 +1,11 @@
 // What stands at a place of move text: decided by the byte there and what follows it.
-use answer::either;
-use answer::rest;
 use crate::bytes::begins_with;
 use crate::bytes::is_digit;
 use crate::bytes::is_white;
 use crate::bytes::run_length;
 use crate::bytes::starts_move;
+use answer::either;
+use answer::rest;
 use pgn_text::Run;
 use pgn_text::Token;
 ghost use mathlib.Core.Path.{_≡_};

@@ -1,13 +1,13 @@
 // The walk: a variation holds a sequence, and a sequence may hold variations. Both either count the moves or stop at the first.
+use crate::bytes::is_white;
+use crate::bytes::run_length;
+use crate::bytes::starts_move;
+use crate::token::token_at;
 use answer::ACCEPTED;
 use answer::LEFT_OPEN;
 use answer::TOO_DEEP;
 use answer::UNKNOWN_TOKEN;
 use answer::rest;
-use crate::bytes::is_white;
-use crate::bytes::run_length;
-use crate::bytes::starts_move;
-use crate::token::token_at;
 use pgn_text::Run;
 use pgn_text::Token;
 ghost use mathlib.Core.Path.{_≡_};
@@ -67,7 +67,11 @@ fn sequence(s: &[u8], start: usize, level: u64, moves: usize, stop: bool) -> Wal
                     continue;
                 }
                 Walked::Found(from, size, deep) => return Walked::Found(from, size, deep),
-                Walked::Ended(counted, number, place) => return Walked::Ended(counted, number, place),
+                Walked::Ended(counted, number, place) => return Walked::Ended(
+                    counted,
+                    number,
+                    place,
+                ),
             },
             Token::Closing => return Walked::On(at, count),
             Token::Result => return at_result(level, count, at),

@@ -174,7 +174,7 @@ module _ (text : List ℕ) (offset start size level : ℕ) (w : Walk) where
 
   from : (place : ℕ) (t u : Bool) → ltb deepest place ≡ t → ltb (length text) offset ≡ u
       → cond t (ended tooDeep offset) (cond u (ended unknownToken offset) (walk 0 offset (replicate place offset) (drop offset text))) ≡ found start size
-          level w → Behind
+      level w → Behind
   from place true u p q e = let z : _≡_ {A = ℕ} 0 1 = cc in absurd (omega arith)
   from place false true p q e = let z : _≡_ {A = ℕ} 0 1 = cc in absurd (omega arith)
   from place false false p q e =

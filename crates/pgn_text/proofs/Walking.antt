@@ -75,7 +75,7 @@ answered-walk (suc n) at (b ∷ bs) os = answered-walk n (at + 1) bs os
 
 answered-place : (t u : Bool) (offset : ℕ) (w : Walk) → PossibleAnswer (endNumber w) (endOffset w)
     → PossibleAnswer (endNumber (cond t (ended tooDeep offset) (cond u (ended unknownToken offset) w)))
-      (endOffset (cond t (ended tooDeep offset) (cond u (ended unknownToken offset) w)))
+    (endOffset (cond t (ended tooDeep offset) (cond u (ended unknownToken offset) w)))
 unfolding endNumber endOffset
 answered-place true u offset w h = too-deep
 answered-place false true offset w h = unknown-token
@@ -94,9 +94,10 @@ answered-first (found start size level w) h = accepted
 
 pub three-refusals : ThreeRefusals check nextMove
 unfolding nextMove
-three-refusals =
-    ((λ text. rw (checks-the-walk text .0, checks-the-walk text .1) (answered-from text 0 0)),
-    λ text offset level. answered-first (walkFrom text offset level) (answered-from text offset level))
+three-refusals = (
+  (λ text. rw (checks-the-walk text .0, checks-the-walk text .1) (answered-from text 0 0)),
+  λ text offset level. answered-first (walkFrom text offset level) (answered-from text offset level),
+)
 
 accepted-at-zero : (number offset : ℕ) → PossibleAnswer number offset → number ≡ 0 → offset ≡ 0
 accepted-at-zero number offset accepted e = refl
@@ -107,9 +108,10 @@ accepted-at-zero number offset unknown-token e = absurd (omega arith)
 -- ---- the place first
 pub place-first : PlaceFirst nextMove
 unfolding nextMove walkFrom firstMove
-place-first =
-    ((λ text offset level h. simp (lt-ltb deepest level h)),
-    λ text offset level h k. simp (le-ltb deepest level h, lt-ltb (length text) offset k))
+place-first = (
+  (λ text offset level h. simp (lt-ltb deepest level h)),
+  λ text offset level h k. simp (le-ltb deepest level h, lt-ltb (length text) offset k),
+)
 
 -- ---- nothing is told of a refused check, nor of a move that is not there
 refused-counts : (n : ℕ) (w : Walk) → (endNumber w ≡ 0 → ⊥) → counted n w .moves ≡ 0
@@ -124,9 +126,10 @@ no-move-told (found start size level w) e = absurd (omega arith)
 
 pub refused-is-empty : RefusedIsEmpty check nextMove
 unfolding check nextMove
-refused-is-empty =
-    ((λ text h. refused-counts 0 (walkFrom text 0 0) (λ e. h (counted-number 0 (walkFrom text 0 0) ∙ e))),
-    λ text offset level e. no-move-told (walkFrom text offset level) e)
+refused-is-empty = (
+  (λ text h. refused-counts 0 (walkFrom text 0 0) (λ e. h (counted-number 0 (walkFrom text 0 0) ∙ e))),
+  λ text offset level e. no-move-told (walkFrom text offset level) e,
+)
 
 -- ---- from place to place
 alike-trans : {u v w : Walk} → WalksAlike u v → WalksAlike v w → WalksAlike u w

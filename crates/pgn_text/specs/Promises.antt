@@ -114,7 +114,7 @@ abbrev pub RefusedIsEmpty : Check → Next → Type 0
 RefusedIsEmpty check next =
     ((text : List ℕ) → (check text .number ≡ 0 → ⊥) → check text .moves ≡ 0)
     × ((text : List ℕ) (offset level : ℕ) → next text offset level .found ≡ 0
-        → next text offset level ≡ noMoveFound (next text offset level .number) (next text offset level .offset))
+    → next text offset level ≡ noMoveFound (next text offset level .number) (next text offset level .offset))
 
 -- ---- not hollow: a call that finds no move, one that always refuses, and a check that always refuses do not keep it
 

@@ -37,5 +37,5 @@ pub looks-at-nothing-past : LooksAtNothingPast
 looks-at-nothing-past ps qs first last hp hq e =
     there ps first last hp
     ∙ ap₂ (λ (p : Position) (l : List Position). leb 2 (times p l))
-      (ap positionOf (same-item ps qs last e last (omega arith))) (same-positions ps qs last e first (last - first) (omega arith))
+    (ap positionOf (same-item ps qs last e last (omega arith))) (same-positions ps qs last e first (last - first) (omega arith))
     ∙ sym (there qs first last hq)

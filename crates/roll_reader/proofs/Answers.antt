@@ -135,6 +135,7 @@ coded-some full s (Got code size) k e z = by full (eqb code 2) (isCode code) ref
         last false g =
             let f2 : Stop badRoll ≡ Stop k = simp g at f in
             let y : badRoll ≡ k = cc in omega arith
+
     by : (f t u : Bool) → full ≡ f → eqb code 2 ≡ t → isCode code ≡ u → ⊥
     by true true u p q r =
         let g : Stop logFull ≡ Stop k = simp (p, q) at e in
@@ -163,7 +164,7 @@ acts-there (suc n) left s e = by (readEntry (eqb left 0) s) refl (λ l t. acts-t
     by (Move move size) f rec =
         let g : actsNumber (putAction (fields 1 0 move) (readActions n (left - 1) (drop size s))) ≡ 0 = rw f at e in
         rw f (is-put (fields 1 0 move) (readActions n (left - 1) (drop size s)) ∙ rec (left - 1) (drop size s) (sym (number-put (fields 1 0 move)
-            (readActions n (left - 1) (drop size s))) ∙ g))
+        (readActions n (left - 1) (drop size s))) ∙ g))
     by (Plain code size) f rec =
         let fs = fields (code / 2) (code % 2) 0 in
         let g : actsNumber (putAction fs (readActions n left (drop size s))) ≡ 0 = rw f at e in

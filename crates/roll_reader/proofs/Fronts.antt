@@ -79,7 +79,7 @@ module _ (i : ℕ) (s t : List ℕ) (x : Number) (most : ℕ) (h : i < 68) (rest
   pub number-over : (n size total : ℕ) → x ≡ Got n size → most < n → total ≡ frontNumber (readNumbers (drop i largestNumbers) (drop i s)) → outOfRange ≡ total
   number-over n size total e l f =
       sym (f ∙ ap frontNumber (on (Got n size) e ∙ one-over most n size (drop i s) (λ u. readNumbers (drop (suc i) largestNumbers) u) l) ∙
-          number-stopped outOfRange)
+      number-stopped outOfRange)
 
   pub number-bad : (total : ℕ) → x ≡ Bad → total ≡ frontNumber (readNumbers (drop i largestNumbers) (drop i s)) → badRoll ≡ total
   number-bad total e f =
@@ -112,8 +112,11 @@ passed [] s small e = record { is = refl; long = omega arith }
 passed (m ∷ ms) s small e = by (readNumber s) refl (λ t. passed ms t (most-tail 12 m ms small))
   where
     by : (x : Number) → readNumber s ≡ x → ((t : List ℕ) → frontNumber (readNumbers ms t) ≡ 0 → Passed ms t) → Passed (m ∷ ms) s
-    by Bad f rec = let z = number-stopped badRoll in absurd (omega (arith, sym (ap frontNumber (one-at m ms s ∙ ap (λ (y : Number). oneNumber m y s (λ
-        t. readNumbers ms t)) f ∙ one-bad m s (λ t. readNumbers ms t))) ∙ e))
+    by Bad f rec = let z = number-stopped badRoll in absurd (omega (
+      arith,
+      sym (ap frontNumber (one-at m ms s ∙ ap (λ (y : Number). oneNumber m y s (λ
+          t. readNumbers ms t)) f ∙ one-bad m s (λ t. readNumbers ms t))) ∙ e,
+    ))
     by (Got n size) f rec = within (leb n m) refl
       where
         within : (b : Bool) → leb n m ≡ b → Passed (m ∷ ms) s
@@ -124,17 +127,20 @@ passed (m ∷ ms) s small e = by (readNumber s) refl (λ t. passed ms t (most-ta
             let d : drop size s ≡ drop 1 s = ap (λ (j : ℕ). drop j s) (o .0) in
             let a : readNumbers (m ∷ ms) s ≡ putNumber n (readNumbers ms (drop 1 s)) =
             one-at m ms s ∙ ap (λ (y : Number). oneNumber m y s (λ t. readNumbers ms t)) f ∙ one-within m n size s (λ t. readNumbers ms t) h ∙ ap (λ (t
-                : List ℕ). putNumber n (readNumbers ms t)) d in
+            : List ℕ). putNumber n (readNumbers ms t)) d in
             let r = rec (drop 1 s) (sym (number-put n (readNumbers ms (drop 1 s))) ∙ sym (ap frontNumber a) ∙ e) in
             let b : putNumber n (front (take (length ms) (drop 1 s)) (drop (length ms) (drop 1 s))) ≡ front (take (suc (length ms)) s) (drop (suc
-                (length ms)) s) =
+            (length ms)) s) =
             put-front n (take (length ms) (drop 1 s)) (drop (length ms) (drop 1 s))
             ∙ ap₂ (λ (p q : List ℕ). front p q) (ap (take (suc (length ms))) (sym (o .1))) (ap (drop (suc (length ms))) (sym (o .1))) in
             record { is = a ∙ ap (putNumber n) (r .is) ∙ b; long = omega (arith, r .long, ap length (o .1)) }
         within false g =
             let z = number-stopped outOfRange in
-            absurd (omega (arith, sym (ap frontNumber (one-at m ms s ∙ ap (λ (y : Number). oneNumber m y s (λ t. readNumbers ms t)) f ∙ one-over m n
-                size s (λ t. readNumbers ms t) (leb-false n m g))) ∙ e))
+            absurd (omega (
+              arith,
+              sym (ap frontNumber (one-at m ms s ∙ ap (λ (y : Number). oneNumber m y s (λ t. readNumbers ms t)) f ∙ one-over m n
+                  size s (λ t. readNumbers ms t) (leb-false n m g))) ∙ e,
+            ))
 
 pub start-passed : (s : List ℕ) → frontNumber (readNumbers largestNumbers s) ≡ 0 → (readNumbers largestNumbers s ≡ front (take 68 s) (drop 68 s)) × (68
     ≤ length s)

@@ -106,10 +106,10 @@ module _ (m left at : ℕ) (s t : List ℕ) (e : Entry) (some : 0 < m) (within :
         inside = omega (arith, i .0, length-drop at s);
         last = i .2;
         then =
-          turned
-          ∙ ap (λ (x : Entry). nextAction x left (drop at s) (λ l u. readActions (m - 1) l u)) f
-          ∙ next-move left (drop at s) move size (λ l u. readActions (m - 1) l u)
-          ∙ ap (λ (l : List ℕ). putAction (fields 1 0 move) (readActions (m - 1) (left - 1) l)) (drop-drop size at s);
+            turned
+            ∙ ap (λ (x : Entry). nextAction x left (drop at s) (λ l u. readActions (m - 1) l u)) f
+            ∙ next-move left (drop at s) move size (λ l u. readActions (m - 1) l u)
+            ∙ ap (λ (l : List ℕ). putAction (fields 1 0 move) (readActions (m - 1) (left - 1) l)) (drop-drop size at s);
       }
 
   pub plain-turn : (code size : ℕ) → e ≡ Plain code size → PlainTurn m left at s code size
@@ -119,10 +119,10 @@ module _ (m left at : ℕ) (s t : List ℕ) (e : Entry) (some : 0 < m) (within :
         inside = omega (arith, i .0, length-drop at s);
         is-code = i .1;
         then =
-          turned
-          ∙ ap (λ (x : Entry). nextAction x left (drop at s) (λ l u. readActions (m - 1) l u)) f
-          ∙ next-plain left (drop at s) code size (λ l u. readActions (m - 1) l u)
-          ∙ ap (λ (l : List ℕ). putAction (fields (code / 2) (code % 2) 0) (readActions (m - 1) left l)) (drop-drop size at s);
+            turned
+            ∙ ap (λ (x : Entry). nextAction x left (drop at s) (λ l u. readActions (m - 1) l u)) f
+            ∙ next-plain left (drop at s) code size (λ l u. readActions (m - 1) l u)
+            ∙ ap (λ (l : List ℕ). putAction (fields (code / 2) (code % 2) 0) (readActions (m - 1) left l)) (drop-drop size at s);
       }
 
   pub stop-turn : (k : ℕ) → e ≡ Stop k → readActions m left (drop at s) ≡ halted k

@@ -36,5 +36,7 @@ short s at left some h code l k n =
     (omega arith)) in
     let whole : drop at s ≡ 2 ∷ low ∷ high ∷ drop (at + 3) s =
     one-on s at (at + 1) refl (omega arith) ∙ ap (λ (t : List ℕ). getD s at 0 ∷ t) behind-code ∙ ap (λ (c : ℕ). c ∷ low ∷ high ∷ drop (at + 3) s) code in
-    record { there = λ m. ap (λ (t : Bool). readEntry t (drop at s)) (ne-eqb left 0 some) ∙ ap (readEntry false) whole ∙ two-groups low high (drop (at
-        + 3) s) l k n m }
+    record {
+      there = λ m. ap (λ (t : Bool). readEntry t (drop at s)) (ne-eqb left 0 some) ∙ ap (readEntry false) whole ∙ two-groups low high (drop (at
+          + 3) s) l k n m;
+    }

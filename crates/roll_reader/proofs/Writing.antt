@@ -61,11 +61,11 @@ wrote-more part out new s n most i left at other further bs w four h fits e f =
       done = w .done ++ bs;
       long = length-append (w .done) bs ∙ omega (arith, w .long);
       bytes =
-        f ∙ ap (λ (l : List ℕ). written l (4 * i) bs) (w .bytes)
-        ∙ written-behind part 0 (w .done) (omega (arith, w .long)) (4 * i) bs (omega (arith, w .long)) (omega arith);
+          f ∙ ap (λ (l : List ℕ). written l (4 * i) bs) (w .bytes)
+          ∙ written-behind part 0 (w .done) (omega (arith, w .long)) (4 * i) bs (omega (arith, w .long)) (omega arith);
       left-over =
-        w .left-over ∙ ap (putAction (w .done)) e ∙ put-both (w .done) bs (readActions (n - i - 1) other (drop further s))
-        ∙ ap (λ (m : ℕ). putAction (w .done ++ bs) (readActions m other (drop further s))) z;
+          w .left-over ∙ ap (putAction (w .done)) e ∙ put-both (w .done) bs (readActions (n - i - 1) other (drop further s))
+          ∙ ap (λ (m : ℕ). putAction (w .done ++ bs) (readActions m other (drop further s))) z;
     }
 
 pub wrote-stopped : (part out s : List ℕ) (n most i left at k : ℕ) → Wrote part out s n most i left at → isActs (readActions n most s) ≡ true
@@ -79,12 +79,14 @@ wrote-all part out s n most i left at w h e = by (ltb at (length s)) refl
   where
     z : n - i ≡ 0
     z = omega arith
+
     over : (x : Acts) → readActions 0 left (drop at s) ≡ x → readActions (n - i) left (drop at s) ≡ x
     over x f = ap (λ (m : ℕ). readActions m left (drop at s)) z ∙ f
+
     by : (t : Bool) → ltb at (length s) ≡ t → out ≡ actsOver (readActions n most s) part
     by true f = absurd (wrote-stopped part out s n most i left at badRoll w e (over (halted badRoll) (long-turn left at s (ltb-true at (length s) f))))
     by false f =
         w .bytes
         ∙ front-written (w .done) part
         ∙ sym (ap (λ (x : Acts). actsOver x part) (w .left-over ∙ ap (putAction (w .done)) (over (acts []) (end-turn left at s (ltb-false at (length s)
-            f)))) ∙ over-put (w .done) part)
+        f)))) ∙ over-put (w .done) part)

@@ -46,13 +46,14 @@ code-range c e = (low (leb 4 c) refl, high (leb c 11) refl)
     low false f =
         let h = leb-false 4 c f in
         absurd (false≢true (sym (no-code c (λ z. omega arith) (λ z. omega arith) (λ z. omega arith) (λ z. omega arith) (λ z. omega arith) (λ z. omega
-            arith)) ∙ e))
+        arith)) ∙ e))
+
     high : (t : Bool) → leb c 11 ≡ t → c ≤ 11
     high true f = leb-true c 11 f
     high false f =
         let h = leb-false c 11 f in
         absurd (false≢true (sym (no-code c (λ z. omega arith) (λ z. omega arith) (λ z. omega arith) (λ z. omega arith) (λ z. omega arith) (λ z. omega
-            arith)) ∙ e))
+        arith)) ∙ e))
 
 -- ---- an action that was written reads back
 
@@ -170,7 +171,7 @@ action-next k c l u left rest go hl e few = by (eqb k 1) refl
         let some : eqb left 0 ≡ false = ne-eqb left 0 (λ z. omega arith) in
         let code : codeOf k c ≡ 2 = omega (arith, m .none) in
         let text : actionText k c (l + 256 * u) ≡ numberText 2 ++ numberText (l + 256 * u) = text-move k c (l + 256 * u) one ∙ ap (λ (x : ℕ).
-            numberText x ++ numberText (l + 256 * u)) code in
+        numberText x ++ numberText (l + 256 * u)) code in
         let low : (l + 256 * u) % 256 ≡ l = omega arith in
         let high : (l + 256 * u) / 256 ≡ u = omega arith in
         let zero : c ≡ 0 = m .none in

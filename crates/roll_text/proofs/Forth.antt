@@ -193,9 +193,9 @@ entry-move full s move size small e =
     let d : drop (m .more) (drop (o .size) s) ≡ drop size s = drop-drop (m .more) (o .size) s ∙ ap (λ (i : ℕ). drop i s) (sym (m .whole)) in
     record {
       text =
-        p .text
-        ∙ ap (λ (l : List ℕ). numberText 2 ++ l) (q .text ∙ ap (λ (l : List ℕ). numberText move ++ l) d)
-        ∙ sym (append-assoc (numberText 2) (numberText move) (drop size s));
+          p .text
+          ∙ ap (λ (l : List ℕ). numberText 2 ++ l) (q .text ∙ ap (λ (l : List ℕ). numberText move ++ l) d)
+          ∙ sym (append-assoc (numberText 2) (numberText move) (drop size s));
       last = m .last;
       room = o .room;
     }
@@ -243,9 +243,9 @@ move-told n left s move size others m t =
       few = rw same (simp (le-leb _ _ h) (omega arith));
       long = omega arith;
       bytes =
-        most-cons 255 1 (0 ∷ (move % 256) ∷ (move / 256) ∷ others) (omega arith)
-        (most-cons 255 0 ((move % 256) ∷ (move / 256) ∷ others) (omega arith)
-        (most-cons 255 (move % 256) ((move / 256) ∷ others) lo (most-cons 255 (move / 256) others hi (t .bytes))));
+          most-cons 255 1 (0 ∷ (move % 256) ∷ (move / 256) ∷ others) (omega arith)
+          (most-cons 255 0 ((move % 256) ∷ (move / 256) ∷ others) (omega arith)
+          (most-cons 255 (move % 256) ((move / 256) ∷ others) lo (most-cons 255 (move / 256) others hi (t .bytes))));
     }
   where
     by : (left ≡ 0 → ⊥) → 1 ≤ left
@@ -269,9 +269,9 @@ plain-told n left s code size others m t =
       few = simp not (omega arith);
       long = omega arith;
       bytes =
-        most-cons 255 (code / 2) ((code % 2) ∷ 0 ∷ 0 ∷ others) k
-        (most-cons 255 (code % 2) (0 ∷ 0 ∷ others) c
-        (most-cons 255 0 (0 ∷ others) (omega arith) (most-cons 255 0 others (omega arith) (t .bytes))));
+          most-cons 255 (code / 2) ((code % 2) ∷ 0 ∷ 0 ∷ others) k
+          (most-cons 255 (code % 2) (0 ∷ 0 ∷ others) c
+          (most-cons 255 0 (0 ∷ others) (omega arith) (most-cons 255 0 others (omega arith) (t .bytes))));
     }
 
 none-told : (left : ℕ) (bs : List ℕ) → bs ≡ [] → Told zero left [] bs

@@ -17,7 +17,6 @@ use Rattle.roll_text.specs.declared.Entry.{Entry}
 use Rattle.roll_text.specs.declared.Entry.the-variants.{Move, Plain, Stop}
 use Rattle.roll_text.specs.Number.{numberText, readNumber}
 
-
 -- ---- the record's numbers: the largest that each may be, in their order
 
 unfoldable pub largestNumbers : List ℕ

@@ -181,7 +181,7 @@ module _ (p : ℕ → Bool) where
   pub turn : (l : List ℕ) (n back i : ℕ) (g : Gathered) (unseen : Bool) → i < n → i < length l → back + i < length l → (unseen ≡ true → n ≤ back + i)
       → (unseen ≡ false → back + i < n) → Left l (atFront l n i) (behind l n (back + i)) g
       → Left l (atFront l n (i + 1)) (behind l n (back + (i + 1)))
-          (gatherTwo g (p (getD l i 0)) (getD l i 0) (unseen && p (numberIf unseen (getD l (back + i) 0))) (numberIf unseen (getD l (back + i) 0)))
+      (gatherTwo g (p (getD l i 0)) (getD l i 0) (unseen && p (numberIf unseen (getD l (back + i) 0))) (numberIf unseen (getD l (back + i) 0)))
   turn l n back i g true h k t after before inv =
       let e : back + (i + 1) ≡ back + i + 1 = omega arith in
       rw e (turn-both l n i (back + i) g h k (after refl) t inv)

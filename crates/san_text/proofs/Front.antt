@@ -129,7 +129,7 @@ module _ (pieces : List ℕ) (m : ℕ) (tail : List ℕ) where
   pub both-read : (dest : Dest) → Moves (kindOn pieces (sourceOf m))
       → readPiece dest (pieceLetter (kindOn pieces (sourceOf m)) ++ (fileByte (sourceOf m) ∷ afterFile pieces m tail))
       ≡ dest (letterKind (kindOn pieces (sourceOf m))) (sourceOf m % 8 + 1) (sourceOf m / 8 + 1) (takesOf pieces m)
-          (fileByte (destOf m) ∷ rankByte (destOf m) ∷ tail)
+      (fileByte (destOf m) ∷ rankByte (destOf m) ∷ tail)
   both-read dest k =
       read-letter dest k (fileByte src ∷ afterFile pieces m tail) (no-letter src)
       ∙ read-source dest kind src (optional (takesOf pieces m) (120 ∷ []) ++ end) (omega arith)

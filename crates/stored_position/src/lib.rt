@@ -2,8 +2,8 @@
 use answer::ACCEPTED;
 use answer::Answer;
 use answer::BAD_LIST;
-use answer::OUTPUT_TOO_SHORT;
 use answer::OUT_OF_RANGE;
+use answer::OUTPUT_TOO_SHORT;
 use board_builder::BoardBuilder;
 use board_builder::RECORD_SIZE;
 use board_builder::SIDE_AT;

@@ -49,9 +49,12 @@ loop-less c = search needs
 
 -- src/lib.rt:116:5
 loop-again : tie.Need-loop-again Inv-loop μ-loop
-loop-again c = (omega arith, held-turn (c .before .before .before .before .before .before .args .acts .now) (c .before .before .before .before .loop
-    .i) (c .before .before .before .before .loop .inv .1) (sym (ap (λ (l : _). isHeld (actionOf l)) (c .before .before .at .ensures)) ∙ sym (c .before
-    .is-held .ensures) ∙ not-false (c .before .is-held .result) (c .if1 .left)))
+loop-again c = (
+  omega arith,
+  held-turn (c .before .before .before .before .before .before .args .acts .now) (c .before .before .before .before .loop
+      .i) (c .before .before .before .before .loop .inv .1) (sym (ap (λ (l : _). isHeld (actionOf l)) (c .before .before .at .ensures)) ∙ sym (c .before
+      .is-held .ensures) ∙ not-false (c .before .is-held .result) (c .if1 .left)),
+)
 
 -- src/lib.rt:112:1
 returns-2 : tie.Need-returns-2 Inv-loop μ-loop

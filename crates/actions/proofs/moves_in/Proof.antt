@@ -98,10 +98,11 @@ loop-again c =
     let acts = a .acts .now in
     let at = actionSize * at-loop .i in
     let one = one-at-most (getD acts at 0) (getD acts (at + 1) 0) (ofBytes (getD acts (at + 2) 0) (getD acts (at + 3) 0)) in
-    let more = count-turn acts (at-loop .i) (omega (arith, at-loop-test .taken, at-smaller .ensures)) in
-    (omega (arith, at-loop-test .taken),
-    omega (arith, c .one-if-move .ensures, at-loop .inv .1),
-    ap₂ (λ (x y : ℕ). x + y) (at-loop .inv .2) (c .one-if-move .ensures) ∙ sym more)
+    let more = count-turn acts (at-loop .i) (omega (arith, at-loop-test .taken, at-smaller .ensures)) in (
+      omega (arith, at-loop-test .taken),
+      omega (arith, c .one-if-move .ensures, at-loop .inv .1),
+      ap₂ (λ (x y : ℕ). x + y) (at-loop .inv .2) (c .one-if-move .ensures) ∙ sym more,
+    )
 
 returns : tie.Need-returns Inv-loop μ-loop
 returns c =

@@ -42,7 +42,7 @@ loop-again c =
     (omega arith, at-loop .inv .1 ∙ sym (same-turn (at-args .a .now) (at-args .b .now) (at-loop .differ) (at-loop .i) (omega arith) (omega arith)))
 
 returns-2 : tie.Need-returns-2 Inv-loop μ-loop
-returns-2 c = 
+returns-2 c =
     let args = c .before .before .before .args in
     sym (c .before .loop .inv .1 ∙ same-end (args .a .now) (args .b .now) (c .before .loop .differ) (c .before .loop .i) (omega arith) (omega arith))
 

@@ -144,11 +144,12 @@ loop-again-2 c =
     let m = at-move-at .result in
     let e : at-loop .i ≡ j + 1 = omega (arith, at-loop-test .taken) in
     let counted : k ≡ movesIn acts (j + 1) = at-loop .inv .0 ∙ ap (movesIn acts) e in
-    let was : begunBy acts ps (j + 1) ≡ begunBy acts ps (a .n) = ap (begunBy acts ps) (sym e) ∙ at-loop .inv .1 in
-    (counted ∙ no-more acts j m (at-move-at .ensures) (c .if1 .left),
-     sym (begun-by-none acts ps j m (at-move-at .ensures) (c .if1 .left)) ∙ was,
-     at-loop .inv .2,
-     omega (arith, at-loop .inv .3))
+    let was : begunBy acts ps (j + 1) ≡ begunBy acts ps (a .n) = ap (begunBy acts ps) (sym e) ∙ at-loop .inv .1 in (
+      counted ∙ no-more acts j m (at-move-at .ensures) (c .if1 .left),
+      sym (begun-by-none acts ps j m (at-move-at .ensures) (c .if1 .left)) ∙ was,
+      at-loop .inv .2,
+      omega (arith, at-loop .inv .3),
+    )
 
 returns-2 : tie.Need-returns-2 Inv-loop μ-loop
 returns-2 c =

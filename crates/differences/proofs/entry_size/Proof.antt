@@ -32,9 +32,11 @@ returns-3 c =
     let at-if1 = c .before .before .before .before .if1 in
     let at-byte-at2 = c .before .before .before .byte-at2 in
     let at-if2 = c .before .before .if2 in
-    let at-byte-at3 = c .before .byte-at3 in
-    (size-two (a .text .now) _ (at-byte-at .ensures) (at-if1 .left) _ (at-byte-at2 .ensures) (at-if2 .left) _ (at-byte-at3 .ensures) (c .if3 .taken), omega
-    arith)
+    let at-byte-at3 = c .before .byte-at3 in (
+      size-two (a .text .now) _ (at-byte-at .ensures) (at-if1 .left) _ (at-byte-at2 .ensures) (at-if2 .left) _ (at-byte-at3 .ensures) (c .if3 .taken),
+      omega
+          arith,
+    )
 
 returns-4 : tie.Need-returns-4
 returns-4 c =
@@ -43,9 +45,11 @@ returns-4 c =
     let at-if1 = c .before .before .before .before .if1 in
     let at-byte-at2 = c .before .before .before .byte-at2 in
     let at-if2 = c .before .before .if2 in
-    let at-byte-at3 = c .before .byte-at3 in
-    (size-three (a .text .now) _ (at-byte-at .ensures) (at-if1 .left) _ (at-byte-at2 .ensures) (at-if2 .left) _ (at-byte-at3 .ensures) (c .if3 .left), omega
-    arith)
+    let at-byte-at3 = c .before .byte-at3 in (
+      size-three (a .text .now) _ (at-byte-at .ensures) (at-if1 .left) _ (at-byte-at2 .ensures) (at-if2 .left) _ (at-byte-at3 .ensures) (c .if3 .left),
+      omega
+          arith,
+    )
 
 pub entry-size-spec : {M : Type 1} → statement M
 entry-size-spec =

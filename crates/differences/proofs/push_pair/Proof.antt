@@ -32,8 +32,12 @@ add-push-number-2 c =
     let a = c .before .before .before .before .before .before .args in
     let at-pre = c .before .before .before .before .before .before .pre in
     let at-push-number = c .before .before .before .push-number in
-    omega (arith, space-inside (a .bytes .now) (a .n) (a .x) (a .y) (at-pre) (at-push-number .last .0) (at-push-number .result) (at-push-number .ensures),
-    at-push-number .ensures .long, length-set (a .bytes .now) (a .n) 32)
+    omega (
+      arith,
+      space-inside (a .bytes .now) (a .n) (a .x) (a .y) (at-pre) (at-push-number .last .0) (at-push-number .result) (at-push-number .ensures),
+      at-push-number .ensures .long,
+      length-set (a .bytes .now) (a .n) 32,
+    )
 
 push-number-requires-2 : tie.Need-push-number-requires-2
 push-number-requires-2 c κs =
@@ -58,11 +62,19 @@ add-result c =
     let at-pre = c .before .before .before .before .before .before .before .before .before .pre in
     let at-push-number = c .before .before .before .before .before .before .push-number in
     let at-push-number2 = c .before .before .push-number2 in
-    omega (arith, whole-pair (a .bytes .now) (a .n) (a .x) (a .y) (at-pre) (at-push-number .last .0) (at-push-number .result) (at-push-number .ensures)
-    (at-push-number2 .last .0) (at-push-number2 .result) (at-push-number2 .ensures) .pushed .count, newline-inside (a .bytes .now) (a .n) (a .x) (a .y)
-    (at-pre) (at-push-number .last .0) (at-push-number .result) (at-push-number .ensures) (at-push-number2 .last .0) (at-push-number2 .result)
-    (at-push-number2 .ensures), at-push-number2 .ensures .long, length-set (at-push-number .last .0) (at-push-number .result) 32, at-push-number .ensures
-    .long, length-set (a .bytes .now) (a .n) 32)
+    omega (
+      arith,
+      whole-pair (a .bytes .now) (a .n) (a .x) (a .y) (at-pre) (at-push-number .last .0) (at-push-number .result) (at-push-number .ensures)
+          (at-push-number2 .last .0) (at-push-number2 .result) (at-push-number2 .ensures) .pushed .count,
+      newline-inside (a .bytes .now) (a .n) (a .x) (a .y)
+          (at-pre) (at-push-number .last .0) (at-push-number .result) (at-push-number .ensures) (at-push-number2 .last .0) (at-push-number2 .result)
+          (at-push-number2 .ensures),
+      at-push-number2 .ensures .long,
+      length-set (at-push-number .last .0) (at-push-number .result) 32,
+      at-push-number .ensures
+          .long,
+      length-set (a .bytes .now) (a .n) 32,
+    )
 
 same-length : tie.Need-same-length
 same-length c =

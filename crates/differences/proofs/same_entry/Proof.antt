@@ -40,9 +40,11 @@ returns-3 c =
     let at-if1 = c .before .before .before .before .if1 in
     let at-if2 = c .before .before .before .if2 in
     let at-byte-at3 = c .before .before .byte-at3 in
-    let at-byte-at4 = c .before .byte-at4 in
-    (other-low (a .text .now) (a .other .now) _ (at-byte-at .ensures) _ (at-byte-at2 .ensures) (at-if1 .left) (at-if2 .left) _ (at-byte-at3 .ensures) _
-    (at-byte-at4 .ensures) (c .if3 .taken), omega arith)
+    let at-byte-at4 = c .before .byte-at4 in (
+      other-low (a .text .now) (a .other .now) _ (at-byte-at .ensures) _ (at-byte-at2 .ensures) (at-if1 .left) (at-if2 .left) _ (at-byte-at3 .ensures) _
+          (at-byte-at4 .ensures) (c .if3 .taken),
+      omega arith,
+    )
 
 returns-4 : tie.Need-returns-4
 returns-4 c =
@@ -53,9 +55,11 @@ returns-4 c =
     let at-if2 = c .before .before .before .before .if2 in
     let at-byte-at3 = c .before .before .before .byte-at3 in
     let at-byte-at4 = c .before .before .byte-at4 in
-    let at-if3 = c .before .if3 in
-    (same-one (a .text .now) (a .other .now) _ (at-byte-at .ensures) _ (at-byte-at2 .ensures) (at-if1 .left) (at-if2 .left) _ (at-byte-at3 .ensures) _
-    (at-byte-at4 .ensures) (at-if3 .left) (c .if4 .taken), omega arith)
+    let at-if3 = c .before .if3 in (
+      same-one (a .text .now) (a .other .now) _ (at-byte-at .ensures) _ (at-byte-at2 .ensures) (at-if1 .left) (at-if2 .left) _ (at-byte-at3 .ensures) _
+          (at-byte-at4 .ensures) (at-if3 .left) (c .if4 .taken),
+      omega arith,
+    )
 
 byte-at-requires-5 : tie.Need-byte-at-requires-5
 byte-at-requires-5 c κs = search needs
@@ -75,9 +79,11 @@ returns-5 c =
     let at-if3 = c .before .before .before .before .if3 in
     let at-if4 = c .before .before .before .if4 in
     let at-byte-at5 = c .before .before .byte-at5 in
-    let at-byte-at6 = c .before .byte-at6 in
-    (other-middle (a .text .now) (a .other .now) _ (at-byte-at .ensures) _ (at-byte-at2 .ensures) (at-if1 .left) (at-if2 .left) _ (at-byte-at3 .ensures) _
-    (at-byte-at4 .ensures) (at-if3 .left) (at-if4 .left) _ (at-byte-at5 .ensures) _ (at-byte-at6 .ensures) (c .if5 .taken), omega arith)
+    let at-byte-at6 = c .before .byte-at6 in (
+      other-middle (a .text .now) (a .other .now) _ (at-byte-at .ensures) _ (at-byte-at2 .ensures) (at-if1 .left) (at-if2 .left) _ (at-byte-at3 .ensures) _
+          (at-byte-at4 .ensures) (at-if3 .left) (at-if4 .left) _ (at-byte-at5 .ensures) _ (at-byte-at6 .ensures) (c .if5 .taken),
+      omega arith,
+    )
 
 returns-6 : tie.Need-returns-6
 returns-6 c =
@@ -92,9 +98,11 @@ returns-6 c =
     let at-if4 = c .before .before .before .before .if4 in
     let at-byte-at5 = c .before .before .before .byte-at5 in
     let at-byte-at6 = c .before .before .byte-at6 in
-    let at-if5 = c .before .if5 in
-    (same-two (a .text .now) (a .other .now) _ (at-byte-at .ensures) _ (at-byte-at2 .ensures) (at-if1 .left) (at-if2 .left) _ (at-byte-at3 .ensures) _
-    (at-byte-at4 .ensures) (at-if3 .left) (at-if4 .left) _ (at-byte-at5 .ensures) _ (at-byte-at6 .ensures) (at-if5 .left) (c .if6 .taken), omega arith)
+    let at-if5 = c .before .if5 in (
+      same-two (a .text .now) (a .other .now) _ (at-byte-at .ensures) _ (at-byte-at2 .ensures) (at-if1 .left) (at-if2 .left) _ (at-byte-at3 .ensures) _
+          (at-byte-at4 .ensures) (at-if3 .left) (at-if4 .left) _ (at-byte-at5 .ensures) _ (at-byte-at6 .ensures) (at-if5 .left) (c .if6 .taken),
+      omega arith,
+    )
 
 byte-at-requires-7 : tie.Need-byte-at-requires-7
 byte-at-requires-7 c κs = search needs
@@ -119,10 +127,12 @@ returns-7 c =
     let at-if5 = c .before .before .before .before .if5 in
     let at-if6 = c .before .before .before .if6 in
     let at-byte-at7 = c .before .before .byte-at7 in
-    let at-byte-at8 = c .before .byte-at8 in
-    (other-high (a .text .now) (a .other .now) _ (at-byte-at .ensures) _ (at-byte-at2 .ensures) (at-if1 .left) (at-if2 .left) _ (at-byte-at3 .ensures) _
-    (at-byte-at4 .ensures) (at-if3 .left) (at-if4 .left) _ (at-byte-at5 .ensures) _ (at-byte-at6 .ensures) (at-if5 .left) (at-if6 .left) _
-    (at-byte-at7 .ensures) _ (at-byte-at8 .ensures) (c .if7 .taken), omega arith)
+    let at-byte-at8 = c .before .byte-at8 in (
+      other-high (a .text .now) (a .other .now) _ (at-byte-at .ensures) _ (at-byte-at2 .ensures) (at-if1 .left) (at-if2 .left) _ (at-byte-at3 .ensures) _
+          (at-byte-at4 .ensures) (at-if3 .left) (at-if4 .left) _ (at-byte-at5 .ensures) _ (at-byte-at6 .ensures) (at-if5 .left) (at-if6 .left) _
+          (at-byte-at7 .ensures) _ (at-byte-at8 .ensures) (c .if7 .taken),
+      omega arith,
+    )
 
 returns-8 : tie.Need-returns-8
 returns-8 c =
@@ -141,10 +151,12 @@ returns-8 c =
     let at-if5 = c .before .before .before .before .if5 in
     let at-if6 = c .before .before .before .if6 in
     let at-byte-at7 = c .before .before .byte-at7 in
-    let at-byte-at8 = c .before .byte-at8 in
-    (same-three (a .text .now) (a .other .now) _ (at-byte-at .ensures) _ (at-byte-at2 .ensures) (at-if1 .left) (at-if2 .left) _ (at-byte-at3 .ensures) _
-    (at-byte-at4 .ensures) (at-if3 .left) (at-if4 .left) _ (at-byte-at5 .ensures) _ (at-byte-at6 .ensures) (at-if5 .left) (at-if6 .left) _
-    (at-byte-at7 .ensures) _ (at-byte-at8 .ensures) (c .if7 .left), omega arith)
+    let at-byte-at8 = c .before .byte-at8 in (
+      same-three (a .text .now) (a .other .now) _ (at-byte-at .ensures) _ (at-byte-at2 .ensures) (at-if1 .left) (at-if2 .left) _ (at-byte-at3 .ensures) _
+          (at-byte-at4 .ensures) (at-if3 .left) (at-if4 .left) _ (at-byte-at5 .ensures) _ (at-byte-at6 .ensures) (at-if5 .left) (at-if6 .left) _
+          (at-byte-at7 .ensures) _ (at-byte-at8 .ensures) (c .if7 .left),
+      omega arith,
+    )
 
 pub same-entry-spec : {M : Type 1} → statement M
 same-entry-spec =

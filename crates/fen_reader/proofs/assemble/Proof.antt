@@ -15,7 +15,7 @@ refused-at-requires : tie.Need-refused-at-requires
 refused-at-requires c κs = search needs
 
 returns : tie.Need-returns
-returns c = 
+returns c =
     let a = c .before .before .before .before .before .before .args in
     c .refused-at .ensures
     ∙ no-side (a .at) (a .pieces) (c .before .before .side .result) (a .castling .now) (a .ep .now) (c .before .if1 .taken)

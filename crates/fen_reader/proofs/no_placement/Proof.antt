@@ -20,7 +20,7 @@ refused-at-requires : tie.Need-refused-at-requires
 refused-at-requires c κs = search needs
 
 returns : tie.Need-returns
-returns c = 
+returns c =
     let s = c .before .before .before .before .args .text .now in
     let few : length (tokens s) < 4 = omega (arith, c .before .if1 .taken, c .before .before .spaces .ensures) in
     c .refused-at .ensures ∙ sym (few-read s few)
@@ -35,7 +35,7 @@ refused-at-requires-2 : tie.Need-refused-at-requires-2
 refused-at-requires-2 c κs = search needs
 
 returns-2 : tie.Need-returns-2
-returns-2 c = 
+returns-2 c =
     let s = c .before .before .before .before .before .before .args .text .now in
     let enough : 4 ≤ length (tokens s) = omega (arith, c .before .before .before .if1 .left, c .before .before .before .before .spaces .ensures) in
     c .refused-at2 .ensures

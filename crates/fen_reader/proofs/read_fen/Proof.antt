@@ -17,9 +17,12 @@ place-requires : tie.Need-place-requires
 place-requires c κs = search needs
 
 no-placement-requires : tie.Need-no-placement-requires
-no-placement-requires c κs = record { place = c .before .before .place .ensures .place; bad =
-    let at-place = c .before .before .place in
-    at-place .ensures .good ∙ le-ltb (at-place .result .seen) noClass (c .if1 .taken) }
+no-placement-requires c κs = record {
+  place = c .before .before .place .ensures .place;
+  bad =
+      let at-place = c .before .before .place in
+      at-place .ensures .good ∙ le-ltb (at-place .result .seen) noClass (c .if1 .taken);
+}
 
 returns : tie.Need-returns
 returns c = search needs
@@ -28,9 +31,12 @@ refused-at-requires : tie.Need-refused-at-requires
 refused-at-requires c κs = search needs
 
 returns-2 : tie.Need-returns-2
-returns-2 c = c .refused-at .ensures ∙ sym (one-token (record { place = c .before .before .before .before .place .ensures .place; none =
-    let at-if2 = c .before .if2 in
-    at-if2 .taken }))
+returns-2 c = c .refused-at .ensures ∙ sym (one-token (record {
+  place = c .before .before .before .before .place .ensures .place;
+  none =
+      let at-if2 = c .before .if2 in
+      at-if2 .taken;
+}))
 
 after-requires : tie.Need-after-requires
 after-requires c κs = search needs

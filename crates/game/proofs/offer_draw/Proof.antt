@@ -29,9 +29,10 @@ unfolding countsAfter actionsAfter
 returns c =
     let a = c .before .before .before .before .before .before .args in
     let at-act = c .before .before .act in
-    let e = other-is (a .acts .now) (a .ps .now) (a .n) (a .m) (offerDraw (a .colour)) refl in
-    (at-act .ensures .0 ∙ ap (λ (x : ℕ). otherCounts x (a .n) (a .m)) e,
-    at-act .ensures .1 ∙ ap (λ (x : ℕ). otherActions x (a .acts .now) (a .n) (OfferDraw (a .colour))) e)
+    let e = other-is (a .acts .now) (a .ps .now) (a .n) (a .m) (offerDraw (a .colour)) refl in (
+      at-act .ensures .0 ∙ ap (λ (x : ℕ). otherCounts x (a .n) (a .m)) e,
+      at-act .ensures .1 ∙ ap (λ (x : ℕ). otherActions x (a .acts .now) (a .n) (OfferDraw (a .colour))) e,
+    )
 
 pub offer-draw-spec : {M : Type 1} → statement M
 offer-draw-spec = tie.close (tie.spec act-requires same-length returns)

@@ -28,9 +28,10 @@ unfolding countsAfter actionsAfter
 returns c =
     let a = c .before .before .before .before .before .before .args in
     let at-act = c .before .before .act in
-    let e = other-is (a .acts .now) (a .ps .now) (a .n) (a .m) (resign (a .colour)) refl in
-    (at-act .ensures .0 ∙ ap (λ (x : ℕ). otherCounts x (a .n) (a .m)) e,
-    at-act .ensures .1 ∙ ap (λ (x : ℕ). otherActions x (a .acts .now) (a .n) (Resign (a .colour))) e)
+    let e = other-is (a .acts .now) (a .ps .now) (a .n) (a .m) (resign (a .colour)) refl in (
+      at-act .ensures .0 ∙ ap (λ (x : ℕ). otherCounts x (a .n) (a .m)) e,
+      at-act .ensures .1 ∙ ap (λ (x : ℕ). otherActions x (a .acts .now) (a .n) (Resign (a .colour))) e,
+    )
 
 pub resign-spec : {M : Type 1} → statement M
 resign-spec = tie.close (tie.spec act-requires same-length returns)

@@ -35,8 +35,13 @@ returns-5 c =
     let at-if2 = c .before .before .before .before .if2 in
     let at-if3 = c .before .before .before .if3 in
     let at-if4 = c .before .before .if4 in
-    rw (le-leb _ _ (at-if1 .left), le-leb _ _ (at-if2 .left), le-leb _ _ (at-if3 .left), le-leb _ _ (at-if4 .left),
-    sym (c .before .is-good .ensures) ∙ c .if5 .taken)
+    rw (
+      le-leb _ _ (at-if1 .left),
+      le-leb _ _ (at-if2 .left),
+      le-leb _ _ (at-if3 .left),
+      le-leb _ _ (at-if4 .left),
+      sym (c .before .is-good .ensures) ∙ c .if5 .taken,
+    )
 
 returns-6 : tie.Need-returns-6
 unfolding logCheck firstRefusal
@@ -45,8 +50,13 @@ returns-6 c =
     let at-if2 = c .before .before .before .before .if2 in
     let at-if3 = c .before .before .before .if3 in
     let at-if4 = c .before .before .if4 in
-    rw (le-leb _ _ (at-if1 .left), le-leb _ _ (at-if2 .left), le-leb _ _ (at-if3 .left), le-leb _ _ (at-if4 .left),
-    sym (c .before .is-good .ensures) ∙ c .if5 .left)
+    rw (
+      le-leb _ _ (at-if1 .left),
+      le-leb _ _ (at-if2 .left),
+      le-leb _ _ (at-if3 .left),
+      le-leb _ _ (at-if4 .left),
+      sym (c .before .is-good .ensures) ∙ c .if5 .left,
+    )
 
 pub check-spec : {M : Type 1} → statement M
 check-spec =

@@ -22,8 +22,10 @@ returns-2 : tie.Need-returns-2
 returns-2 c =
     let a = c .before .before .before .before .before .args in
     let at-other-is-sound = c .before .before .other-is-sound in
-    rw (sym (at-other-is-sound .ensures) ∙ not-false (at-other-is-sound .result) (c .before .if1 .left),
-    eq-eqb (suc (a .i)) (a .n) (omega (arith, c .if2 .taken)))
+    rw (
+      sym (at-other-is-sound .ensures) ∙ not-false (at-other-is-sound .result) (c .before .if1 .left),
+      eq-eqb (suc (a .i)) (a .n) (omega (arith, c .if2 .taken)),
+    )
 
 add-by-last-action : tie.Need-add-by-last-action
 add-by-last-action c = search needs
@@ -36,8 +38,10 @@ returns-3 c =
     let a = c .before .before .before .before .before .before .args in
     let at-other-is-sound = c .before .before .before .other-is-sound in
     let at-if1 = c .before .before .if1 in
-    rw (sym (at-other-is-sound .ensures) ∙ not-false (at-other-is-sound .result) (at-if1 .left),
-    ne-eqb (suc (a .i)) (a .n) (λ e. omega (arith, c .before .if2 .left)))
+    rw (
+      sym (at-other-is-sound .ensures) ∙ not-false (at-other-is-sound .result) (at-if1 .left),
+      ne-eqb (suc (a .i)) (a .n) (λ e. omega (arith, c .before .if2 .left)),
+    )
     (ap (λ (r : ℕ). eqb r 0) (rw (add-one (a .i)) at (c .by-last-action .ensures)))
 
 pub other-may-stand-spec : {M : Type 1} → statement M

@@ -56,9 +56,10 @@ returns c =
     let text : take (at-put-line .result .ready) (at-put-line .last .1 .0) ≡ keyLine s =
     ap (λ (l : List ℕ). take (at-put-line .result .ready) l) (at-put-line .ensures .1 .0)
     ∙ ap (λ (k : ℕ). take k (written (replicate 86 0) 0 (keyLine s))) n
-    ∙ used-written (replicate 86 0) (keyLine s) [] 0 refl refl in
-    (at-write-text .ensures .0 ∙ ap (λ (t : List ℕ). writeAnswer 0 t (length (a .out .now))) text,
-    at-write-text .ensures .1 ∙ ap (λ (t : List ℕ). writeBytes 0 t (a .out .now)) text)
+    ∙ used-written (replicate 86 0) (keyLine s) [] 0 refl refl in (
+      at-write-text .ensures .0 ∙ ap (λ (t : List ℕ). writeAnswer 0 t (length (a .out .now))) text,
+      at-write-text .ensures .1 ∙ ap (λ (t : List ℕ). writeBytes 0 t (a .out .now)) text,
+    )
 
 pub key-line-spec : {M : Type 1} → statement M
 key-line-spec =

@@ -34,9 +34,14 @@ add-t14 c =
     let at-read-fen = c .before .before .before .before .before .before .read-fen in
     let at-if1 = c .before .before .before .before .if1 in
     let at-write-refusal = c .before .before .write-refusal in
-    omega (arith, refused-value (a .line .now) (a .out .now) (at-write-refusal .last .1 .1 .0) (at-read-fen .result) (a .at) _ (at-write-refusal .result)
-    (at-read-fen .ensures) (at-if1 .taken) small near (at-pre) (at-write-refusal .ensures .0) (at-write-refusal .ensures .1), refusal-short
-    (at-read-fen .result .number) (at-read-fen .result .offset) small near, at-pre)
+    omega (
+      arith,
+      refused-value (a .line .now) (a .out .now) (at-write-refusal .last .1 .1 .0) (at-read-fen .result) (a .at) _ (at-write-refusal .result)
+          (at-read-fen .ensures) (at-if1 .taken) small near (at-pre) (at-write-refusal .ensures .0) (at-write-refusal .ensures .1),
+      refusal-short
+          (at-read-fen .result .number) (at-read-fen .result .offset) small near,
+      at-pre,
+    )
 
 same-length : tie.Need-same-length
 same-length c = search needs
@@ -51,12 +56,17 @@ returns c =
     let at-read-fen = c .before .before .before .before .before .before .read-fen in
     let at-if1 = c .before .before .before .before .if1 in
     let at-write-refusal = c .before .before .write-refusal in
-    (refused-line (a .line .now) (a .out .now) (at-write-refusal .last .1 .1 .0) (at-read-fen .result) (a .at) _ (at-write-refusal .result)
-    (at-read-fen .ensures) (at-if1 .taken) small near (at-pre) (at-write-refusal .ensures .0) (at-write-refusal .ensures .1),
-    (refused-bytes (a .line .now) (a .out .now) (at-write-refusal .last .1 .1 .0) (at-read-fen .result) (a .at) _ (at-write-refusal .result)
-    (at-read-fen .ensures) (at-if1 .taken) small near (at-pre) (at-write-refusal .ensures .0) (at-write-refusal .ensures .1), refused-short (a .line .now)
-    (a .out .now) (at-write-refusal .last .1 .1 .0) (at-read-fen .result) (a .at) _ (at-write-refusal .result) (at-read-fen .ensures) (at-if1 .taken) small
-    near (at-pre) (at-write-refusal .ensures .0) (at-write-refusal .ensures .1)))
+    let left = at-write-refusal .last .1 .1 .0 in (
+      refused-line (a .line .now) (a .out .now) left (at-read-fen .result) (a .at) _ (at-write-refusal .result)
+          (at-read-fen .ensures) (at-if1 .taken) small near (at-pre) (at-write-refusal .ensures .0) (at-write-refusal .ensures .1),
+      (
+        refused-bytes (a .line .now) (a .out .now) left (at-read-fen .result) (a .at) _ (at-write-refusal .result)
+            (at-read-fen .ensures) (at-if1 .taken) small near (at-pre) (at-write-refusal .ensures .0) (at-write-refusal .ensures .1),
+        refused-short (a .line .now)
+            (a .out .now) left (at-read-fen .result) (a .at) _ (at-write-refusal .result) (at-read-fen .ensures) (at-if1 .taken) small
+            near (at-pre) (at-write-refusal .ensures .0) (at-write-refusal .ensures .1),
+      ),
+    )
 
 sub-write-fen : tie.Need-sub-write-fen
 sub-write-fen c = search needs
@@ -73,14 +83,18 @@ write-fen-requires c κs = search needs
 add-end : tie.Need-add-end
 add-end c =
     let long : length (c .before .before .before .before .before .before .before .before .before .before .args .out .now)
-        < 18446744073709551616 = search needs in
+    < 18446744073709551616 = search needs in
     let a = c .before .before .before .before .before .before .before .before .before .before .args in
     let at-pre = c .before .before .before .before .before .before .before .before .before .before .pre in
     let at-read-fen = c .before .before .before .before .before .before .before .read-fen in
     let at-if1 = c .before .before .before .before .before .if1 in
     let at-write-fen = c .before .before .write-fen in
-    omega (arith, key-within (a .line .now) (a .out .now) (at-write-fen .last .1 .0) (at-read-fen .result) (a .at) _ (at-write-fen .result)
-    (at-read-fen .ensures) (at-if1 .left) (at-pre) (at-write-fen .ensures .0) (at-write-fen .ensures .1), at-pre)
+    omega (
+      arith,
+      key-within (a .line .now) (a .out .now) (at-write-fen .last .1 .0) (at-read-fen .result) (a .at) _ (at-write-fen .result)
+          (at-read-fen .ensures) (at-if1 .left) (at-pre) (at-write-fen .ensures .0) (at-write-fen .ensures .1),
+      at-pre,
+    )
 
 slice-write-out : tie.Need-slice-write-out
 slice-write-out c =
@@ -95,14 +109,18 @@ slice-write-out c =
 add-t16 : tie.Need-add-t16
 add-t16 c =
     let long : length (c .before .before .before .before .before .before .before .before .before .before .args .out .now)
-        < 18446744073709551616 = search needs in
+    < 18446744073709551616 = search needs in
     let a = c .before .before .before .before .before .before .before .before .before .before .args in
     let at-pre = c .before .before .before .before .before .before .before .before .before .before .pre in
     let at-read-fen = c .before .before .before .before .before .before .before .read-fen in
     let at-if1 = c .before .before .before .before .before .if1 in
     let at-write-fen = c .before .before .write-fen in
-    omega (arith, key-within (a .line .now) (a .out .now) (at-write-fen .last .1 .0) (at-read-fen .result) (a .at) _ (at-write-fen .result)
-    (at-read-fen .ensures) (at-if1 .left) (at-pre) (at-write-fen .ensures .0) (at-write-fen .ensures .1), at-pre)
+    omega (
+      arith,
+      key-within (a .line .now) (a .out .now) (at-write-fen .last .1 .0) (at-read-fen .result) (a .at) _ (at-write-fen .result)
+          (at-read-fen .ensures) (at-if1 .left) (at-pre) (at-write-fen .ensures .0) (at-write-fen .ensures .1),
+      at-pre,
+    )
 
 same-length-2 : tie.Need-same-length-2
 same-length-2 c = search needs
@@ -113,13 +131,17 @@ returns-2 c =
     let at-pre = c .before .before .before .before .before .before .before .before .before .before .pre in
     let at-read-fen = c .before .before .before .before .before .before .before .read-fen in
     let at-if1 = c .before .before .before .before .before .if1 in
-    let at-write-fen = c .before .before .write-fen in
-    (accepted-line (a .line .now) (a .out .now) (at-write-fen .last .1 .0) (at-read-fen .result) (a .at) _ (at-write-fen .result) (at-read-fen .ensures)
-    (at-if1 .left) (at-pre) (at-write-fen .ensures .0) (at-write-fen .ensures .1),
-    (accepted-bytes (a .line .now) (a .out .now) (at-write-fen .last .1 .0) (at-read-fen .result) (a .at) _ (at-write-fen .result) (at-read-fen .ensures)
-    (at-if1 .left) (at-pre) (at-write-fen .ensures .0) (at-write-fen .ensures .1), key-short (a .line .now) (a .out .now) (at-write-fen .last .1 .0)
-    (at-read-fen .result) (a .at) _ (at-write-fen .result) (at-read-fen .ensures) (at-if1 .left) (at-pre) (at-write-fen .ensures .0)
-    (at-write-fen .ensures .1)))
+    let at-write-fen = c .before .before .write-fen in (
+      accepted-line (a .line .now) (a .out .now) (at-write-fen .last .1 .0) (at-read-fen .result) (a .at) _ (at-write-fen .result) (at-read-fen .ensures)
+          (at-if1 .left) (at-pre) (at-write-fen .ensures .0) (at-write-fen .ensures .1),
+      (
+        accepted-bytes (a .line .now) (a .out .now) (at-write-fen .last .1 .0) (at-read-fen .result) (a .at) _ (at-write-fen .result) (at-read-fen .ensures)
+            (at-if1 .left) (at-pre) (at-write-fen .ensures .0) (at-write-fen .ensures .1),
+        key-short (a .line .now) (a .out .now) (at-write-fen .last .1 .0)
+            (at-read-fen .result) (a .at) _ (at-write-fen .result) (at-read-fen .ensures) (at-if1 .left) (at-pre) (at-write-fen .ensures .0)
+            (at-write-fen .ensures .1),
+      ),
+    )
 
 pub put-line-spec : {M : Type 1} → statement M
 put-line-spec =

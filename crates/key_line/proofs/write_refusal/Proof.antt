@@ -22,7 +22,7 @@ push-number-requires : tie.Need-push-number-requires
 push-number-requires c κs = search needs
 
 array-write-bytes-3 : tie.Need-array-write-bytes-3
-array-write-bytes-3 c = 
+array-write-bytes-3 c =
     let n = c .before .before .before .before .args .number in
     let o = c .before .before .before .before .args .offset in
     let small : n < 18446744073709551616 = search needs in
@@ -35,7 +35,7 @@ slice-aggregate-push-number-2 : tie.Need-slice-aggregate-push-number-2
 slice-aggregate-push-number-2 c = search needs
 
 add-push-number : tie.Need-add-push-number
-add-push-number c = 
+add-push-number c =
     let n = c .before .before .before .before .before .args .number in
     let o = c .before .before .before .before .before .args .offset in
     let small : n < 18446744073709551616 = search needs in
@@ -45,7 +45,7 @@ add-push-number c =
     omega arith
 
 push-number-requires-2 : tie.Need-push-number-requires-2
-push-number-requires-2 c κs = 
+push-number-requires-2 c κs =
     let n = c .before .before .before .before .before .args .number in
     let o = c .before .before .before .before .before .args .offset in
     let small : n < 18446744073709551616 = search needs in

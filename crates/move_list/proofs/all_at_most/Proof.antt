@@ -44,11 +44,12 @@ loop-again c =
     let at-loop-test = c .before .before .loop-test in
     let s = a .moves .now in
     let i = at-loop .i in
-    let left = allAtMost (a .most) (drop (i + 1) s) in
-    (omega arith,
-    ap (λ (x : ℕ). eqb (bitOr (at-loop .above) x) 0 && left) (c .over .ensures)
-    ∙ gather-turn (a .most) s (at-loop .above) i (at-loop-test .taken)
-    ∙ at-loop .inv .1)
+    let left = allAtMost (a .most) (drop (i + 1) s) in (
+      omega arith,
+      ap (λ (x : ℕ). eqb (bitOr (at-loop .above) x) 0 && left) (c .over .ensures)
+          ∙ gather-turn (a .most) s (at-loop .above) i (at-loop-test .taken)
+          ∙ at-loop .inv .1,
+    )
 
 returns : tie.Need-returns Inv-loop μ-loop
 returns c =

@@ -39,9 +39,9 @@ returns-3 c =
     let a = c .before .before .before .before .before .before .args in
     let os = replicate (a .level) (a .offset) in
     c .move-at .ensures ∙ sym
-        (ap moveWalked (near-told (a .text .now) (a .level) (a .offset) _ os (length-replicate (a .level) (a .offset)) (c .before .if3 .taken)
-        (c .before .before .near .ensures))) ∙ first-of 0 (walk 0 (a .offset) os (drop (a .offset) (a .text .now)))
-        ∙ simp (le-ltb _ _ (c .before .before .before .before .if1 .left), le-ltb _ _ (c .before .before .before .if2 .left))
+    (ap moveWalked (near-told (a .text .now) (a .level) (a .offset) _ os (length-replicate (a .level) (a .offset)) (c .before .if3 .taken)
+    (c .before .before .near .ensures))) ∙ first-of 0 (walk 0 (a .offset) os (drop (a .offset) (a .text .now)))
+    ∙ simp (le-ltb _ _ (c .before .before .before .before .if1 .left), le-ltb _ _ (c .before .before .before .if2 .left))
 
 outward-requires : tie.Need-outward-requires
 outward-requires c κs = search needs
@@ -55,7 +55,7 @@ returns-4 c =
     let a = c .before .before .before .before .before .before .before .args in
     let os = replicate (a .level) (a .offset) in
     c .move-of .ensures ∙ ap moveWalked (c .before .outward .ensures) ∙ first-of 0 (walk 0 (a .offset) os (drop (a .offset) (a .text .now)))
-        ∙ simp (le-ltb _ _ (c .before .before .before .before .before .if1 .left), le-ltb _ _ (c .before .before .before .before .if2 .left))
+    ∙ simp (le-ltb _ _ (c .before .before .before .before .before .if1 .left), le-ltb _ _ (c .before .before .before .before .if2 .left))
 
 pub next-spec : {M : Type 1} → statement M
 next-spec =

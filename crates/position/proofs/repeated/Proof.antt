@@ -59,14 +59,13 @@ loop-again c =
     let at-position = c .before .before .before .before .before .before .before .before .before .before .position in
     let at-loop = c .before .before .before .before .loop in
     let at-position3 = c .before .before .position3 in
-    let at-same-position2 = c .before .same-position2 in
-    (
+    let at-same-position2 = c .before .same-position2 in (
       omega arith,
       omega arith,
       at-loop .inv .2,
       earlier-other (a .ps .now) (positionAt (a .ps .now) (a .last)) (a .first) (at-loop .j) (omega arith)
           (equal-at (a .ps .now) (at-loop .j) (a .last) _ _ _ _ (at-position3 .ensures .is) (at-position .ensures .is)
-              (at-same-position2 .ensures) (c .if2 .left))
+          (at-same-position2 .ensures) (c .if2 .left))
           ∙ at-loop .inv .3,
     )
 
@@ -91,7 +90,7 @@ pairs-again c =
       w .3 ∙ w .1 .inv .2,
       turn-equal (a .ps .now) (positionAt (a .ps .now) (a .last)) (a .first) (at-pairs .i) (omega arith)
           (equal-at (a .ps .now) (at-pairs .i) (a .last) _ _ _ _ (at-position2 .ensures .is) (at-position .ensures .is)
-              (at-same-position .ensures) (w .0 .taken))
+          (at-same-position .ensures) (w .0 .taken))
           (rw e at (w .1 .inv .3)),
     ))
     (λ w. (
@@ -100,7 +99,7 @@ pairs-again c =
       w .1 ∙ at-pairs .inv .2,
       turn-other (a .ps .now) (positionAt (a .ps .now) (a .last)) (a .first) (at-pairs .i) (omega arith)
           (equal-at (a .ps .now) (at-pairs .i) (a .last) _ _ _ _ (at-position2 .ensures .is) (at-position .ensures .is)
-              (at-same-position .ensures) (w .0 .left))
+          (at-same-position .ensures) (w .0 .left))
           (at-pairs .inv .3),
     ))
     (c .if1 .came)

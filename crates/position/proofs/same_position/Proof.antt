@@ -74,7 +74,7 @@ returns-3 c =
     let at-shared-slice-known5 = c .before .before .before .shared-slice-known5 in
     c .same-bytes2 .ensures
     ∙ same-lists (a .p .now) (a .q .now)
-      (λ i. at-shared-slice-known5 .given i .fits) (λ i. at-shared-slice-known2 .given i .fits) (at-pre .0) (at-pre .1)
+    (λ i. at-shared-slice-known5 .given i .fits) (λ i. at-shared-slice-known2 .given i .fits) (at-pre .0) (at-pre .1)
     ∙ sym (equal-lists (a .p .now) (a .q .now) (sym (at-same-bytes .ensures) ∙ not-false _ (at-if2 .left)))
 
 pub same-position-spec : {M : Type 1} → statement M

@@ -33,9 +33,17 @@ loop-less : tie.Need-loop-less Inv-loop μ-loop
 loop-less c = search needs
 
 loop-again : tie.Need-loop-again Inv-loop μ-loop
-loop-again c = (omega (arith, c .before .loop-test .taken), simp length-set (c .before .before .loop .inv .1), square-copied (c .before .before .before
-    .args .s .now) (c .before .before .loop .pieces) (c .before .before .loop .i) (omega (arith, c .before .loop-test .taken, c .before .before .loop
-    .inv .1)) (omega (arith, c .before .loop-test .taken, c .before .before .before .pre)) (c .before .before .loop .inv .2))
+loop-again c = (
+  omega (arith, c .before .loop-test .taken),
+  simp length-set (c .before .before .loop .inv .1),
+  square-copied (c .before .before .before
+      .args .s .now) (c .before .before .loop .pieces) (c .before .before .loop .i) (omega (
+        arith,
+        c .before .loop-test .taken,
+        c .before .before .loop
+            .inv .1,
+      )) (omega (arith, c .before .loop-test .taken, c .before .before .before .pre)) (c .before .before .loop .inv .2),
+)
 
 shared-slice-read-t11 : tie.Need-shared-slice-read-t11 Inv-loop μ-loop
 shared-slice-read-t11 c = search needs

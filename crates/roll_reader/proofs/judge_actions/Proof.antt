@@ -11,7 +11,7 @@ use Rattle.roll_reader.proofs.judge_actions.Statement.{statement}
 use Rattle.roll_reader.proofs.judge_actions.Tie as tie
 
 abbrev Inv-loop : tie.InvT-loop
-Inv-loop s n most at₀ left₀ i₀ at left i = 
+Inv-loop s n most at₀ left₀ i₀ at left i =
     (i ≤ n) × (at ≤ length s) × (actsNumber (readActions n most s) ≡ actsNumber (readActions (n - i) left (drop at s)))
 
 abbrev μ-loop : tie.MeasureT-loop
@@ -24,7 +24,7 @@ short-move-requires : tie.Need-short-move-requires Inv-loop μ-loop
 short-move-requires c κs = search needs
 
 add-at : tie.Need-add-at Inv-loop μ-loop
-add-at c = 
+add-at c =
     let s = c .before .before .before .before .before .args .s .now in
     let n = c .before .before .before .before .before .args .n in
     let at = c .before .before .before .loop .at in
@@ -35,7 +35,7 @@ add-at c =
     omega (arith, t .inside)
 
 sub-left : tie.Need-sub-left Inv-loop μ-loop
-sub-left c = 
+sub-left c =
     let s = c .before .before .before .before .before .args .s .now in
     let n = c .before .before .before .before .before .args .n in
     let at = c .before .before .before .loop .at in
@@ -52,16 +52,19 @@ loop-less : tie.Need-loop-less Inv-loop μ-loop
 loop-less c = omega (arith, c .before .before .loop-test .taken)
 
 loop-again : tie.Need-loop-again Inv-loop μ-loop
-loop-again c = 
+loop-again c =
     let s = c .before .before .before .before .before .args .s .now in
     let n = c .before .before .before .before .before .args .n in
     let at = c .before .before .before .loop .at in
     let left = c .before .before .before .loop .left in
     let i = c .before .before .before .loop .i in
     let t = short-turn (n - i) left at s (c .before .short-move .result) (omega (arith, c .before .before .loop-test .taken)) (c .before .before
-    .before .loop .inv .1) (c .before .short-move .ensures .there (omega (arith, c .if1 .taken))) in
-    (omega (arith, c .before .before .loop-test .taken), t .inside, judged-move (actsNumber (readActions n (c .before .before .before .before .before
-    .args .most) s)) n i left at s _ 3 t (c .before .before .before .loop .inv .2))
+    .before .loop .inv .1) (c .before .short-move .ensures .there (omega (arith, c .if1 .taken))) in (
+      omega (arith, c .before .before .loop-test .taken),
+      t .inside,
+      judged-move (actsNumber (readActions n (c .before .before .before .before .before
+          .args .most) s)) n i left at s _ 3 t (c .before .before .before .loop .inv .2),
+    )
 
 rest-requires : tie.Need-rest-requires Inv-loop μ-loop
 rest-requires c κs = search needs
@@ -76,7 +79,7 @@ enum-known-e : tie.Need-enum-known-e Inv-loop μ-loop
 enum-known-e c = search needs
 
 add-at-2 : tie.Need-add-at-2 Inv-loop μ-loop
-add-at-2 c = 
+add-at-2 c =
     let s = c .before .before .before .before .before .before .before .before .before .before .args .s .now in
     let n = c .before .before .before .before .before .before .before .before .before .before .args .n in
     let at = c .before .before .before .before .before .before .before .before .loop .at in
@@ -88,7 +91,7 @@ add-at-2 c =
     omega (arith, t .inside)
 
 sub-left-2 : tie.Need-sub-left-2 Inv-loop μ-loop
-sub-left-2 c = 
+sub-left-2 c =
     let s = c .before .before .before .before .before .before .before .before .before .before .args .s .now in
     let n = c .before .before .before .before .before .before .before .before .before .before .args .n in
     let at = c .before .before .before .before .before .before .before .before .loop .at in
@@ -103,7 +106,7 @@ loop-less-2 : tie.Need-loop-less-2 Inv-loop μ-loop
 loop-less-2 c = omega (arith, c .before .before .before .before .before .before .before .loop-test .taken)
 
 loop-again-2 : tie.Need-loop-again-2 Inv-loop μ-loop
-loop-again-2 c = 
+loop-again-2 c =
     let s = c .before .before .before .before .before .before .before .before .before .before .args .s .now in
     let n = c .before .before .before .before .before .before .before .before .before .before .args .n in
     let at = c .before .before .before .before .before .before .before .before .loop .at in
@@ -111,16 +114,19 @@ loop-again-2 c =
     let i = c .before .before .before .before .before .before .before .before .loop .i in
     let t = move-turn (n - i) left at s _ _ (omega (arith, c .before .before .before .before .before .before .before .loop-test .taken)) (c .before
     .before .before .before .before .before .before .before .loop .inv .1) (c .before .before .before .before .rest .ensures) (c .before .before
-    .before .read-entry .ensures) _ _ (c .before .e .given .1) in
-    (omega (arith, c .before .before .before .before .before .before .before .loop-test .taken), t .inside, judged-move (actsNumber (readActions n (c
-    .before .before .before .before .before .before .before .before .before .before .args .most) s)) n i left at s _ _ t (c .before .before .before
-    .before .before .before .before .before .loop .inv .2))
+    .before .read-entry .ensures) _ _ (c .before .e .given .1) in (
+      omega (arith, c .before .before .before .before .before .before .before .loop-test .taken),
+      t .inside,
+      judged-move (actsNumber (readActions n (c
+          .before .before .before .before .before .before .before .before .before .before .args .most) s)) n i left at s _ _ t (c .before .before .before
+          .before .before .before .before .before .loop .inv .2),
+    )
 
 enum-known-e-2 : tie.Need-enum-known-e-2 Inv-loop μ-loop
 enum-known-e-2 c = search needs
 
 add-at-3 : tie.Need-add-at-3 Inv-loop μ-loop
-add-at-3 c = 
+add-at-3 c =
     let s = c .before .before .before .before .before .before .before .before .before .before .args .s .now in
     let n = c .before .before .before .before .before .before .before .before .before .before .args .n in
     let at = c .before .before .before .before .before .before .before .before .loop .at in
@@ -135,7 +141,7 @@ loop-less-3 : tie.Need-loop-less-3 Inv-loop μ-loop
 loop-less-3 c = omega (arith, c .before .before .before .before .before .before .before .loop-test .taken)
 
 loop-again-3 : tie.Need-loop-again-3 Inv-loop μ-loop
-loop-again-3 c = 
+loop-again-3 c =
     let s = c .before .before .before .before .before .before .before .before .before .before .args .s .now in
     let n = c .before .before .before .before .before .before .before .before .before .before .args .n in
     let at = c .before .before .before .before .before .before .before .before .loop .at in
@@ -143,16 +149,19 @@ loop-again-3 c =
     let i = c .before .before .before .before .before .before .before .before .loop .i in
     let t = plain-turn (n - i) left at s _ _ (omega (arith, c .before .before .before .before .before .before .before .loop-test .taken)) (c .before
     .before .before .before .before .before .before .before .loop .inv .1) (c .before .before .before .before .rest .ensures) (c .before .before
-    .before .read-entry .ensures) _ _ (c .before .e2 .given .1) in
-    (omega (arith, c .before .before .before .before .before .before .before .loop-test .taken), t .inside, judged-plain (actsNumber (readActions n (c
-    .before .before .before .before .before .before .before .before .before .before .args .most) s)) n i left at s _ _ t (c .before .before .before
-    .before .before .before .before .before .loop .inv .2))
+    .before .read-entry .ensures) _ _ (c .before .e2 .given .1) in (
+      omega (arith, c .before .before .before .before .before .before .before .loop-test .taken),
+      t .inside,
+      judged-plain (actsNumber (readActions n (c
+          .before .before .before .before .before .before .before .before .before .before .args .most) s)) n i left at s _ _ t (c .before .before .before
+          .before .before .before .before .before .loop .inv .2),
+    )
 
 enum-known-e-3 : tie.Need-enum-known-e-3 Inv-loop μ-loop
 enum-known-e-3 c = search needs
 
 returns : tie.Need-returns Inv-loop μ-loop
-returns c = 
+returns c =
     let s = c .before .before .before .before .before .before .before .before .before .before .args .s .now in
     let n = c .before .before .before .before .before .before .before .before .before .before .args .n in
     let at = c .before .before .before .before .before .before .before .before .loop .at in
@@ -164,24 +173,24 @@ returns c =
     sym (c .before .before .before .before .before .before .before .before .loop .inv .2 ∙ ap actsNumber stop ∙ number-halted _)
 
 returns-2 : tie.Need-returns-2 Inv-loop μ-loop
-returns-2 c = 
+returns-2 c =
     let s = c .before .before .before .before .args .s .now in
     let n = c .before .before .before .before .args .n in
     let at = c .before .before .loop .at in
     let left = c .before .before .loop .left in
     let i = c .before .before .loop .i in
     judged-long (actsNumber (readActions n (c .before .before .before .before .args .most) s)) n i left at s (c .before .loop-test .left) (c .if2
-        .taken) (c .before .before .loop .inv .2)
+    .taken) (c .before .before .loop .inv .2)
 
 returns-3 : tie.Need-returns-3 Inv-loop μ-loop
-returns-3 c = 
+returns-3 c =
     let s = c .before .before .before .before .args .s .now in
     let n = c .before .before .before .before .args .n in
     let at = c .before .before .loop .at in
     let left = c .before .before .loop .left in
     let i = c .before .before .loop .i in
     judged-end (actsNumber (readActions n (c .before .before .before .before .args .most) s)) n i left at s (c .before .loop-test .left) (c .if2 .left)
-        (c .before .before .loop .inv .2)
+    (c .before .before .loop .inv .2)
 
 pub judge-actions-spec : {M : Type 1} → statement M
 judge-actions-spec =

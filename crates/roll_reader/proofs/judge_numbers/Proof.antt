@@ -45,11 +45,14 @@ loop-less : tie.Need-loop-less Inv-loop μ-loop
 loop-less c = search needs
 
 loop-again : tie.Need-loop-again Inv-loop μ-loop
-loop-again c = (omega (arith, c .before .before .before .before .before .before .before .loop-test .taken), number-turn (c .before .before .before
-    .before .before .before .before .before .loop .i) (c .before .before .before .before .before .before .before .before .before .before .args .s .now)
-    _ _ _ (c .before .before .before .before .before .before .before .loop-test .taken) (c .before .before .before .before .before .before .rest
-    .ensures) (c .before .before .before .before .before .read-number .ensures) (c .before .before .before .before .largest-at .ensures) _ _ _ (c
-    .before .before .x .given .1) (c .if1 .left) (c .before .before .before .before .before .before .before .before .loop .inv .1))
+loop-again c = (
+  omega (arith, c .before .before .before .before .before .before .before .loop-test .taken),
+  number-turn (c .before .before .before
+      .before .before .before .before .before .loop .i) (c .before .before .before .before .before .before .before .before .before .before .args .s .now)
+      _ _ _ (c .before .before .before .before .before .before .before .loop-test .taken) (c .before .before .before .before .before .before .rest
+      .ensures) (c .before .before .before .before .before .read-number .ensures) (c .before .before .before .before .largest-at .ensures) _ _ _ (c
+      .before .before .x .given .1) (c .if1 .left) (c .before .before .before .before .before .before .before .before .loop .inv .1),
+)
 
 enum-told : tie.Need-enum-told Inv-loop μ-loop
 enum-told c = search needs

@@ -46,8 +46,11 @@ returns-3 c = let j = over-count (c .before .before .before .before .before .bef
     .before .before .before .before .before .before .before .before .if1 .left) (c .before .before .before .before .before .before .before .before
     .judge-record .ensures) (c .before .before .before .before .before .before .before .if2 .left) (c .before .before .before .before .before .before
     .rest .ensures) (c .before .before .before .before .before .read-number .ensures) _ _ (c .before .before .before .count .given .1) (c .before .if3
-    .taken) in (c .refusal3 .ensures ∙ ap rollAnswer (sym j), over-refusal _ _ (c .before .before .before .before .before .before .before .before
-    .before .before .before .before .args .part .now) j)
+    .taken) in (
+      c .refusal3 .ensures ∙ ap rollAnswer (sym j),
+      over-refusal _ _ (c .before .before .before .before .before .before .before .before
+          .before .before .before .before .args .part .now) j,
+    )
 
 rest-requires-2 : tie.Need-rest-requires-2
 rest-requires-2 c κs = search needs
@@ -66,13 +69,22 @@ returns-4 c = let j = bad-actions _ _ _ _ _ (at-actions (c .before .before .befo
     .before .before .before .before .before .before .before .before .before .if2 .left) (c .before .before .before .before .before .before .before
     .before .before .rest .ensures) (c .before .before .before .before .before .before .before .before .read-number .ensures) _ _ _ (c .before .before
     .before .before .before .before .count .given .1) (c .before .before .before .before .if3 .left) (c .before .before .before .rest2 .ensures)) (c
-    .before .before .judge-actions .ensures) (c .before .if4 .taken) in
-    (c .refusal4 .ensures ∙ ap rollAnswer (sym j), over-refusal _ _ (c .before .before .before .before .before .before .before .before .before .before
-    .before .before .before .before .before .args .part .now) j)
+    .before .before .judge-actions .ensures) (c .before .if4 .taken) in (
+      c .refusal4 .ensures ∙ ap rollAnswer (sym j),
+      over-refusal _ _ (c .before .before .before .before .before .before .before .before .before .before
+          .before .before .before .before .before .args .part .now) j,
+    )
 
 write-actions-requires : tie.Need-write-actions-requires
-write-actions-requires c κs = (accepted-actions _ _ _ _ (c .before .before .judge-actions .ensures) (c .before .if4 .left), omega (arith, c .before
-    .before .before .before .before .before .before .before .before .before .before .before .if1 .left, c .before .before .before .before .if3 .left))
+write-actions-requires c κs = (
+  accepted-actions _ _ _ _ (c .before .before .judge-actions .ensures) (c .before .if4 .left),
+  omega (
+    arith,
+    c .before
+        .before .before .before .before .before .before .before .before .before .before .before .if1 .left,
+    c .before .before .before .before .if3 .left,
+  ),
+)
 
 board-at-requires : tie.Need-board-at-requires
 board-at-requires c κs = record-long (c .before .before .before .before .before .before .before .before .before .before .before .before .before .before
@@ -102,19 +114,24 @@ returns-5 c = let j = at-actions (c .before .before .before .before .before .bef
     .before .before .before .before .before .rest .ensures) (c .before .before .before .before .before .before .before .before .before .before .before
     .before .read-number .ensures) _ _ _ (c .before .before .before .before .before .before .before .before .before .before .count .given .1) (c
     .before .before .before .before .before .before .before .before .if3 .left) (c .before .before .before .before .before .before .before .rest2
-    .ensures) in (roll-answer _ (c .before .before .before .before .before .before .before .before .before .before .before .before .before .before
-    .before .before .before .before .before .args .s .now) _ _ _ j (accepted-actions _ _ _ _ (c .before .before .before .before .before .before
-    .judge-actions .ensures) (c .before .before .before .before .before .if4 .left)) (c .board-at .ensures), written-over _ _ _ _ (c .before .before
-    .before .before .before .before .before .before .before .before .before .before .before .before .before .before .before .before .before .args .part
-    .now) _ j (c .before .before .before .write-actions .ensures))
+    .ensures) in (
+      roll-answer _ (c .before .before .before .before .before .before .before .before .before .before .before .before .before .before
+          .before .before .before .before .before .args .s .now) _ _ _ j (accepted-actions _ _ _ _ (c .before .before .before .before .before .before
+          .judge-actions .ensures) (c .before .before .before .before .before .if4 .left)) (c .board-at .ensures),
+      written-over _ _ _ _ (c .before .before
+          .before .before .before .before .before .before .before .before .before .before .before .before .before .before .before .before .before .args .part
+          .now) _ j (c .before .before .before .write-actions .ensures),
+    )
 
 returns-6 : tie.Need-returns-6
 returns-6 c = let j = no-count (c .before .before .before .before .before .before .before .before .before .before .args .s .now) _ (length (c .before
     .before .before .before .before .before .before .before .before .before .args .part .now)) _ _ (c .before .before .before .before .before .before
     .before .if1 .left) (c .before .before .before .before .before .before .judge-record .ensures) (c .before .before .before .before .before .if2
-    .left) (c .before .before .before .before .rest .ensures) (c .before .before .before .read-number .ensures) (c .before .enum-told .given .1) in
-    (c .refusal5 .ensures ∙ ap rollAnswer (sym j), over-refusal _ _ (c .before .before .before .before .before .before .before .before .before .before
-    .args .part .now) j)
+    .left) (c .before .before .before .before .rest .ensures) (c .before .before .before .read-number .ensures) (c .before .enum-told .given .1) in (
+      c .refusal5 .ensures ∙ ap rollAnswer (sym j),
+      over-refusal _ _ (c .before .before .before .before .before .before .before .before .before .before
+          .args .part .now) j,
+    )
 
 pub read-spec : {M : Type 1} → statement M
 read-spec =

@@ -64,8 +64,12 @@ add-result c = search needs
 returns-8 : tie.Need-returns-8
 returns-8 c = short (c .before .before .before .before .before .before .before .before .before .before .args .s .now) (c .before .before .before
     .before .before .before .before .before .before .before .args .at) (c .before .before .before .before .before .before .before .before .before
-    .before .args .left) (c .before .before .before .before .before .before .before .before .before .if1 .left) (omega (arith, c .before .before
-    .before .before .before .before .before .before .if2 .left, c .before .before .before .before .before .before .before .if3 .left)) (c .before
+    .before .args .left) (c .before .before .before .before .before .before .before .before .before .if1 .left) (omega (
+      arith,
+      c .before .before
+          .before .before .before .before .before .before .if2 .left,
+      c .before .before .before .before .before .before .before .if3 .left,
+    )) (c .before
     .before .before .before .before .if4 .left) (c .before .before .before .if5 .left) (omega (arith, c .before .if6 .left)) (c .if7 .left)
 
 pub short-move-spec : {M : Type 1} → statement M

@@ -11,18 +11,22 @@ use Rattle.roll_reader.proofs.write_actions.Statement.{statement}
 use Rattle.roll_reader.proofs.write_actions.Tie as tie
 
 abbrev Inv-loop : tie.InvT-loop
-Inv-loop s n most out₀ at₀ left₀ i₀ out at left i = 
+Inv-loop s n most out₀ at₀ left₀ i₀ out at left i =
     (i ≤ n) × (at ≤ length s) × Wrote out₀ out s n most i left at
 
 abbrev μ-loop : tie.MeasureT-loop
 μ-loop s n most out₀ at₀ left₀ i₀ out at left i = n - i
 
 loop-holds : tie.Need-loop-holds Inv-loop μ-loop
-loop-holds c = (omega arith, omega arith, wrote-none (c .before .before .args .out .now) (c .before .before .args .s .now) (c .before .before .args .n)
-    (c .before .before .args .most))
+loop-holds c = (
+  omega arith,
+  omega arith,
+  wrote-none (c .before .before .args .out .now) (c .before .before .args .s .now) (c .before .before .args .n)
+      (c .before .before .args .most),
+)
 
 mul-to : tie.Need-mul-to Inv-loop μ-loop
-mul-to c = 
+mul-to c =
     let s = c .before .before .before .before .args .s .now in
     let part = c .before .before .before .before .args .out .now in
     let n = c .before .before .before .before .args .n in
@@ -39,7 +43,7 @@ short-move-requires : tie.Need-short-move-requires Inv-loop μ-loop
 short-move-requires c κs = search needs
 
 put-action-requires : tie.Need-put-action-requires Inv-loop μ-loop
-put-action-requires c κs = 
+put-action-requires c κs =
     let s = c .before .before .before .before .before .before .before .args .s .now in
     let part = c .before .before .before .before .before .before .before .args .out .now in
     let n = c .before .before .before .before .before .before .before .args .n in
@@ -56,7 +60,7 @@ put-action-requires c κs =
     (omega (arith, c .before .before .before .loop-test .taken, c .before .before .before .before .before .before .before .pre .1), t .last)
 
 add-at : tie.Need-add-at Inv-loop μ-loop
-add-at c = 
+add-at c =
     let s = c .before .before .before .before .before .before .before .before .before .before .args .s .now in
     let part = c .before .before .before .before .before .before .before .before .before .before .args .out .now in
     let n = c .before .before .before .before .before .before .before .before .before .before .args .n in
@@ -66,13 +70,16 @@ add-at c =
     let left = c .before .before .before .before .before .before .before .loop .left in
     let i = c .before .before .before .before .before .before .before .loop .i in
     let w = c .before .before .before .before .before .before .before .loop .inv .2 in
-    let t = short-turn (n - i) left at s (c .before .before .before .before .before .short-move .result) (omega (arith, c .before .before .before
-    .before .before .before .loop-test .taken)) (c .before .before .before .before .before .before .before .loop .inv .1) (c .before .before .before
+    let t = short-turn (n - i) left at s (c .before .before .before .before .before .short-move .result) (omega (
+      arith,
+      c .before .before .before
+          .before .before .before .loop-test .taken,
+    )) (c .before .before .before .before .before .before .before .loop .inv .1) (c .before .before .before
     .before .before .short-move .ensures .there (omega (arith, c .before .before .before .before .if1 .taken))) in
     omega (arith, t .inside)
 
 sub-left : tie.Need-sub-left Inv-loop μ-loop
-sub-left c = 
+sub-left c =
     let s = c .before .before .before .before .before .before .before .before .before .before .args .s .now in
     let part = c .before .before .before .before .before .before .before .before .before .before .args .out .now in
     let n = c .before .before .before .before .before .before .before .before .before .before .args .n in
@@ -82,8 +89,11 @@ sub-left c =
     let left = c .before .before .before .before .before .before .before .loop .left in
     let i = c .before .before .before .before .before .before .before .loop .i in
     let w = c .before .before .before .before .before .before .before .loop .inv .2 in
-    let t = short-turn (n - i) left at s (c .before .before .before .before .before .short-move .result) (omega (arith, c .before .before .before
-    .before .before .before .loop-test .taken)) (c .before .before .before .before .before .before .before .loop .inv .1) (c .before .before .before
+    let t = short-turn (n - i) left at s (c .before .before .before .before .before .short-move .result) (omega (
+      arith,
+      c .before .before .before
+          .before .before .before .loop-test .taken,
+    )) (c .before .before .before .before .before .before .before .loop .inv .1) (c .before .before .before
     .before .before .short-move .ensures .there (omega (arith, c .before .before .before .before .if1 .taken))) in
     t .some
 
@@ -94,7 +104,7 @@ loop-less : tie.Need-loop-less Inv-loop μ-loop
 loop-less c = omega (arith, c .before .before .before .before .before .before .loop-test .taken)
 
 loop-again : tie.Need-loop-again Inv-loop μ-loop
-loop-again c = 
+loop-again c =
     let s = c .before .before .before .before .before .before .before .before .before .before .args .s .now in
     let part = c .before .before .before .before .before .before .before .before .before .before .args .out .now in
     let n = c .before .before .before .before .before .before .before .before .before .before .args .n in
@@ -104,12 +114,18 @@ loop-again c =
     let left = c .before .before .before .before .before .before .before .loop .left in
     let i = c .before .before .before .before .before .before .before .loop .i in
     let w = c .before .before .before .before .before .before .before .loop .inv .2 in
-    let t = short-turn (n - i) left at s (c .before .before .before .before .before .short-move .result) (omega (arith, c .before .before .before
-    .before .before .before .loop-test .taken)) (c .before .before .before .before .before .before .before .loop .inv .1) (c .before .before .before
-    .before .before .short-move .ensures .there (omega (arith, c .before .before .before .before .if1 .taken))) in
-    (omega (arith, c .before .before .before .before .before .before .loop-test .taken), t .inside, wrote-more part out (c .before .before .put-action
-    .last .0) s n most i left at _ _ _ w refl (c .before .before .before .before .before .before .loop-test .taken) (c .before .before .before .before
-    .before .before .before .before .before .before .pre .1) (t .then) (c .before .before .put-action .ensures))
+    let t = short-turn (n - i) left at s (c .before .before .before .before .before .short-move .result) (omega (
+      arith,
+      c .before .before .before
+          .before .before .before .loop-test .taken,
+    )) (c .before .before .before .before .before .before .before .loop .inv .1) (c .before .before .before
+    .before .before .short-move .ensures .there (omega (arith, c .before .before .before .before .if1 .taken))) in (
+      omega (arith, c .before .before .before .before .before .before .loop-test .taken),
+      t .inside,
+      wrote-more part out (c .before .before .put-action
+          .last .0) s n most i left at _ _ _ w refl (c .before .before .before .before .before .before .loop-test .taken) (c .before .before .before .before
+          .before .before .before .before .before .before .pre .1) (t .then) (c .before .before .put-action .ensures),
+    )
 
 rest-requires : tie.Need-rest-requires Inv-loop μ-loop
 rest-requires c κs = search needs
@@ -124,7 +140,7 @@ enum-known-e : tie.Need-enum-known-e Inv-loop μ-loop
 enum-known-e c = search needs
 
 put-action-requires-2 : tie.Need-put-action-requires-2 Inv-loop μ-loop
-put-action-requires-2 c κs = 
+put-action-requires-2 c κs =
     let s = c .before .before .before .before .before .before .before .before .before .before .before .before .args .s .now in
     let part = c .before .before .before .before .before .before .before .before .before .before .before .before .args .out .now in
     let n = c .before .before .before .before .before .before .before .before .before .before .before .before .args .n in
@@ -138,12 +154,18 @@ put-action-requires-2 c κs =
     .before .before .before .before .before .before .before .before .before .loop .inv .1) (c .before .before .before .before .before .rest .ensures)
     (c .before .before .before .before .read-entry .ensures) _ _ (c .before .before .e .given .1) in
     let l = wrote-length part out s n most i left at w (c .before .before .before .before .before .before .before .before .before .loop .inv .0) (c
-    .before .before .before .before .before .before .before .before .before .before .before .before .pre .1) in
-    (omega (arith, c .before .before .before .before .before .before .before .before .loop-test .taken, c .before .before .before .before .before
-    .before .before .before .before .before .before .before .pre .1), t .last)
+    .before .before .before .before .before .before .before .before .before .before .before .before .pre .1) in (
+      omega (
+        arith,
+        c .before .before .before .before .before .before .before .before .loop-test .taken,
+        c .before .before .before .before .before
+            .before .before .before .before .before .before .before .pre .1,
+      ),
+      t .last,
+    )
 
 add-at-2 : tie.Need-add-at-2 Inv-loop μ-loop
-add-at-2 c = 
+add-at-2 c =
     let s = c .before .before .before .before .before .before .before .before .before .before .before .before .before .before .before .args .s .now in
     let part = c .before .before .before .before .before .before .before .before .before .before .before .before .before .before .before .args .out .now in
     let n = c .before .before .before .before .before .before .before .before .before .before .before .before .before .before .before .args .n in
@@ -153,14 +175,17 @@ add-at-2 c =
     let left = c .before .before .before .before .before .before .before .before .before .before .before .before .loop .left in
     let i = c .before .before .before .before .before .before .before .before .before .before .before .before .loop .i in
     let w = c .before .before .before .before .before .before .before .before .before .before .before .before .loop .inv .2 in
-    let t = move-turn (n - i) left at s _ _ (omega (arith, c .before .before .before .before .before .before .before .before .before .before .before
-    .loop-test .taken)) (c .before .before .before .before .before .before .before .before .before .before .before .before .loop .inv .1) (c .before
+    let t = move-turn (n - i) left at s _ _ (omega (
+      arith,
+      c .before .before .before .before .before .before .before .before .before .before .before
+          .loop-test .taken,
+    )) (c .before .before .before .before .before .before .before .before .before .before .before .before .loop .inv .1) (c .before
     .before .before .before .before .before .before .before .rest .ensures) (c .before .before .before .before .before .before .before .read-entry
     .ensures) _ _ (c .before .before .before .before .before .e .given .1) in
     omega (arith, t .inside)
 
 sub-left-2 : tie.Need-sub-left-2 Inv-loop μ-loop
-sub-left-2 c = 
+sub-left-2 c =
     let s = c .before .before .before .before .before .before .before .before .before .before .before .before .before .before .before .args .s .now in
     let part = c .before .before .before .before .before .before .before .before .before .before .before .before .before .before .before .args .out .now in
     let n = c .before .before .before .before .before .before .before .before .before .before .before .before .before .before .before .args .n in
@@ -170,8 +195,11 @@ sub-left-2 c =
     let left = c .before .before .before .before .before .before .before .before .before .before .before .before .loop .left in
     let i = c .before .before .before .before .before .before .before .before .before .before .before .before .loop .i in
     let w = c .before .before .before .before .before .before .before .before .before .before .before .before .loop .inv .2 in
-    let t = move-turn (n - i) left at s _ _ (omega (arith, c .before .before .before .before .before .before .before .before .before .before .before
-    .loop-test .taken)) (c .before .before .before .before .before .before .before .before .before .before .before .before .loop .inv .1) (c .before
+    let t = move-turn (n - i) left at s _ _ (omega (
+      arith,
+      c .before .before .before .before .before .before .before .before .before .before .before
+          .loop-test .taken,
+    )) (c .before .before .before .before .before .before .before .before .before .before .before .before .loop .inv .1) (c .before
     .before .before .before .before .before .before .before .rest .ensures) (c .before .before .before .before .before .before .before .read-entry
     .ensures) _ _ (c .before .before .before .before .before .e .given .1) in
     t .some
@@ -180,7 +208,7 @@ loop-less-2 : tie.Need-loop-less-2 Inv-loop μ-loop
 loop-less-2 c = omega (arith, c .before .before .before .before .before .before .before .before .before .before .before .loop-test .taken)
 
 loop-again-2 : tie.Need-loop-again-2 Inv-loop μ-loop
-loop-again-2 c = 
+loop-again-2 c =
     let s = c .before .before .before .before .before .before .before .before .before .before .before .before .before .before .before .args .s .now in
     let part = c .before .before .before .before .before .before .before .before .before .before .before .before .before .before .before .args .out .now in
     let n = c .before .before .before .before .before .before .before .before .before .before .before .before .before .before .before .args .n in
@@ -190,20 +218,26 @@ loop-again-2 c =
     let left = c .before .before .before .before .before .before .before .before .before .before .before .before .loop .left in
     let i = c .before .before .before .before .before .before .before .before .before .before .before .before .loop .i in
     let w = c .before .before .before .before .before .before .before .before .before .before .before .before .loop .inv .2 in
-    let t = move-turn (n - i) left at s _ _ (omega (arith, c .before .before .before .before .before .before .before .before .before .before .before
-    .loop-test .taken)) (c .before .before .before .before .before .before .before .before .before .before .before .before .loop .inv .1) (c .before
+    let t = move-turn (n - i) left at s _ _ (omega (
+      arith,
+      c .before .before .before .before .before .before .before .before .before .before .before
+          .loop-test .taken,
+    )) (c .before .before .before .before .before .before .before .before .before .before .before .before .loop .inv .1) (c .before
     .before .before .before .before .before .before .before .rest .ensures) (c .before .before .before .before .before .before .before .read-entry
-    .ensures) _ _ (c .before .before .before .before .before .e .given .1) in
-    (omega (arith, c .before .before .before .before .before .before .before .before .before .before .before .loop-test .taken), t .inside, wrote-more
-    part out (c .before .before .put-action2 .last .0) s n most i left at _ _ _ w refl (c .before .before .before .before .before .before .before
-    .before .before .before .before .loop-test .taken) (c .before .before .before .before .before .before .before .before .before .before .before
-    .before .before .before .before .pre .1) (t .then) (c .before .before .put-action2 .ensures))
+    .ensures) _ _ (c .before .before .before .before .before .e .given .1) in (
+      omega (arith, c .before .before .before .before .before .before .before .before .before .before .before .loop-test .taken),
+      t .inside,
+      wrote-more
+          part out (c .before .before .put-action2 .last .0) s n most i left at _ _ _ w refl (c .before .before .before .before .before .before .before
+          .before .before .before .before .loop-test .taken) (c .before .before .before .before .before .before .before .before .before .before .before
+          .before .before .before .before .pre .1) (t .then) (c .before .before .put-action2 .ensures),
+    )
 
 enum-known-e-2 : tie.Need-enum-known-e-2 Inv-loop μ-loop
 enum-known-e-2 c = search needs
 
 cast-put-action : tie.Need-cast-put-action Inv-loop μ-loop
-cast-put-action c = 
+cast-put-action c =
     let s = c .before .before .before .before .before .before .before .before .before .before .before .before .args .s .now in
     let part = c .before .before .before .before .before .before .before .before .before .before .before .before .args .out .now in
     let n = c .before .before .before .before .before .before .before .before .before .before .before .before .args .n in
@@ -219,7 +253,7 @@ cast-put-action c =
     omega (arith, code-range _ (t .is-code))
 
 cast-put-action-2 : tie.Need-cast-put-action-2 Inv-loop μ-loop
-cast-put-action-2 c = 
+cast-put-action-2 c =
     let s = c .before .before .before .before .before .before .before .before .before .before .before .before .args .s .now in
     let part = c .before .before .before .before .before .before .before .before .before .before .before .before .args .out .now in
     let n = c .before .before .before .before .before .before .before .before .before .before .before .before .args .n in
@@ -235,7 +269,7 @@ cast-put-action-2 c =
     omega (arith, code-range _ (t .is-code))
 
 put-action-requires-3 : tie.Need-put-action-requires-3 Inv-loop μ-loop
-put-action-requires-3 c κs = 
+put-action-requires-3 c κs =
     let s = c .before .before .before .before .before .before .before .before .before .before .before .before .args .s .now in
     let part = c .before .before .before .before .before .before .before .before .before .before .before .before .args .out .now in
     let n = c .before .before .before .before .before .before .before .before .before .before .before .before .args .n in
@@ -246,12 +280,18 @@ put-action-requires-3 c κs =
     let i = c .before .before .before .before .before .before .before .before .before .loop .i in
     let w = c .before .before .before .before .before .before .before .before .before .loop .inv .2 in
     let l = wrote-length part out s n most i left at w (c .before .before .before .before .before .before .before .before .before .loop .inv .0) (c
-    .before .before .before .before .before .before .before .before .before .before .before .before .pre .1) in
-    (omega (arith, c .before .before .before .before .before .before .before .before .loop-test .taken, c .before .before .before .before .before
-    .before .before .before .before .before .before .before .pre .1), omega arith)
+    .before .before .before .before .before .before .before .before .before .before .before .before .pre .1) in (
+      omega (
+        arith,
+        c .before .before .before .before .before .before .before .before .loop-test .taken,
+        c .before .before .before .before .before
+            .before .before .before .before .before .before .before .pre .1,
+      ),
+      omega arith,
+    )
 
 add-at-3 : tie.Need-add-at-3 Inv-loop μ-loop
-add-at-3 c = 
+add-at-3 c =
     let s = c .before .before .before .before .before .before .before .before .before .before .before .before .before .before .before .args .s .now in
     let part = c .before .before .before .before .before .before .before .before .before .before .before .before .before .before .before .args .out .now in
     let n = c .before .before .before .before .before .before .before .before .before .before .before .before .before .before .before .args .n in
@@ -261,8 +301,11 @@ add-at-3 c =
     let left = c .before .before .before .before .before .before .before .before .before .before .before .before .loop .left in
     let i = c .before .before .before .before .before .before .before .before .before .before .before .before .loop .i in
     let w = c .before .before .before .before .before .before .before .before .before .before .before .before .loop .inv .2 in
-    let t = plain-turn (n - i) left at s _ _ (omega (arith, c .before .before .before .before .before .before .before .before .before .before .before
-    .loop-test .taken)) (c .before .before .before .before .before .before .before .before .before .before .before .before .loop .inv .1) (c .before
+    let t = plain-turn (n - i) left at s _ _ (omega (
+      arith,
+      c .before .before .before .before .before .before .before .before .before .before .before
+          .loop-test .taken,
+    )) (c .before .before .before .before .before .before .before .before .before .before .before .before .loop .inv .1) (c .before
     .before .before .before .before .before .before .before .rest .ensures) (c .before .before .before .before .before .before .before .read-entry
     .ensures) _ _ (c .before .before .before .before .before .e2 .given .1) in
     omega (arith, t .inside)
@@ -271,7 +314,7 @@ loop-less-3 : tie.Need-loop-less-3 Inv-loop μ-loop
 loop-less-3 c = omega (arith, c .before .before .before .before .before .before .before .before .before .before .before .loop-test .taken)
 
 loop-again-3 : tie.Need-loop-again-3 Inv-loop μ-loop
-loop-again-3 c = 
+loop-again-3 c =
     let s = c .before .before .before .before .before .before .before .before .before .before .before .before .before .before .before .args .s .now in
     let part = c .before .before .before .before .before .before .before .before .before .before .before .before .before .before .before .args .out .now in
     let n = c .before .before .before .before .before .before .before .before .before .before .before .before .before .before .before .args .n in
@@ -281,20 +324,26 @@ loop-again-3 c =
     let left = c .before .before .before .before .before .before .before .before .before .before .before .before .loop .left in
     let i = c .before .before .before .before .before .before .before .before .before .before .before .before .loop .i in
     let w = c .before .before .before .before .before .before .before .before .before .before .before .before .loop .inv .2 in
-    let t = plain-turn (n - i) left at s _ _ (omega (arith, c .before .before .before .before .before .before .before .before .before .before .before
-    .loop-test .taken)) (c .before .before .before .before .before .before .before .before .before .before .before .before .loop .inv .1) (c .before
+    let t = plain-turn (n - i) left at s _ _ (omega (
+      arith,
+      c .before .before .before .before .before .before .before .before .before .before .before
+          .loop-test .taken,
+    )) (c .before .before .before .before .before .before .before .before .before .before .before .before .loop .inv .1) (c .before
     .before .before .before .before .before .before .before .rest .ensures) (c .before .before .before .before .before .before .before .read-entry
-    .ensures) _ _ (c .before .before .before .before .before .e2 .given .1) in
-    (omega (arith, c .before .before .before .before .before .before .before .before .before .before .before .loop-test .taken), t .inside, wrote-more
-    part out (c .before .before .put-action3 .last .0) s n most i left at _ _ _ w refl (c .before .before .before .before .before .before .before
-    .before .before .before .before .loop-test .taken) (c .before .before .before .before .before .before .before .before .before .before .before
-    .before .before .before .before .pre .1) (t .then) (c .before .before .put-action3 .ensures))
+    .ensures) _ _ (c .before .before .before .before .before .e2 .given .1) in (
+      omega (arith, c .before .before .before .before .before .before .before .before .before .before .before .loop-test .taken),
+      t .inside,
+      wrote-more
+          part out (c .before .before .put-action3 .last .0) s n most i left at _ _ _ w refl (c .before .before .before .before .before .before .before
+          .before .before .before .before .loop-test .taken) (c .before .before .before .before .before .before .before .before .before .before .before
+          .before .before .before .before .pre .1) (t .then) (c .before .before .put-action3 .ensures),
+    )
 
 enum-told : tie.Need-enum-told Inv-loop μ-loop
 enum-told c = search needs
 
 same-length : tie.Need-same-length Inv-loop μ-loop
-same-length c = 
+same-length c =
     let s = c .before .before .before .before .before .before .before .before .before .before .args .s .now in
     let part = c .before .before .before .before .before .before .before .before .before .before .args .out .now in
     let n = c .before .before .before .before .before .before .before .before .before .before .args .n in
@@ -305,10 +354,10 @@ same-length c =
     let i = c .before .before .before .before .before .before .before .loop .i in
     let w = c .before .before .before .before .before .before .before .loop .inv .2 in
     wrote-length part out s n most i left at w (c .before .before .before .before .before .before .before .loop .inv .0) (c .before .before .before
-        .before .before .before .before .before .before .before .pre .1)
+    .before .before .before .before .before .before .before .pre .1)
 
 returns : tie.Need-returns Inv-loop μ-loop
-returns c = 
+returns c =
     let s = c .before .before .before .before .before .before .before .before .before .before .args .s .now in
     let part = c .before .before .before .before .before .before .before .before .before .before .args .out .now in
     let n = c .before .before .before .before .before .before .before .before .before .before .args .n in
@@ -324,7 +373,7 @@ returns c =
     absurd (wrote-stopped part out s n most i left at _ w (c .before .before .before .before .before .before .before .before .before .before .pre .0) stop)
 
 same-length-2 : tie.Need-same-length-2 Inv-loop μ-loop
-same-length-2 c = 
+same-length-2 c =
     let s = c .before .before .before .before .args .s .now in
     let part = c .before .before .before .before .args .out .now in
     let n = c .before .before .before .before .args .n in
@@ -337,7 +386,7 @@ same-length-2 c =
     wrote-length part out s n most i left at w (c .before .loop .inv .0) (c .before .before .before .before .pre .1)
 
 returns-2 : tie.Need-returns-2 Inv-loop μ-loop
-returns-2 c = 
+returns-2 c =
     let s = c .before .before .before .before .args .s .now in
     let part = c .before .before .before .before .args .out .now in
     let n = c .before .before .before .before .args .n in

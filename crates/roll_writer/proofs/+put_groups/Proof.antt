@@ -62,8 +62,15 @@ put-groups-returns :
     (put-groups-at t)
     put-groups.Post
 put-groups-returns t c = let e = one-group (c .before .before .args .k) (c .before .before .args .n) (c .before .before .pre .1 .0 .0) (c .if1 .taken)
-    in (rw e, rw e (set-written (c .before .before .args .out .now) (c .before .before .args .at) (c .before .before .args .n) (omega (arith, ap length
-    e, c .before .before .pre .1 .1))))
+    in (
+      rw e,
+      rw e (set-written (c .before .before .args .out .now) (c .before .before .args .at) (c .before .before .args .n) (omega (
+        arith,
+        ap length
+            e,
+        c .before .before .pre .1 .1,
+      ))),
+    )
 
 put-groups-cast-out-2 : (t : ℕ) → put-groups-lts.Need-cast-out-2 (
   put-groups-below t,
@@ -103,13 +110,22 @@ put-groups-put-groups-requires : (t : ℕ) → put-groups-lts.Need-put-groups-re
   put-groups-below t,
   put-groups.Post,
 ) (put-groups-at t) put-groups.Post
-put-groups-put-groups-requires t c κs = 
+put-groups-put-groups-requires t c κs =
     let e = ap length (group-and-more (c .before .before .before .args .k) (c .before .before .before .args .n) (c .before .before .before .pre .1 .0
     .0) (c .before .if1 .left)) in
     let h = reach-next (c .before .before .before .args .k) (c .before .before .before .args .n) (c .before .before .before .pre .1 .0 .1) (c .before
-    .if1 .left) in
-    (omega (arith, c .before .before .before .pre .0, c .before .before .before .pre .1 .0 .0), (h, simp length-set (omega (arith, e, c .before .before
-    .before .pre .1 .1))))
+    .if1 .left) in (
+      omega (arith, c .before .before .before .pre .0, c .before .before .before .pre .1 .0 .0),
+      (
+        h,
+        simp length-set (omega (
+          arith,
+          e,
+          c .before .before
+              .before .pre .1 .1,
+        )),
+      ),
+    )
 
 put-groups-same-length-2 : (t : ℕ) → put-groups-lts.Need-same-length-2 (
   put-groups-below t,

@@ -17,7 +17,7 @@ move-size-requires : tie.Need-move-size-requires
 move-size-requires c κs = search needs
 
 returns : tie.Need-returns
-returns c = 
+returns c =
     let f = c .before .before .before .fields-at .ensures in
     let one = sym (ap (λ (x : Fields). x .kind) f) ∙ c .before .if1 .taken in
     let bs = drop (c .before .before .before .before .before .args .at) (c .before .before .before .before .before .args .acts .now) in (
@@ -36,7 +36,7 @@ plain-size-requires : tie.Need-plain-size-requires
 plain-size-requires c κs = search needs
 
 returns-2 : tie.Need-returns-2
-returns-2 c = 
+returns-2 c =
     let f = c .before .before .before .before .before .fields-at .ensures in
     let bs = drop (c .before .before .before .before .before .before .before .args .at) (c .before .before .before .before .before .before .before
     .args .acts .now) in

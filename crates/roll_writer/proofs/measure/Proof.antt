@@ -16,11 +16,11 @@ refused-requires : tie.Need-refused-requires
 refused-requires c κs = search needs
 
 returns : tie.Need-returns
-returns c = 
+returns c =
     refused-so _ _ (writeCheck limits (c .before .before .before .args .b) (c .before .before .before .args .acts .now) (c .before .before .before
-        .args .n)) (gameText (c .before .before .before .args .b) (c .before .before .before .args .acts .now) (c .before .before .before .args .n)) (c
-        .refused .ensures) (too-short (c .before .before .before .args .b) (c .before .before .before .args .acts .now) (c .before .before .before
-        .args .n) (c .before .if1 .taken)) (λ z. omega arith)
+    .args .n)) (gameText (c .before .before .before .args .b) (c .before .before .before .args .acts .now) (c .before .before .before .args .n)) (c
+    .refused .ensures) (too-short (c .before .before .before .args .b) (c .before .before .before .args .acts .now) (c .before .before .before
+    .args .n) (c .before .if1 .taken)) (λ z. omega arith)
 
 in-range-requires : tie.Need-in-range-requires
 in-range-requires c κs = search needs
@@ -29,26 +29,26 @@ refused-requires-2 : tie.Need-refused-requires-2
 refused-requires-2 c κs = search needs
 
 returns-2 : tie.Need-returns-2
-returns-2 c = 
+returns-2 c =
     refused-so _ _ (writeCheck limits (c .before .before .before .before .before .args .b) (c .before .before .before .before .before .args .acts .now)
-        (c .before .before .before .before .before .args .n)) (gameText (c .before .before .before .before .before .args .b) (c .before .before .before
-        .before .before .args .acts .now) (c .before .before .before .before .before .args .n)) (c .refused2 .ensures) (not-in-range (c .before .before
-        .before .before .before .args .b) (c .before .before .before .before .before .args .acts .now) (c .before .before .before .before .before .args
-        .n) (c .before .before .before .if1 .left) (sym (c .before .before .in-range .ensures) ∙ not-true (c .before .before .in-range .result) (c
-        .before .if2 .taken))) (λ z. omega arith)
+    (c .before .before .before .before .before .args .n)) (gameText (c .before .before .before .before .before .args .b) (c .before .before .before
+    .before .before .args .acts .now) (c .before .before .before .before .before .args .n)) (c .refused2 .ensures) (not-in-range (c .before .before
+    .before .before .before .args .b) (c .before .before .before .before .before .args .acts .now) (c .before .before .before .before .before .args
+    .n) (c .before .before .before .if1 .left) (sym (c .before .before .in-range .ensures) ∙ not-true (c .before .before .in-range .result) (c
+    .before .if2 .taken))) (λ z. omega arith)
 
 refused-requires-3 : tie.Need-refused-requires-3
 refused-requires-3 c κs = search needs
 
 returns-3 : tie.Need-returns-3
-returns-3 c = 
+returns-3 c =
     refused-so _ _ (writeCheck limits (c .before .before .before .before .before .before .args .b) (c .before .before .before .before .before .before
-        .args .acts .now) (c .before .before .before .before .before .before .args .n)) (gameText (c .before .before .before .before .before .before
-        .args .b) (c .before .before .before .before .before .before .args .acts .now) (c .before .before .before .before .before .before .args .n)) (c
-        .refused3 .ensures) (too-many (c .before .before .before .before .before .before .args .b) (c .before .before .before .before .before .before
-        .args .acts .now) (c .before .before .before .before .before .before .args .n) (c .before .before .before .before .if1 .left) (sym (c .before
-        .before .before .in-range .ensures) ∙ not-false (c .before .before .before .in-range .result) (c .before .before .if2 .left)) (c .before .if3
-        .taken)) (λ z. omega arith)
+    .args .acts .now) (c .before .before .before .before .before .before .args .n)) (gameText (c .before .before .before .before .before .before
+    .args .b) (c .before .before .before .before .before .before .args .acts .now) (c .before .before .before .before .before .before .args .n)) (c
+    .refused3 .ensures) (too-many (c .before .before .before .before .before .before .args .b) (c .before .before .before .before .before .before
+    .args .acts .now) (c .before .before .before .before .before .before .args .n) (c .before .before .before .before .if1 .left) (sym (c .before
+    .before .before .in-range .ensures) ∙ not-false (c .before .before .before .in-range .result) (c .before .before .if2 .left)) (c .before .if3
+    .taken)) (λ z. omega arith)
 
 too-many-moves-requires : tie.Need-too-many-moves-requires
 too-many-moves-requires c κs = search needs
@@ -57,16 +57,16 @@ refused-requires-4 : tie.Need-refused-requires-4
 refused-requires-4 c κs = search needs
 
 returns-4 : tie.Need-returns-4
-returns-4 c = 
+returns-4 c =
     refused-so _ _ (writeCheck limits (c .before .before .before .before .before .before .before .before .args .b) (c .before .before .before .before
-        .before .before .before .before .args .acts .now) (c .before .before .before .before .before .before .before .before .args .n)) (gameText (c
-        .before .before .before .before .before .before .before .before .args .b) (c .before .before .before .before .before .before .before .before
-        .args .acts .now) (c .before .before .before .before .before .before .before .before .args .n)) (c .refused4 .ensures) (too-many-moves (c
-        .before .before .before .before .before .before .before .before .args .b) (c .before .before .before .before .before .before .before .before
-        .args .acts .now) (c .before .before .before .before .before .before .before .before .args .n) (c .before .before .before .before .before
-        .before .if1 .left) (sym (c .before .before .before .before .before .in-range .ensures) ∙ not-false (c .before .before .before .before .before
-        .in-range .result) (c .before .before .before .before .if2 .left)) (c .before .before .before .if3 .left) (ltb-true _ _ (sym (c .before .before
-        .too-many-moves .ensures) ∙ c .before .if4 .taken))) (λ z. omega arith)
+    .before .before .before .before .args .acts .now) (c .before .before .before .before .before .before .before .before .args .n)) (gameText (c
+    .before .before .before .before .before .before .before .before .args .b) (c .before .before .before .before .before .before .before .before
+    .args .acts .now) (c .before .before .before .before .before .before .before .before .args .n)) (c .refused4 .ensures) (too-many-moves (c
+    .before .before .before .before .before .before .before .before .args .b) (c .before .before .before .before .before .before .before .before
+    .args .acts .now) (c .before .before .before .before .before .before .before .before .args .n) (c .before .before .before .before .before
+    .before .if1 .left) (sym (c .before .before .before .before .before .in-range .ensures) ∙ not-false (c .before .before .before .before .before
+    .in-range .result) (c .before .before .before .before .if2 .left)) (c .before .before .before .if3 .left) (ltb-true _ _ (sym (c .before .before
+    .too-many-moves .ensures) ∙ c .before .if4 .taken))) (λ z. omega arith)
 
 actions-size-requires : tie.Need-actions-size-requires
 actions-size-requires c κs = (omega (arith, c .before .before .before .before .before .if1 .left, c .before .before .if3 .left), c .before .before .if3 .left)
@@ -75,27 +75,31 @@ refused-requires-5 : tie.Need-refused-requires-5
 refused-requires-5 c κs = search needs
 
 returns-5 : tie.Need-returns-5
-returns-5 c = 
+returns-5 c =
     refused-so _ _ (writeCheck limits (c .before .before .before .before .before .before .before .before .before .before .args .b) (c .before .before
-        .before .before .before .before .before .before .before .before .args .acts .now) (c .before .before .before .before .before .before .before
-        .before .before .before .args .n)) (gameText (c .before .before .before .before .before .before .before .before .before .before .args .b) (c
-        .before .before .before .before .before .before .before .before .before .before .args .acts .now) (c .before .before .before .before .before
-        .before .before .before .before .before .args .n)) (c .refused5 .ensures) (no-action (c .before .before .before .before .before .before .before
-        .before .before .before .args .b) (c .before .before .before .before .before .before .before .before .before .before .args .acts .now) (c
-        .before .before .before .before .before .before .before .before .before .before .args .n) (c .before .before .before .before .before .before
-        .before .before .if1 .left) (sym (c .before .before .before .before .before .before .before .in-range .ensures) ∙ not-false (c .before .before
-        .before .before .before .before .before .in-range .result) (c .before .before .before .before .before .before .if2 .left)) (c .before .before
-        .before .before .before .if3 .left) (ltb-false _ _ (sym (c .before .before .before .before .too-many-moves .ensures) ∙ c .before .before
-        .before .if4 .left)) (size-none (c .before .before .before .before .before .before .before .before .before .before .args .acts .now) (c .before
-        .before .before .before .before .before .before .before .before .before .args .n) (c .before .before .actions-size .result) (c .before .before
-        .actions-size .ensures .0) (c .before .if5 .taken))) (λ z. omega arith)
+    .before .before .before .before .before .before .before .before .args .acts .now) (c .before .before .before .before .before .before .before
+    .before .before .before .args .n)) (gameText (c .before .before .before .before .before .before .before .before .before .before .args .b) (c
+    .before .before .before .before .before .before .before .before .before .before .args .acts .now) (c .before .before .before .before .before
+    .before .before .before .before .before .args .n)) (c .refused5 .ensures) (no-action (c .before .before .before .before .before .before .before
+    .before .before .before .args .b) (c .before .before .before .before .before .before .before .before .before .before .args .acts .now) (c
+    .before .before .before .before .before .before .before .before .before .before .args .n) (c .before .before .before .before .before .before
+    .before .before .if1 .left) (sym (c .before .before .before .before .before .before .before .in-range .ensures) ∙ not-false (c .before .before
+    .before .before .before .before .before .in-range .result) (c .before .before .before .before .before .before .if2 .left)) (c .before .before
+    .before .before .before .if3 .left) (ltb-false _ _ (sym (c .before .before .before .before .too-many-moves .ensures) ∙ c .before .before
+    .before .if4 .left)) (size-none (c .before .before .before .before .before .before .before .before .before .before .args .acts .now) (c .before
+    .before .before .before .before .before .before .before .before .before .args .n) (c .before .before .actions-size .result) (c .before .before
+    .actions-size .ensures .0) (c .before .if5 .taken))) (λ z. omega arith)
 
 number-length-requires : tie.Need-number-length-requires
 number-length-requires c κs = search needs
 
 add-accepted : tie.Need-add-accepted
-add-accepted c = omega (arith, c .number-length .ensures, groups-most 5 (c .before .before .before .before .before .before .before .before .before
-    .before .args .n))
+add-accepted c = omega (
+  arith,
+  c .number-length .ensures,
+  groups-most 5 (c .before .before .before .before .before .before .before .before .before
+      .before .args .n),
+)
 
 sub-accepted : tie.Need-sub-accepted
 sub-accepted c = search needs
@@ -109,7 +113,7 @@ accepted-requires : tie.Need-accepted-requires
 accepted-requires c κs = search needs
 
 returns-6 : tie.Need-returns-6
-returns-6 c = 
+returns-6 c =
     let all = size-all (c .before .before .before .before .before .before .before .before .before .before .before .args .acts .now) (c .before .before
     .before .before .before .before .before .before .before .before .before .args .n) (c .before .before .before .actions-size .result) (c .before
     .before .before .actions-size .ensures .0) (c .before .before .if5 .left) in
@@ -121,13 +125,18 @@ returns-6 c =
     .before .before .before .before .before .if3 .left) (ltb-false _ _ (sym (c .before .before .before .before .before .too-many-moves .ensures) ∙ c
     .before .before .before .before .if4 .left)) (all .held) in
     accepted-so _ _ (writeCheck limits (c .before .before .before .before .before .before .before .before .before .before .before .args .b) (c .before
-        .before .before .before .before .before .before .before .before .before .before .args .acts .now) (c .before .before .before .before .before
-        .before .before .before .before .before .before .args .n)) (gameText (c .before .before .before .before .before .before .before .before .before
-        .before .before .args .b) (c .before .before .before .before .before .before .before .before .before .before .before .args .acts .now) (c
-        .before .before .before .before .before .before .before .before .before .before .before .args .n)) (c .accepted .ensures) check
-    (omega (arith, text-long (c .before .before .before .before .before .before .before .before .before .before .before .args .b) (c .before .before
-    .before .before .before .before .before .before .before .before .before .args .acts .now) (c .before .before .before .before .before .before
-    .before .before .before .before .before .args .n) good, all .long, c .before .number-length .ensures))
+    .before .before .before .before .before .before .before .before .before .before .args .acts .now) (c .before .before .before .before .before
+    .before .before .before .before .before .before .args .n)) (gameText (c .before .before .before .before .before .before .before .before .before
+    .before .before .args .b) (c .before .before .before .before .before .before .before .before .before .before .before .args .acts .now) (c
+    .before .before .before .before .before .before .before .before .before .before .before .args .n)) (c .accepted .ensures) check
+    (omega (
+      arith,
+      text-long (c .before .before .before .before .before .before .before .before .before .before .before .args .b) (c .before .before
+          .before .before .before .before .before .before .before .before .before .args .acts .now) (c .before .before .before .before .before .before
+          .before .before .before .before .before .args .n) good,
+      all .long,
+      c .before .number-length .ensures,
+    ))
 
 pub measure-spec : {M : Type 1} → statement M
 measure-spec =

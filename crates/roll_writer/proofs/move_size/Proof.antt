@@ -20,10 +20,12 @@ add-result : tie.Need-add-result
 add-result c = omega (arith, c .number-length .ensures, small-number (c .before .before .before .args .number) (omega (arith, c .before .if2 .left)))
 
 returns-3 : tie.Need-returns-3
-returns-3 c = 
-    let few = small-number (c .before .before .before .args .number) (omega (arith, c .before .if2 .left)) in
-    (ap (λ (k : ℕ). 1 + k) (c .number-length .ensures) ∙ move-there (c .before .before .before .args .colour) (c .before .before .before .args .number)
-    (c .before .before .if1 .left) (c .before .if2 .left), omega (arith, few, c .number-length .ensures))
+returns-3 c =
+    let few = small-number (c .before .before .before .args .number) (omega (arith, c .before .if2 .left)) in (
+      ap (λ (k : ℕ). 1 + k) (c .number-length .ensures) ∙ move-there (c .before .before .before .args .colour) (c .before .before .before .args .number)
+          (c .before .before .if1 .left) (c .before .if2 .left),
+      omega (arith, few, c .number-length .ensures),
+    )
 
 pub move-size-spec : {M : Type 1} → statement M
 move-size-spec = tie.close (tie.spec returns returns-2 number-length-requires add-result returns-3)

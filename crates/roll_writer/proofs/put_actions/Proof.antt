@@ -17,8 +17,11 @@ abbrev μ-loop : tie.MeasureT-loop
 μ-loop acts n out₀ from at₀ i₀ out at i = n - i
 
 loop-holds : tie.Need-loop-holds Inv-loop μ-loop
-loop-holds c = (omega arith, so-far-none (c .before .before .args .acts .now) (c .before .before .args .out .now) (c .before .before .args .from) (c
-    .before .before .args .n))
+loop-holds c = (
+  omega arith,
+  so-far-none (c .before .before .args .acts .now) (c .before .before .args .out .now) (c .before .before .args .from) (c
+      .before .before .args .n),
+)
 
 mul-fields-at : tie.Need-mul-fields-at Inv-loop μ-loop
 mul-fields-at c = omega (arith, c .loop-test .taken, c .before .before .before .before .pre .0)
@@ -27,7 +30,7 @@ fields-at-requires : tie.Need-fields-at-requires Inv-loop μ-loop
 fields-at-requires c κs = omega (arith, c .loop-test .taken, c .before .before .before .before .pre .0)
 
 put-text-requires : tie.Need-put-text-requires Inv-loop μ-loop
-put-text-requires c κs = 
+put-text-requires c κs =
     let acts = c .before .before .before .before .before .before .args .acts .now in
     let l = c .before .before .before .before .before .before .args .out .now in
     let t = drop (4 * c .before .before .before .loop .i) acts in
@@ -44,7 +47,7 @@ loop-less : tie.Need-loop-less Inv-loop μ-loop
 loop-less c = omega (arith, c .before .before .before .before .before .loop-test .taken)
 
 loop-again : tie.Need-loop-again Inv-loop μ-loop
-loop-again c = 
+loop-again c =
     let acts = c .before .before .before .before .before .before .before .before .before .args .acts .now in
     let l = c .before .before .before .before .before .before .before .before .before .args .out .now in
     let t = drop (4 * c .before .before .before .before .before .before .loop .i) acts in
@@ -55,7 +58,7 @@ loop-again c =
     (actionText (f .kind) (f .colour) (f .number))) (c .before .before .before .before .fields-at .ensures) in (
       omega (arith, c .before .before .before .before .before .loop-test .taken),
       rw end
-      (so-far-more acts l (c .before .before .before .before .before .before .loop .out) (c .before .before .put-text .last .0) (c .before .before
+          (so-far-more acts l (c .before .before .before .before .before .before .loop .out) (c .before .before .put-text .last .0) (c .before .before
           .before .before .before .before .before .before .before .args .from) (c .before .before .before .before .before .before .before .before
           .before .args .n) (c .before .before .before .before .before .before .loop .i) at t (c .before .before .before .before .before .before .loop
           .inv .1) (c .before .before .before .before .before .loop-test .taken) refl (c .before .before .before .before .before .before .before

@@ -14,7 +14,7 @@ use Rattle.roll_writer.proofs.put_short.Statement.{statement}
 use Rattle.roll_writer.proofs.put_short.Tie as tie
 
 slice-write-out : tie.Need-slice-write-out
-slice-write-out c = 
+slice-write-out c =
     let text = short-text (c .args .number) (c .pre .0 .least) (c .pre .0 .most) in
     omega (arith, c .pre .1, ap length text)
 
@@ -28,7 +28,7 @@ add-out-2 : tie.Need-add-out-2
 add-out-2 c = search needs
 
 slice-write-out-2 : tie.Need-slice-write-out-2
-slice-write-out-2 c = 
+slice-write-out-2 c =
     let text = short-text (c .args .number) (c .pre .0 .least) (c .pre .0 .most) in
     simp length-set (omega (arith, c .pre .1, ap length text))
 
@@ -39,7 +39,7 @@ add-out-3 : tie.Need-add-out-3
 add-out-3 c = search needs
 
 slice-write-out-3 : tie.Need-slice-write-out-3
-slice-write-out-3 c = 
+slice-write-out-3 c =
     let text = short-text (c .args .number) (c .pre .0 .least) (c .pre .0 .most) in
     simp length-set (omega (arith, c .pre .1, ap length text))
 
@@ -50,7 +50,7 @@ same-length : tie.Need-same-length
 same-length c = search needs
 
 returns : tie.Need-returns
-returns c = 
+returns c =
     let text = short-text (c .args .number) (c .pre .0 .least) (c .pre .0 .most) in
     let n = c .args .number in
     let put = three-put (c .args .out .now) (c .args .at) 2 (128 + n % 128) (n / 128) (omega (arith, c .pre .1, ap length text)) in

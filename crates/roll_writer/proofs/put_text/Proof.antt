@@ -17,7 +17,7 @@ is-short-requires : tie.Need-is-short-requires
 is-short-requires c κs = search needs
 
 put-short-requires : tie.Need-put-short-requires
-put-short-requires c κs = 
+put-short-requires c κs =
     let s = c .before .before .is-short .ensures (c .before .if1 .taken) in
     let same = ap₂ (λ (x y : ℕ). actionText x y (c .before .before .before .before .args .number)) (s .moves) (s .none) in
     (record { moves = refl; none = refl; least = s .least; most = s .most }, omega (arith, c .before .before .before .before .pre, ap length same))
@@ -26,78 +26,92 @@ same-length : tie.Need-same-length
 same-length c = search needs
 
 returns : tie.Need-returns
-returns c = 
+returns c =
     let s = c .before .before .before .before .before .is-short .ensures (c .before .before .before .before .if1 .taken) in
-    let same = ap₂ (λ (x y : ℕ). actionText x y (c .before .before .before .before .before .before .before .args .number)) (s .moves) (s .none) in
-    (omega (arith, c .before .before .put-short .ensures .0, ap length same), c .before .before .put-short .ensures .1 ∙ ap (written (c .before .before
-    .before .before .before .before .before .args .out .now) (c .before .before .before .before .before .before .before .args .at)) (sym same))
+    let same = ap₂ (λ (x y : ℕ). actionText x y (c .before .before .before .before .before .before .before .args .number)) (s .moves) (s .none) in (
+      omega (arith, c .before .before .put-short .ensures .0, ap length same),
+      c .before .before .put-short .ensures .1 ∙ ap (written (c .before .before
+          .before .before .before .before .before .args .out .now) (c .before .before .before .before .before .before .before .args .at)) (sym same),
+    )
 
 code-of-requires : tie.Need-code-of-requires
 code-of-requires c κs = search needs
 
 put-groups-requires : tie.Need-put-groups-requires
-put-groups-requires c κs = ((omega arith, omega (arith, reach-five, c .code-of .ensures)), code-fits (c .before .before .before .before .before .before
-    .args .out .now) (c .before .before .before .before .before .before .args .kind) (c .before .before .before .before .before .before .args .colour)
-    (c .before .before .before .before .before .before .args .number) (c .before .before .before .before .before .before .args .at) (c .code-of
-    .result) (c .code-of .ensures) (c .before .before .before .before .before .before .pre) (c .before .before .if2 .taken))
+put-groups-requires c κs = (
+  (omega arith, omega (arith, reach-five, c .code-of .ensures)),
+  code-fits (c .before .before .before .before .before .before
+      .args .out .now) (c .before .before .before .before .before .before .args .kind) (c .before .before .before .before .before .before .args .colour)
+      (c .before .before .before .before .before .before .args .number) (c .before .before .before .before .before .before .args .at) (c .code-of
+      .result) (c .code-of .ensures) (c .before .before .before .before .before .before .pre) (c .before .before .if2 .taken),
+)
 
 put-groups-requires-2 : tie.Need-put-groups-requires-2
-put-groups-requires-2 c κs = ((omega arith, omega (arith, reach-five)), number-fits (c .before .before .before .before .before .before .before .before
-    .before .before .args .out .now) (c .before .before .before .before .before .before .before .before .before .before .args .kind) (c .before .before
-    .before .before .before .before .before .before .before .before .args .colour) (c .before .before .before .before .before .before .before .before
-    .before .before .args .number) (c .before .before .before .before .before .before .before .before .before .before .args .at) (c .before .before
-    .before .before .code-of .result) (c .before .before .before .before .code-of .ensures) (c .before .before .before .before .before .before .before
-    .before .before .before .pre) (c .before .before .before .before .before .before .if2 .taken) (c .before .before .before .put-groups .last .0) (c
-    .before .before .before .put-groups .result) (c .before .before .before .put-groups .ensures .0) (c .before .before .before .put-groups .ensures .1))
+put-groups-requires-2 c κs = (
+  (omega arith, omega (arith, reach-five)),
+  number-fits (c .before .before .before .before .before .before .before .before
+      .before .before .args .out .now) (c .before .before .before .before .before .before .before .before .before .before .args .kind) (c .before .before
+      .before .before .before .before .before .before .before .before .args .colour) (c .before .before .before .before .before .before .before .before
+      .before .before .args .number) (c .before .before .before .before .before .before .before .before .before .before .args .at) (c .before .before
+      .before .before .code-of .result) (c .before .before .before .before .code-of .ensures) (c .before .before .before .before .before .before .before
+      .before .before .before .pre) (c .before .before .before .before .before .before .if2 .taken) (c .before .before .before .put-groups .last .0) (c
+      .before .before .before .put-groups .result) (c .before .before .before .put-groups .ensures .0) (c .before .before .before .put-groups .ensures .1),
+)
 
 same-length-2 : tie.Need-same-length-2
 same-length-2 c = search needs
 
 returns-2 : tie.Need-returns-2
-returns-2 c = 
-    (move-end (c .before .before .before .before .before .before .before .before .before .before .before .before .before .args .out .now) (c .before
-    .before .before .before .before .before .before .before .before .before .before .before .before .args .kind) (c .before .before .before .before
-    .before .before .before .before .before .before .before .before .before .args .colour) (c .before .before .before .before .before .before .before
-    .before .before .before .before .before .before .args .number) (c .before .before .before .before .before .before .before .before .before .before
-    .before .before .before .args .at) (c .before .before .before .before .before .before .before .code-of .result) (c .before .before .before .before
-    .before .before .before .code-of .ensures) (c .before .before .before .before .before .before .before .before .before .before .before .before
-    .before .pre) (c .before .before .before .before .before .before .before .before .before .if2 .taken) (c .before .before .before .before .before
-    .before .put-groups .last .0) (c .before .before .before .before .before .before .put-groups .result) (c .before .before .before .before .before
-    .before .put-groups .ensures .0) (c .before .before .before .before .before .before .put-groups .ensures .1) (c .before .before .put-groups2
-    .result) (c .before .before .put-groups2 .ensures .0),
-    move-put (c .before .before .before .before .before .before .before .before .before .before .before .before .before .args .out .now) (c .before
-        .before .before .before .before .before .before .before .before .before .before .before .before .args .kind) (c .before .before .before .before
-        .before .before .before .before .before .before .before .before .before .args .colour) (c .before .before .before .before .before .before
-        .before .before .before .before .before .before .before .args .number) (c .before .before .before .before .before .before .before .before
-        .before .before .before .before .before .args .at) (c .before .before .before .before .before .before .before .code-of .result) (c .before
-        .before .before .before .before .before .before .code-of .ensures) (c .before .before .before .before .before .before .before .before .before
-        .before .before .before .before .pre) (c .before .before .before .before .before .before .before .before .before .if2 .taken) (c .before
-        .before .before .before .before .before .put-groups .last .0) (c .before .before .before .before .before .before .put-groups .result) (c
-        .before .before .before .before .before .before .put-groups .ensures .0) (c .before .before .before .before .before .before .put-groups
-        .ensures .1) (c .before .before .put-groups2 .last .0) (c .before .before .put-groups2 .ensures .1))
+returns-2 c = (
+  move-end (c .before .before .before .before .before .before .before .before .before .before .before .before .before .args .out .now) (c .before
+      .before .before .before .before .before .before .before .before .before .before .before .before .args .kind) (c .before .before .before .before
+      .before .before .before .before .before .before .before .before .before .args .colour) (c .before .before .before .before .before .before .before
+      .before .before .before .before .before .before .args .number) (c .before .before .before .before .before .before .before .before .before .before
+      .before .before .before .args .at) (c .before .before .before .before .before .before .before .code-of .result) (c .before .before .before .before
+      .before .before .before .code-of .ensures) (c .before .before .before .before .before .before .before .before .before .before .before .before
+      .before .pre) (c .before .before .before .before .before .before .before .before .before .if2 .taken) (c .before .before .before .before .before
+      .before .put-groups .last .0) (c .before .before .before .before .before .before .put-groups .result) (c .before .before .before .before .before
+      .before .put-groups .ensures .0) (c .before .before .before .before .before .before .put-groups .ensures .1) (c .before .before .put-groups2
+      .result) (c .before .before .put-groups2 .ensures .0),
+  move-put (c .before .before .before .before .before .before .before .before .before .before .before .before .before .args .out .now) (c .before
+      .before .before .before .before .before .before .before .before .before .before .before .before .args .kind) (c .before .before .before .before
+      .before .before .before .before .before .before .before .before .before .args .colour) (c .before .before .before .before .before .before
+      .before .before .before .before .before .before .before .args .number) (c .before .before .before .before .before .before .before .before
+      .before .before .before .before .before .args .at) (c .before .before .before .before .before .before .before .code-of .result) (c .before
+      .before .before .before .before .before .before .code-of .ensures) (c .before .before .before .before .before .before .before .before .before
+      .before .before .before .before .pre) (c .before .before .before .before .before .before .before .before .before .if2 .taken) (c .before
+      .before .before .before .before .before .put-groups .last .0) (c .before .before .before .before .before .before .put-groups .result) (c
+      .before .before .before .before .before .before .put-groups .ensures .0) (c .before .before .before .before .before .before .put-groups
+      .ensures .1) (c .before .before .put-groups2 .last .0) (c .before .before .put-groups2 .ensures .1),
+)
 
 code-of-requires-2 : tie.Need-code-of-requires-2
 code-of-requires-2 c κs = search needs
 
 put-groups-requires-3 : tie.Need-put-groups-requires-3
-put-groups-requires-3 c κs = ((omega arith, omega (arith, reach-five, c .code-of2 .ensures)), plain-fits (c .before .before .before .before .before
-    .before .args .out .now) (c .before .before .before .before .before .before .args .kind) (c .before .before .before .before .before .before .args
-    .colour) (c .before .before .before .before .before .before .args .number) (c .before .before .before .before .before .before .args .at) (c
-    .code-of2 .result) (c .code-of2 .ensures) (c .before .before .before .before .before .before .pre) (c .before .before .if2 .left))
+put-groups-requires-3 c κs = (
+  (omega arith, omega (arith, reach-five, c .code-of2 .ensures)),
+  plain-fits (c .before .before .before .before .before
+      .before .args .out .now) (c .before .before .before .before .before .before .args .kind) (c .before .before .before .before .before .before .args
+      .colour) (c .before .before .before .before .before .before .args .number) (c .before .before .before .before .before .before .args .at) (c
+      .code-of2 .result) (c .code-of2 .ensures) (c .before .before .before .before .before .before .pre) (c .before .before .if2 .left),
+)
 
 same-length-3 : tie.Need-same-length-3
 same-length-3 c = search needs
 
 returns-3 : tie.Need-returns-3
-returns-3 c = 
+returns-3 c =
     let is = plain-is (c .before .before .before .before .before .before .before .before .before .args .out .now) (c .before .before .before .before
     .before .before .before .before .before .args .kind) (c .before .before .before .before .before .before .before .before .before .args .colour) (c
     .before .before .before .before .before .before .before .before .before .args .number) (c .before .before .before .before .before .before .before
     .before .before .args .at) (c .before .before .before .code-of2 .result) (c .before .before .before .code-of2 .ensures) (c .before .before .before
-    .before .before .before .before .before .before .pre) (c .before .before .before .before .before .if2 .left) in
-    (c .before .before .put-groups3 .ensures .0 ∙ ap (λ (t : List ℕ). c .before .before .before .before .before .before .before .before .before .args
-    .at + length t) is, c .before .before .put-groups3 .ensures .1 ∙ ap (written (c .before .before .before .before .before .before .before .before
-    .before .args .out .now) (c .before .before .before .before .before .before .before .before .before .args .at)) is)
+    .before .before .before .before .before .before .pre) (c .before .before .before .before .before .if2 .left) in (
+      c .before .before .put-groups3 .ensures .0 ∙ ap (λ (t : List ℕ). c .before .before .before .before .before .before .before .before .before .args
+          .at + length t) is,
+      c .before .before .put-groups3 .ensures .1 ∙ ap (written (c .before .before .before .before .before .before .before .before
+          .before .args .out .now) (c .before .before .before .before .before .before .before .before .before .args .at)) is,
+    )
 
 pub put-text-spec : {M : Type 1} → statement M
 put-text-spec =

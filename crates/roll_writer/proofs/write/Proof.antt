@@ -19,7 +19,7 @@ measure-requires : tie.Need-measure-requires
 measure-requires c κs = search needs
 
 returns : tie.Need-returns
-returns c = 
+returns c =
     let w = not-accepted (c .before .before .measure .result) (writeCheck limits (c .before .before .before .before .before .args .b) (c .before
     .before .before .before .before .args .acts .now) (c .before .before .before .before .before .args .n)) (gameText (c .before .before .before
     .before .before .args .b) (c .before .before .before .before .before .args .acts .now) (c .before .before .before .before .before .args .n)) (c
@@ -27,7 +27,7 @@ returns c =
     (w .answer, w .bytes)
 
 returns-2 : tie.Need-returns-2
-returns-2 c = 
+returns-2 c =
     let m = was-accepted (c .before .before .before .before .measure .result) (writeCheck limits (c .before .before .before .before .before .before
     .before .args .b) (c .before .before .before .before .before .before .before .args .acts .now) (c .before .before .before .before .before .before
     .before .args .n)) (gameText (c .before .before .before .before .before .before .before .args .b) (c .before .before .before .before .before
@@ -40,7 +40,7 @@ returns-2 c =
     rw (m .passed) (ap tooShort value ∙ w .answer, w .bytes)
 
 put-requires : tie.Need-put-requires
-put-requires c κs = 
+put-requires c κs =
     let m = was-accepted (c .before .before .before .before .before .measure .result) (writeCheck limits (c .before .before .before .before .before
     .before .before .before .args .b) (c .before .before .before .before .before .before .before .before .args .acts .now) (c .before .before .before
     .before .before .before .before .before .args .n)) (gameText (c .before .before .before .before .before .before .before .before .args .b) (c
@@ -53,7 +53,7 @@ same-length : tie.Need-same-length
 same-length c = search needs
 
 returns-3 : tie.Need-returns-3
-returns-3 c = 
+returns-3 c =
     let m = was-accepted (c .before .before .before .before .before .before .before .before .measure .result) (writeCheck limits (c .before .before
     .before .before .before .before .before .before .before .before .before .args .b) (c .before .before .before .before .before .before .before
     .before .before .before .before .args .acts .now) (c .before .before .before .before .before .before .before .before .before .before .before .args
@@ -70,10 +70,13 @@ returns-3 c =
     .before .before .before .before .before .before .before .before .before .before .args .acts .now) (c .before .before .before .before .before
     .before .before .before .before .before .before .args .n)) (c .before .before .before .before .before .before .before .before .before .before
     .before .args .out .now) fits in
-    rw (m .passed) (m .told ∙ w .answer, c .before .before .put .ensures ∙ sym (over-front (gameText (c .before .before .before .before .before .before
-        .before .before .before .before .before .args .b) (c .before .before .before .before .before .before .before .before .before .before .before
-        .args .acts .now) (c .before .before .before .before .before .before .before .before .before .before .before .args .n)) (c .before .before
-        .before .before .before .before .before .before .before .before .before .args .out .now) fits))
+    rw (m .passed) (
+      m .told ∙ w .answer,
+      c .before .before .put .ensures ∙ sym (over-front (gameText (c .before .before .before .before .before .before
+          .before .before .before .before .before .args .b) (c .before .before .before .before .before .before .before .before .before .before .before
+          .args .acts .now) (c .before .before .before .before .before .before .before .before .before .before .before .args .n)) (c .before .before
+          .before .before .before .before .before .before .before .before .before .args .out .now) fits),
+    )
 
 pub write-spec : {M : Type 1} → statement M
 write-spec =

@@ -34,8 +34,7 @@ push-requires-5 c κs =
     let at-push = c .before .before .before .before .before .before .before .push in
     let at-push2 = c .before .before .before .before .before .push2 in
     let at-push3 = c .before .before .before .push3 in
-    let at-push4 = c .before .push4 in
-    (
+    let at-push4 = c .before .push4 in (
       at-push4 .ensures .long,
       omega (arith, at-push .ensures .pushed .count, at-push2 .ensures .pushed .count, at-push3 .ensures .pushed .count, at-push4 .ensures .pushed .count),
     )

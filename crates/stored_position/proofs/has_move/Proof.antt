@@ -65,9 +65,10 @@ loop-again c =
     let at-loop-test = c .before .before .before .loop-test in
     let s = a .s .now in
     let i = at-loop .i in
-    let left = among (a .m) (movesLeft s (a .entries) (i + 1)) in
-    (omega (arith, at-loop-test .taken),
-    ap (λ (t : Bool). t || left) (c .either .ensures) ∙ look-turn s (a .m) (a .entries) i (at-loop .found) (at-loop-test .taken) ∙ at-loop .inv .1)
+    let left = among (a .m) (movesLeft s (a .entries) (i + 1)) in (
+      omega (arith, at-loop-test .taken),
+      ap (λ (t : Bool). t || left) (c .either .ensures) ∙ look-turn s (a .m) (a .entries) i (at-loop .found) (at-loop-test .taken) ∙ at-loop .inv .1,
+    )
 
 returns : tie.Need-returns Inv-loop μ-loop
 returns c =

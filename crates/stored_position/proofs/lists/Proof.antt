@@ -69,12 +69,13 @@ loop-again : tie.Need-loop-again Inv-loop μ-loop
 loop-again c =
     let a = c .before .before .before .before .before .before .before .before .before .args in
     let at-loop = c .before .before .before .before .before .loop in
-    let at-loop-test = c .before .before .before .before .loop-test in
-    (omega (arith, at-loop-test .taken),
-    at-loop .inv .1,
-    sym (lists-turn (a .s .now) (a .m) (getD (a .s .now) lengthAt 0) (at-loop .i) (at-loop-test .taken)
-    (λ e. c .if2 .left (c .before .number-of .ensures ∙ e)))
-    ∙ at-loop .inv .2)
+    let at-loop-test = c .before .before .before .before .loop-test in (
+      omega (arith, at-loop-test .taken),
+      at-loop .inv .1,
+      sym (lists-turn (a .s .now) (a .m) (getD (a .s .now) lengthAt 0) (at-loop .i) (at-loop-test .taken)
+          (λ e. c .if2 .left (c .before .number-of .ensures ∙ e)))
+          ∙ at-loop .inv .2,
+    )
 
 returns-3 : tie.Need-returns-3 Inv-loop μ-loop
 returns-3 c =

@@ -73,11 +73,12 @@ loop-again c =
     let at-loop-test = c .before .before .before .loop-test in
     let s = a .s .now in
     let i = at-loop .i in
-    let left = allAtMost lastMove (movesLeft s (a .entries) (i + 1)) in
-    (omega (arith, at-loop-test .taken),
-    ap (λ (x : ℕ). eqb (bitOr (at-loop .above) x) 0 && left) (c .over .ensures)
-    ∙ range-turn lastMove s (a .entries) (at-loop .above) i (at-loop-test .taken)
-    ∙ at-loop .inv .1)
+    let left = allAtMost lastMove (movesLeft s (a .entries) (i + 1)) in (
+      omega (arith, at-loop-test .taken),
+      ap (λ (x : ℕ). eqb (bitOr (at-loop .above) x) 0 && left) (c .over .ensures)
+          ∙ range-turn lastMove s (a .entries) (at-loop .above) i (at-loop-test .taken)
+          ∙ at-loop .inv .1,
+    )
 
 returns : tie.Need-returns Inv-loop μ-loop
 returns c =

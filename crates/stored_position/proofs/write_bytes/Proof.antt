@@ -41,8 +41,7 @@ loop-again c =
     let at-loop = c .before .before .loop in
     let bytes = a .bytes .now in
     let at = a .at in
-    let i = at-loop .i in
-    (
+    let i = at-loop .i in (
       omega arith,
       simp length-set (at-loop .inv .1),
       ap (λ (w : List ℕ). set w (at + i) (getD bytes i 0)) (at-loop .inv .2) ∙ bytes-turn (a .out .now) bytes at i at-pre (c .before .loop-test .taken),

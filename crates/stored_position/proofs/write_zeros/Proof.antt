@@ -33,12 +33,13 @@ loop-again : tie.Need-loop-again Inv-loop μ-loop
 loop-again c =
     let a = c .before .before .args in
     let at-pre = c .before .before .pre in
-    let at-loop = c .before .loop in
-    (omega (arith, at-loop .inv .0),
-    omega (arith, c .loop-test .taken),
-    simp length-set (at-loop .inv .2),
-    ap (λ (w : List ℕ). set w (at-loop .i) 0) (at-loop .inv .3)
-    ∙ zeros-turn (a .out .now) (a .from) (at-loop .i) (at-loop .inv .0) (omega (arith, c .loop-test .taken, at-pre)))
+    let at-loop = c .before .loop in (
+      omega (arith, at-loop .inv .0),
+      omega (arith, c .loop-test .taken),
+      simp length-set (at-loop .inv .2),
+      ap (λ (w : List ℕ). set w (at-loop .i) 0) (at-loop .inv .3)
+          ∙ zeros-turn (a .out .now) (a .from) (at-loop .i) (at-loop .inv .0) (omega (arith, c .loop-test .taken, at-pre)),
+    )
 
 same-length : tie.Need-same-length Inv-loop μ-loop
 same-length c = c .before .loop .inv .2

@@ -34,13 +34,14 @@ loop-less : tie.Need-loop-less Inv-loop μ-loop
 loop-less c = search needs
 
 loop-again : tie.Need-loop-again Inv-loop μ-loop
-loop-again c = 
+loop-again c =
     let s = c .before .before .before .before .before .args .block .now in
-    let i = c .before .before .before .loop .i in
-    (search needs,
-    ap (λ (x : ℕ). not (eqb (bitOr (c .before .before .before .loop .hit) x) 0) || among lineFeed (drop (i + 1) s)) (c .flag .ensures)
-    ∙ found-turn lineFeed s (c .before .before .before .loop .hit) i (c .before .before .loop-test .taken)
-    ∙ c .before .before .before .loop .inv .1)
+    let i = c .before .before .before .loop .i in (
+      search needs,
+      ap (λ (x : ℕ). not (eqb (bitOr (c .before .before .before .loop .hit) x) 0) || among lineFeed (drop (i + 1) s)) (c .flag .ensures)
+          ∙ found-turn lineFeed s (c .before .before .before .loop .hit) i (c .before .before .loop-test .taken)
+          ∙ c .before .before .before .loop .inv .1,
+    )
 
 returns : tie.Need-returns Inv-loop μ-loop
 returns c =

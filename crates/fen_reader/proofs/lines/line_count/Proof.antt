@@ -26,13 +26,13 @@ shared-slice-read-if2 : tie.Need-shared-slice-read-if2
 shared-slice-read-if2 c = search needs
 
 returns-2 : tie.Need-returns-2
-returns-2 c = 
+returns-2 c =
     let s = c .before .before .before .before .before .args .text .now in
     let some : 0 < length s = omega (arith, c .before .before .if1 .left) in
     c .before .before .before .newlines .ensures ∙ sym (count-by-last s some ∙ simp (eq-eqb _ _ (c .if2 .taken)) (omega arith))
 
 add-result : tie.Need-add-result
-add-result c = 
+add-result c =
     let s = c .before .before .before .before .before .args .text .now in
     let some : 0 < length s = omega (arith, c .before .before .if1 .left) in
     let all : length (lines s) ≡ length (endedLines s) + 1 = count-by-last s some ∙ simp (ne-eqb _ _ (c .if2 .left)) in
@@ -40,7 +40,7 @@ add-result c =
     omega (arith, c .before .before .before .newlines .ensures, lines-at-most s)
 
 returns-3 : tie.Need-returns-3
-returns-3 c = 
+returns-3 c =
     let s = c .before .before .before .before .before .args .text .now in
     let some : 0 < length s = omega (arith, c .before .before .if1 .left) in
     let all : length (lines s) ≡ length (endedLines s) + 1 = count-by-last s some ∙ simp (ne-eqb _ _ (c .if2 .left)) in

@@ -78,10 +78,11 @@ loop-again c =
     let at-loop-test = c .before .before .before .loop-test in
     let at-has-newline = c .before .has-newline in
     let s = a .text .now in
-    let within : at-loop .at + 16 ≤ length s = omega (arith, at-loop-test .taken) in
-    (within,
-    passed-over s (a .from) (at-loop .at) 16 (at-loop .at + 16 - at-loop .at) (at-has-newline .result) within (omega arith) (at-has-newline .ensures)
-    (c .if2 .left) (at-loop .inv .1))
+    let within : at-loop .at + 16 ≤ length s = omega (arith, at-loop-test .taken) in (
+      within,
+      passed-over s (a .from) (at-loop .at) 16 (at-loop .at + 16 - at-loop .at) (at-has-newline .result) within (omega arith) (at-has-newline .ensures)
+          (c .if2 .left) (at-loop .inv .1),
+    )
 
 sub-find-2 : tie.Need-sub-find-2 Inv-loop μ-loop
 sub-find-2 c = search needs

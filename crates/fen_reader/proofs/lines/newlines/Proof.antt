@@ -59,10 +59,11 @@ loop-again c =
     let a = c .before .before .before .before .before .args in
     let at-loop = c .before .before .before .loop in
     let at-loop-test = c .before .before .loop-test in
-    let s = a .text .now in
-    (omega (arith, at-loop-test .taken),
-    counted-turn s (at-loop .at) 128 (at-loop .at + 128 - at-loop .at) (at-loop .n) (c .newlines-in .result) (omega arith) (c .newlines-in .ensures)
-    (at-loop .inv .1))
+    let s = a .text .now in (
+      omega (arith, at-loop-test .taken),
+      counted-turn s (at-loop .at) 128 (at-loop .at + 128 - at-loop .at) (at-loop .n) (c .newlines-in .result) (omega arith) (c .newlines-in .ensures)
+          (at-loop .inv .1),
+    )
 
 sub-newlines-in-2 : tie.Need-sub-newlines-in-2 Inv-loop μ-loop
 sub-newlines-in-2 c = search needs

@@ -27,7 +27,7 @@ flag-requires : tie.Need-flag-requires Inv-loop μ-loop
 flag-requires c κs = search needs
 
 add-n : tie.Need-add-n Inv-loop μ-loop
-add-n c = 
+add-n c =
     let s = c .before .before .before .before .before .args .block .now in
     let i = c .before .before .before .loop .i in
     let one = one-at-most (eqb (getD s i 0) lineFeed) 0 (c .flag .result) zero-le (c .flag .ensures) in
@@ -40,7 +40,7 @@ loop-less : tie.Need-loop-less Inv-loop μ-loop
 loop-less c = search needs
 
 loop-again : tie.Need-loop-again Inv-loop μ-loop
-loop-again c = 
+loop-again c =
     let s = c .before .before .before .before .before .args .block .now in
     let i = c .before .before .before .loop .i in
     let one = one-at-most (eqb (getD s i 0) lineFeed) 0 (c .flag .result) zero-le (c .flag .ensures) in

@@ -20,7 +20,7 @@ too-short-requires : tie.Need-too-short-requires
 too-short-requires c κs = search needs
 
 returns : tie.Need-returns
-returns c = 
+returns c =
     let s = c .before .before .before .before .before .before .args .text .now in
     let records = c .before .before .before .before .before .before .args .records .now in
     let told = c .before .before .before .before .before .before .args .told .now in
@@ -33,7 +33,7 @@ too-short-requires-2 : tie.Need-too-short-requires-2
 too-short-requires-2 c κs = search needs
 
 returns-2 : tie.Need-returns-2
-returns-2 c = 
+returns-2 c =
     let s = c .before .before .before .before .before .before .before .args .text .now in
     let records = c .before .before .before .before .before .before .before .args .records .now in
     let told = c .before .before .before .before .before .before .before .args .told .now in
@@ -43,7 +43,7 @@ returns-2 c =
     (c .too-short2 .ensures ∙ ap tooShort n ∙ all .0, (all .1, all .2))
 
 read-lines-requires : tie.Need-read-lines-requires
-read-lines-requires c κs = 
+read-lines-requires c κs =
     let s = c .before .before .before .before .before .before .before .before .args .text .now in
     let n : c .before .before .before .before .line-count .result ≡ lineCount s = c .before .before .before .before .line-count .ensures in
     (omega (arith, c .before .before .before .if1 .left), omega (arith, c .before .before .if2 .left))

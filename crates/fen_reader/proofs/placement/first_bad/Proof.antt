@@ -53,9 +53,11 @@ loop-again c =
     let at-class-of = c .before .class-of in
     let s = a .token .now in
     let i = at-loop .i in
-    let byte : getD s i 0 < 256 = omega (arith, at-shared-slice-known2 .given i) in
-    (search needs, at-loop .inv .1 ∙ where-miss isNoSign s i (at-loop-test .taken)
-    (class-good (getD s i 0) (at-class-of .result) byte (at-class-of .ensures) (c .if1 .left)))
+    let byte : getD s i 0 < 256 = omega (arith, at-shared-slice-known2 .given i) in (
+      search needs,
+      at-loop .inv .1 ∙ where-miss isNoSign s i (at-loop-test .taken)
+          (class-good (getD s i 0) (at-class-of .result) byte (at-class-of .ensures) (c .if1 .left)),
+    )
 
 returns-2 : tie.Need-returns-2 Inv-loop μ-loop
 returns-2 c = sym (c .before .loop .inv .1 ∙ where-end _ (c .before .before .before .args .token .now) (c .before .loop .i) (c .loop-test .left))

@@ -27,7 +27,7 @@ one-if-requires : tie.Need-one-if-requires Inv-loop μ-loop
 one-if-requires c κs = search needs
 
 add-n : tie.Need-add-n Inv-loop μ-loop
-add-n c = 
+add-n c =
     let s = c .before .before .before .before .before .args .s .now in
     let i = c .before .before .before .loop .i in
     let one = one-at-most (eqb (getD s i 0) 32) 0 (c .one-if .result) zero-le (c .one-if .ensures) in
@@ -41,7 +41,7 @@ loop-less : tie.Need-loop-less Inv-loop μ-loop
 loop-less c = search needs
 
 loop-again : tie.Need-loop-again Inv-loop μ-loop
-loop-again c = 
+loop-again c =
     let s = c .before .before .before .before .before .args .s .now in
     let i = c .before .before .before .loop .i in
     let one = one-at-most (eqb (getD s i 0) 32) 0 (c .one-if .result) zero-le (c .one-if .ensures) in

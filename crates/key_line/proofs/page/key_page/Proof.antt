@@ -34,10 +34,13 @@ returns c =
     let at-loop = c .before .before .before .loop in
     let at-line-end = c .before .line-end in
     let none = left-unended (a .text .now) (at-loop .taken) (at-line-end .result) (length (a .out .now) - at-loop .ready) (at-loop .inv .inside)
-    (at-line-end .ensures) (c .if1 .taken) in
-    (page-answer (a .text .now) (a .out .now) (at-loop .out) (at-loop .taken) (at-loop .ready) (at-loop .accepted) (at-loop .refused) (at-loop .inv) none,
-    (page-room (a .text .now) (a .out .now) (at-loop .out) (at-loop .taken) (at-loop .ready) (at-loop .accepted) (at-loop .refused) (at-loop .inv) none,
-    (at-loop .inv .inside, at-loop .inv .within)))
+    (at-line-end .ensures) (c .if1 .taken) in (
+      page-answer (a .text .now) (a .out .now) (at-loop .out) (at-loop .taken) (at-loop .ready) (at-loop .accepted) (at-loop .refused) (at-loop .inv) none,
+      (
+        page-room (a .text .now) (a .out .now) (at-loop .out) (at-loop .taken) (at-loop .ready) (at-loop .accepted) (at-loop .refused) (at-loop .inv) none,
+        (at-loop .inv .inside, at-loop .inv .within),
+      ),
+    )
 
 sub-put-line : tie.Need-sub-put-line Inv-loop μ-loop
 sub-put-line c = omega (arith, c .before .line-end .ensures)
@@ -57,20 +60,25 @@ put-line-requires c κs =
 add-accepted : tie.Need-add-accepted Inv-loop μ-loop
 add-accepted c =
     let long : length (c .before .before .before .before .before .before .before .before .before .before .before .before .args .text .now)
-        < 18446744073709551616 = search needs in
+    < 18446744073709551616 = search needs in
     let a = c .before .before .before .before .before .before .before .before .before .before .before .before .args in
     let at-loop = c .before .before .before .before .before .before .before .before .before .loop in
     let at-loop-test = c .before .before .before .before .before .before .before .before .loop-test in
     let at-line-end = c .before .before .before .before .before .before .before .line-end in
     let at-if1 = c .before .before .before .before .before .before .if1 in
     let at-put-line = c .before .before .before .put-line in
-    omega (arith, counts-fit (a .text .now) (a .out .now) (at-loop .out) (at-loop .taken) (at-loop .ready) (at-loop .accepted) (at-loop .refused)
-    (at-line-end .result) (at-put-line .result) (at-put-line .last .1 .0) (at-loop .inv) (at-loop-test .taken) (at-line-end .ensures)
-    (omega (arith, at-if1 .left)) (at-put-line .ensures .0) (at-put-line .ensures .1 .1) (at-put-line .ensures .1 .0) .0, put-key (a .text .now) (a .out .now)
-    (at-loop .out) (at-loop .taken) (at-loop .ready) (at-loop .accepted) (at-loop .refused) (at-line-end .result) (at-put-line .result)
-    (at-put-line .last .1 .0) (at-loop .inv) (at-loop-test .taken) (at-line-end .ensures) (omega (arith, at-if1 .left)) (at-put-line .ensures .0)
-    (at-put-line .ensures .1 .1) (at-put-line .ensures .1 .0), one-at-most
-    (take (at-line-end .result - at-loop .taken) (drop (at-loop .taken) (a .text .now))))
+    omega (
+      arith,
+      counts-fit (a .text .now) (a .out .now) (at-loop .out) (at-loop .taken) (at-loop .ready) (at-loop .accepted) (at-loop .refused)
+          (at-line-end .result) (at-put-line .result) (at-put-line .last .1 .0) (at-loop .inv) (at-loop-test .taken) (at-line-end .ensures)
+          (omega (arith, at-if1 .left)) (at-put-line .ensures .0) (at-put-line .ensures .1 .1) (at-put-line .ensures .1 .0) .0,
+      put-key (a .text .now) (a .out .now)
+          (at-loop .out) (at-loop .taken) (at-loop .ready) (at-loop .accepted) (at-loop .refused) (at-line-end .result) (at-put-line .result)
+          (at-put-line .last .1 .0) (at-loop .inv) (at-loop-test .taken) (at-line-end .ensures) (omega (arith, at-if1 .left)) (at-put-line .ensures .0)
+          (at-put-line .ensures .1 .1) (at-put-line .ensures .1 .0),
+      one-at-most
+          (take (at-line-end .result - at-loop .taken) (drop (at-loop .taken) (a .text .now))),
+    )
 
 sub-refused : tie.Need-sub-refused Inv-loop μ-loop
 sub-refused c =
@@ -80,29 +88,36 @@ sub-refused c =
     let at-line-end = c .before .before .before .before .before .before .before .before .line-end in
     let at-if1 = c .before .before .before .before .before .before .before .if1 in
     let at-put-line = c .before .before .before .before .put-line in
-    omega (arith, put-key (a .text .now) (a .out .now) (at-loop .out) (at-loop .taken) (at-loop .ready) (at-loop .accepted) (at-loop .refused)
-    (at-line-end .result) (at-put-line .result) (at-put-line .last .1 .0) (at-loop .inv) (at-loop-test .taken) (at-line-end .ensures)
-    (omega (arith, at-if1 .left)) (at-put-line .ensures .0) (at-put-line .ensures .1 .1) (at-put-line .ensures .1 .0), one-at-most
-    (take (at-line-end .result - at-loop .taken) (drop (at-loop .taken) (a .text .now))))
+    omega (
+      arith,
+      put-key (a .text .now) (a .out .now) (at-loop .out) (at-loop .taken) (at-loop .ready) (at-loop .accepted) (at-loop .refused)
+          (at-line-end .result) (at-put-line .result) (at-put-line .last .1 .0) (at-loop .inv) (at-loop-test .taken) (at-line-end .ensures)
+          (omega (arith, at-if1 .left)) (at-put-line .ensures .0) (at-put-line .ensures .1 .1) (at-put-line .ensures .1 .0),
+      one-at-most
+          (take (at-line-end .result - at-loop .taken) (drop (at-loop .taken) (a .text .now))),
+    )
 
 add-refused : tie.Need-add-refused Inv-loop μ-loop
 add-refused c =
     let long : length (c .before .before .before .before .before .before .before .before .before .before .before .before .before .args .text .now)
-        < 18446744073709551616 = search needs in
+    < 18446744073709551616 = search needs in
     let a = c .before .before .before .before .before .before .before .before .before .before .before .before .before .args in
     let at-loop = c .before .before .before .before .before .before .before .before .before .before .loop in
     let at-loop-test = c .before .before .before .before .before .before .before .before .before .loop-test in
     let at-line-end = c .before .before .before .before .before .before .before .before .line-end in
     let at-if1 = c .before .before .before .before .before .before .before .if1 in
     let at-put-line = c .before .before .before .before .put-line in
-    omega (arith, counts-fit (a .text .now) (a .out .now) (at-loop .out) (at-loop .taken) (at-loop .ready) (at-loop .accepted) (at-loop .refused)
-    (at-line-end .result) (at-put-line .result) (at-put-line .last .1 .0) (at-loop .inv) (at-loop-test .taken) (at-line-end .ensures)
-    (omega (arith, at-if1 .left)) (at-put-line .ensures .0) (at-put-line .ensures .1 .1) (at-put-line .ensures .1 .0) .1)
+    omega (
+      arith,
+      counts-fit (a .text .now) (a .out .now) (at-loop .out) (at-loop .taken) (at-loop .ready) (at-loop .accepted) (at-loop .refused)
+          (at-line-end .result) (at-put-line .result) (at-put-line .last .1 .0) (at-loop .inv) (at-loop-test .taken) (at-line-end .ensures)
+          (omega (arith, at-if1 .left)) (at-put-line .ensures .0) (at-put-line .ensures .1 .1) (at-put-line .ensures .1 .0) .1,
+    )
 
 add-taken : tie.Need-add-taken Inv-loop μ-loop
 add-taken c =
     let long : length (c .before .before .before .before .before .before .before .before .before .before .before .before .before .args .text .now)
-        < 18446744073709551616 = search needs in
+    < 18446744073709551616 = search needs in
     let a = c .before .before .before .before .before .before .before .before .before .before .before .before .before .args in
     let at-if1 = c .before .before .before .before .before .before .before .if1 in
     omega (arith, at-if1 .left)
@@ -132,10 +147,13 @@ returns-2 : tie.Need-returns-2 Inv-loop μ-loop
 returns-2 c =
     let a = c .before .before .before .before .args in
     let at-loop = c .before .loop in
-    let none = none-goes (length (a .out .now) - at-loop .ready) _ (omega (arith, c .loop-test .left, at-loop .inv .long)) in
-    (page-answer (a .text .now) (a .out .now) (at-loop .out) (at-loop .taken) (at-loop .ready) (at-loop .accepted) (at-loop .refused) (at-loop .inv) none,
-    (page-room (a .text .now) (a .out .now) (at-loop .out) (at-loop .taken) (at-loop .ready) (at-loop .accepted) (at-loop .refused) (at-loop .inv) none,
-    (at-loop .inv .inside, at-loop .inv .within)))
+    let none = none-goes (length (a .out .now) - at-loop .ready) _ (omega (arith, c .loop-test .left, at-loop .inv .long)) in (
+      page-answer (a .text .now) (a .out .now) (at-loop .out) (at-loop .taken) (at-loop .ready) (at-loop .accepted) (at-loop .refused) (at-loop .inv) none,
+      (
+        page-room (a .text .now) (a .out .now) (at-loop .out) (at-loop .taken) (at-loop .ready) (at-loop .accepted) (at-loop .refused) (at-loop .inv) none,
+        (at-loop .inv .inside, at-loop .inv .within),
+      ),
+    )
 
 pub key-page-spec : {M : Type 1} → statement M
 key-page-spec =

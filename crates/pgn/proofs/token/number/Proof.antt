@@ -23,8 +23,11 @@ add-t6 c =
     let a = c .before .before .before .before .args in
     let at-run-length = c .before .before .run-length in
     let at-rest = c .before .rest in
-    omega (arith, number-sum (a .after .now) (at-run-length .result) (c .run-length2 .result) (at-run-length .ensures)
-    (c .run-length2 .ensures ∙ ap (runLength Periods) (at-rest .ensures)))
+    omega (
+      arith,
+      number-sum (a .after .now) (at-run-length .result) (c .run-length2 .result) (at-run-length .ensures)
+          (c .run-length2 .ensures ∙ ap (runLength Periods) (at-rest .ensures)),
+    )
 
 returns : tie.Need-returns
 unfolding number

@@ -52,8 +52,16 @@ returns-4 c =
     let at-if2 = c .before .before .before .if2 in
     let at-if3 = c .before .before .if3 in
     let at-if4 = c .before .if4 in
-    simp (← (at-is-white .ensures), at-if1 .left, ← (at-starts-move .ensures), at-if2 .left, ne-eqb _ _ (at-if3 .left), eq-eqb _ _ (at-if4 .taken), c
-    .line-comment .ensures)
+    simp (
+      ← (at-is-white .ensures),
+      at-if1 .left,
+      ← (at-starts-move .ensures),
+      at-if2 .left,
+      ne-eqb _ _ (at-if3 .left),
+      eq-eqb _ _ (at-if4 .taken),
+      c
+          .line-comment .ensures,
+    )
 
 glyph-requires : tie.Need-glyph-requires
 glyph-requires c κs = search needs
@@ -68,8 +76,17 @@ returns-5 c =
     let at-if3 = c .before .before .before .if3 in
     let at-if4 = c .before .before .if4 in
     let at-if5 = c .before .if5 in
-    simp (← (at-is-white .ensures), at-if1 .left, ← (at-starts-move .ensures), at-if2 .left, ne-eqb _ _ (at-if3 .left), ne-eqb _ _ (at-if4 .left), eq-eqb _ _
-    (at-if5 .taken), c .glyph .ensures)
+    simp (
+      ← (at-is-white .ensures),
+      at-if1 .left,
+      ← (at-starts-move .ensures),
+      at-if2 .left,
+      ne-eqb _ _ (at-if3 .left),
+      ne-eqb _ _ (at-if4 .left),
+      eq-eqb _ _
+          (at-if5 .taken),
+      c .glyph .ensures,
+    )
 
 returns-6 : tie.Need-returns-6
 unfolding token
@@ -81,8 +98,17 @@ returns-6 c =
     let at-if3 = c .before .before .before .if3 in
     let at-if4 = c .before .before .if4 in
     let at-if5 = c .before .if5 in
-    simp (← (at-is-white .ensures), at-if1 .left, ← (at-starts-move .ensures), at-if2 .left, ne-eqb _ _ (at-if3 .left), ne-eqb _ _ (at-if4 .left), ne-eqb _ _
-    (at-if5 .left), eq-eqb _ _ (c .if6 .taken))
+    simp (
+      ← (at-is-white .ensures),
+      at-if1 .left,
+      ← (at-starts-move .ensures),
+      at-if2 .left,
+      ne-eqb _ _ (at-if3 .left),
+      ne-eqb _ _ (at-if4 .left),
+      ne-eqb _ _
+          (at-if5 .left),
+      eq-eqb _ _ (c .if6 .taken),
+    )
 
 returns-7 : tie.Need-returns-7
 unfolding token
@@ -95,8 +121,18 @@ returns-7 c =
     let at-if4 = c .before .before .before .if4 in
     let at-if5 = c .before .before .if5 in
     let at-if6 = c .before .if6 in
-    simp (← (at-is-white .ensures), at-if1 .left, ← (at-starts-move .ensures), at-if2 .left, ne-eqb _ _ (at-if3 .left), ne-eqb _ _ (at-if4 .left), ne-eqb _ _
-    (at-if5 .left), ne-eqb _ _ (at-if6 .left), eq-eqb _ _ (c .if7 .taken))
+    simp (
+      ← (at-is-white .ensures),
+      at-if1 .left,
+      ← (at-starts-move .ensures),
+      at-if2 .left,
+      ne-eqb _ _ (at-if3 .left),
+      ne-eqb _ _ (at-if4 .left),
+      ne-eqb _ _
+          (at-if5 .left),
+      ne-eqb _ _ (at-if6 .left),
+      eq-eqb _ _ (c .if7 .taken),
+    )
 
 is-result-requires : tie.Need-is-result-requires
 is-result-requires c κs = search needs
@@ -114,8 +150,20 @@ returns-8 c =
     let at-if6 = c .before .before .before .if6 in
     let at-if7 = c .before .before .if7 in
     let at-is-result = c .before .is-result in
-    simp (← (at-is-white .ensures), at-if1 .left, ← (at-starts-move .ensures), at-if2 .left, ne-eqb _ _ (at-if3 .left), ne-eqb _ _ (at-if4 .left), ne-eqb _ _
-    (at-if5 .left), ne-eqb _ _ (at-if6 .left), ne-eqb _ _ (at-if7 .left), ← (at-is-result .ensures), c .if8 .taken)
+    simp (
+      ← (at-is-white .ensures),
+      at-if1 .left,
+      ← (at-starts-move .ensures),
+      at-if2 .left,
+      ne-eqb _ _ (at-if3 .left),
+      ne-eqb _ _ (at-if4 .left),
+      ne-eqb _ _
+          (at-if5 .left),
+      ne-eqb _ _ (at-if6 .left),
+      ne-eqb _ _ (at-if7 .left),
+      ← (at-is-result .ensures),
+      c .if8 .taken,
+    )
 
 is-digit-requires : tie.Need-is-digit-requires
 is-digit-requires c κs = search needs
@@ -139,9 +187,24 @@ returns-9 c =
     let at-if8 = c .before .before .before .if8 in
     let at-is-digit = c .before .before .is-digit in
     let at-if9 = c .before .if9 in
-    simp (← (at-is-white .ensures), at-if1 .left, ← (at-starts-move .ensures), at-if2 .left, ne-eqb _ _ (at-if3 .left), ne-eqb _ _ (at-if4 .left), ne-eqb _ _
-    (at-if5 .left), ne-eqb _ _ (at-if6 .left), ne-eqb _ _ (at-if7 .left), ← (at-is-result .ensures), at-if8 .left, ← (at-is-digit .ensures), at-if9 .taken, c
-    .number .ensures)
+    simp (
+      ← (at-is-white .ensures),
+      at-if1 .left,
+      ← (at-starts-move .ensures),
+      at-if2 .left,
+      ne-eqb _ _ (at-if3 .left),
+      ne-eqb _ _ (at-if4 .left),
+      ne-eqb _ _
+          (at-if5 .left),
+      ne-eqb _ _ (at-if6 .left),
+      ne-eqb _ _ (at-if7 .left),
+      ← (at-is-result .ensures),
+      at-if8 .left,
+      ← (at-is-digit .ensures),
+      at-if9 .taken,
+      c
+          .number .ensures,
+    )
 
 returns-10 : tie.Need-returns-10
 unfolding token
@@ -158,8 +221,22 @@ returns-10 c =
     let at-is-result = c .before .before .before .is-result in
     let at-if8 = c .before .before .if8 in
     let at-is-digit = c .before .is-digit in
-    simp (← (at-is-white .ensures), at-if1 .left, ← (at-starts-move .ensures), at-if2 .left, ne-eqb _ _ (at-if3 .left), ne-eqb _ _ (at-if4 .left), ne-eqb _ _
-    (at-if5 .left), ne-eqb _ _ (at-if6 .left), ne-eqb _ _ (at-if7 .left), ← (at-is-result .ensures), at-if8 .left, ← (at-is-digit .ensures), c .if9 .left)
+    simp (
+      ← (at-is-white .ensures),
+      at-if1 .left,
+      ← (at-starts-move .ensures),
+      at-if2 .left,
+      ne-eqb _ _ (at-if3 .left),
+      ne-eqb _ _ (at-if4 .left),
+      ne-eqb _ _
+          (at-if5 .left),
+      ne-eqb _ _ (at-if6 .left),
+      ne-eqb _ _ (at-if7 .left),
+      ← (at-is-result .ensures),
+      at-if8 .left,
+      ← (at-is-digit .ensures),
+      c .if9 .left,
+    )
 
 pub token-spec : {M : Type 1} → statement M
 token-spec =

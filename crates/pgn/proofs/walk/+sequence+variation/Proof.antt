@@ -569,9 +569,11 @@ variation-returns-3 t c =
     let at-sequence = c .before .before .before .before .sequence in
     let at-end = c .before .before .end in
     let q = sequence-on (at-end .given .1) (at-sequence .ensures) in
-    let z = c .if2 .left in
-    (inner-closed (at-args .s .now) (at-args .stop) (at-args .level) (at-args .at) (at-args .moves) (at-pre .1 .0) (at-pre .1 .1 .1 .1) (at-pre .1 .1 .0)
-    (omega (arith, at-if1 .left)) _ _ (q .0) z (q .1 z), omega (arith, q .0 .forth))
+    let z = c .if2 .left in (
+      inner-closed (at-args .s .now) (at-args .stop) (at-args .level) (at-args .at) (at-args .moves) (at-pre .1 .0) (at-pre .1 .1 .1 .1) (at-pre .1 .1 .0)
+          (omega (arith, at-if1 .left)) _ _ (q .0) z (q .1 z),
+      omega (arith, q .0 .forth),
+    )
 
 variation-returns-4 :
     (t : ℕ) →

@@ -74,12 +74,16 @@ returns-6 c =
     let e : c .run-length .result ≡ runLength MoveBytes (drop (p + 1 + 1) s) = c .run-length .ensures ∙ ap (runLength MoveBytes) (c .before .rest .ensures) in
     let f : runLength MoveBytes (drop (p + 1 + 1) s) ≡ c .run-length .result + 1 - 1 = omega arith in
     let w = sym (c .before .before .before .before .before .before .before .before .before .before .is-white .ensures)
-        ∙ not-false (c .before .before .before .before .before .before .before .before .before .before .is-white .result)
-        (c .before .before .before .before .before .before .before .before .before .if2 .left) in
+    ∙ not-false (c .before .before .before .before .before .before .before .before .before .before .is-white .result)
+    (c .before .before .before .before .before .before .before .before .before .if2 .left) in
     let x = sym (c .before .before .before .before .before .before .is-white2 .ensures) ∙ c .before .before .before .before .before .if4 .left in
     let y = sym (c .before .before .before .starts-move .ensures) ∙ not-false (c .before .before .before .starts-move .result) (c .before .before .if5 .left) in
-    λ h. (omega (arith, c .before .before .before .before .before .before .before .before .if3 .left), white-passed s p w, move-stands s (p + 1) x y
-        ∙ ap Move f)
+    λ h. (
+      omega (arith, c .before .before .before .before .before .before .before .before .if3 .left),
+      white-passed s p w,
+      move-stands s (p + 1) x y
+          ∙ ap Move f,
+    )
 
 pub near-spec : {M : Type 1} → statement M
 near-spec =

@@ -64,9 +64,12 @@ loop-again c =
     let a = c .before .before .before .before .before .before .before .before .args in
     let l = c .before .before .before .before .before .before .loop in
     let q = sequence-on (c .before .before .before .end .given .1) (c .before .before .before .before .before .sequence .ensures) in
-    let h = c .before .if1 .left in
-    (omega (arith, h), omega (arith, l .inv .1), omega (arith, q .0 .counted),
-    l .inv .3 ∙ out-more (a .s .now) (a .stop) (a .offset) (l .inside) (l .at) (l .count) _ _ (q .0) h (q .1 h) (c .if3 .left))
+    let h = c .before .if1 .left in (
+      omega (arith, h),
+      omega (arith, l .inv .1),
+      omega (arith, q .0 .counted),
+      l .inv .3 ∙ out-more (a .s .now) (a .stop) (a .offset) (l .inside) (l .at) (l .count) _ _ (q .0) h (q .1 h) (c .if3 .left),
+    )
 
 enum-known-from : tie.Need-enum-known-from Inv-loop μ-loop
 enum-known-from c = search needs
