@@ -28,9 +28,11 @@ returns c =
     rw k (c .refused .ensures ∙ w .answer, w .bytes)
 
 cast-t7 : tie.Need-cast-t7
-cast-t7 c = let a = c .before .before .before .before .before .args in
-    let k : numberAnswer (a .m) .value ≤ lastMove = parts-of-number (a .m) (rw (← c .before .before .before .number .ensures) (c .before .if1 .left)) .0 in
-    rw (c .before .before .before .number .ensures) (omega (arith, k))
+cast-t7 c =
+    let at-number = c .before .before .before .number in
+    let a = c .before .before .before .before .before .args in
+    let k : numberAnswer (a .m) .value ≤ lastMove = parts-of-number (a .m) (rw (← at-number .ensures) (c .before .if1 .left)) .0 in
+    rw (at-number .ensures) (omega (arith, k))
 
 cast-t9 : tie.Need-cast-t9
 cast-t9 c =

@@ -35,9 +35,14 @@ is-held-requires c κs = search needs
 
 -- src/lib.rt:118:13
 returns : tie.Need-returns Inv-loop μ-loop
-returns c = sym (held-stop (c .before .before .before .before .before .before .args .acts .now) (c .before .before .before .before .before .before
-    .args .n) (c .before .before .before .before .loop .i) (c .before .before .before .loop-test .taken) (sym (ap (λ (l : _). isHeld (actionOf l)) (c
-    .before .before .at .ensures)) ∙ sym (c .before .is-held .ensures) ∙ not-true (c .before .is-held .result) (c .if1 .taken)))
+returns c =
+    let at-args = c .before .before .before .before .before .before .args in
+    let at-loop = c .before .before .before .before .loop in
+    let at-loop-test = c .before .before .before .loop-test in
+    let at-at = c .before .before .at in
+    let at-is-held = c .before .is-held in
+    sym (held-stop (at-args .acts .now) (at-args .n) (at-loop .i) (at-loop-test .taken)
+    (sym (ap (λ (l : _). isHeld (actionOf l)) (at-at .ensures)) ∙ sym (at-is-held .ensures) ∙ not-true (at-is-held .result) (c .if1 .taken)))
 
 -- src/lib.rt:120:9
 add-i : tie.Need-add-i Inv-loop μ-loop
@@ -49,16 +54,24 @@ loop-less c = search needs
 
 -- src/lib.rt:116:5
 loop-again : tie.Need-loop-again Inv-loop μ-loop
-loop-again c = (
-  omega arith,
-  held-turn (c .before .before .before .before .before .before .args .acts .now) (c .before .before .before .before .loop
-      .i) (c .before .before .before .before .loop .inv .1) (sym (ap (λ (l : _). isHeld (actionOf l)) (c .before .before .at .ensures)) ∙ sym (c .before
-      .is-held .ensures) ∙ not-false (c .before .is-held .result) (c .if1 .left)),
-)
+loop-again c =
+    let a = c .before .before .before .before .before .before .args in
+    let at-loop = c .before .before .before .before .loop in
+    let at-at = c .before .before .at in
+    let at-is-held = c .before .is-held in
+    let at-is-held = at-is-held in (
+      omega arith,
+      held-turn (a .acts .now) (at-loop
+          .i) (at-loop .inv .1) (sym (ap (λ (l : _). isHeld (actionOf l)) (at-at .ensures))
+          ∙ sym (at-is-held .ensures)
+          ∙ not-false (at-is-held .result) (c .if1 .left)),
+    )
 
 -- src/lib.rt:112:1
 returns-2 : tie.Need-returns-2 Inv-loop μ-loop
-returns-2 c = sym (held-all (c .before .before .before .args .acts .now) (c .before .before .before .args .n) (c .before .loop .i) (c .loop-test .left)
+returns-2 c =
+    let a = c .before .before .before .args in
+    sym (held-all (a .acts .now) (a .n) (c .before .loop .i) (c .loop-test .left)
     (c .before .loop .inv .0) (c .before .loop .inv .1))
 
 pub all-held-spec : {M : Type 1} → statement M

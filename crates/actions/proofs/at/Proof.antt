@@ -31,7 +31,9 @@ part-result-end : tie.Need-part-result-end
 part-result-end c = search needs
 
 returns-2 : tie.Need-returns-2
-returns-2 c = sym (item-cut actionSize (c .before .before .before .args .i) (c .before .before .before .args .acts .now) (omega (arith, c .before .if2 .taken)))
+returns-2 c =
+    let a = c .before .before .before .args in
+    sym (item-cut actionSize (a .i) (a .acts .now) (omega (arith, c .before .if2 .taken)))
 
 add-result : tie.Need-add-result
 add-result c = search needs

@@ -21,8 +21,9 @@ slice-aggregate-result : tie.Need-slice-aggregate-result
 slice-aggregate-result c = search needs
 
 returns : tie.Need-returns
-returns c = take-all (length (c .before .before .args .s .now) - c .before .before .args .n) (drop (c .before .before .args .n) (c .before .before
-    .args .s .now)) (simp length-drop (omega arith))
+returns c =
+    let a = c .before .before .args in
+    take-all (length (a .s .now) - a .n) (drop (a .n) (a .s .now)) (simp length-drop (omega arith))
 
 returns-2 : tie.Need-returns-2
 returns-2 c = sym (drop-of-length-le (c .before .before .args .s .now) {i = c .before .before .args .n} (omega arith))

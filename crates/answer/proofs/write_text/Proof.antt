@@ -45,8 +45,9 @@ loop-less c = search needs
 
 loop-again : tie.Need-loop-again Inv-loop μ-loop
 loop-again c =
-    let text = c .before .before .before .before .before .before .args .text .now in
-    let out = c .before .before .before .before .before .before .args .out .now in
+    let a = c .before .before .before .before .before .before .args in
+    let text = a .text .now in
+    let out = a .out .now in
     let i = c .before .before .loop .i in
     let h : i < length text = omega arith in
     let k : i < length out = omega arith in (
@@ -63,8 +64,9 @@ same-length c = c .before .before .loop .inv .1
 
 returns-2 : tie.Need-returns-2 Inv-loop μ-loop
 returns-2 c =
-    let text = c .before .before .before .before .before .before .args .text .now in
-    let out = c .before .before .before .before .before .before .args .out .now in
+    let a = c .before .before .before .before .before .before .args in
+    let text = a .text .now in
+    let out = a .out .now in
     let w = write-fits text out (c .before .before .before .if1 .left) in
     let whole : c .before .before .loop .i ≡ length text = le-antisymm (c .before .before .loop .inv .0) (c .before .loop-test .left) in
     (c .accepted .ensures ∙ w .answer, c .before .before .loop .inv .2 ∙ rw (whole, take-length text) (w .bytes))

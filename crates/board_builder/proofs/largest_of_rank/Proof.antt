@@ -40,8 +40,9 @@ loop-less c = search needs
 
 loop-again : tie.Need-loop-again Inv-loop μ-loop
 loop-again c =
-    let pieces = c .before .before .before .before .args .pieces .now in
-    let from = c .before .before .before .before .args .rank * 8 in
+    let a = c .before .before .before .before .args in
+    let pieces = a .pieces .now in
+    let from = a .rank * 8 in
     let row : List ℕ = take 8 (drop from pieces) in
     let pre = c .before .before .before .before .pre in
     let long : length row ≡ 8 = simp (length-take, length-drop) (omega (arith, pre .0, pre .1)) in

@@ -23,8 +23,9 @@ to-string-requires c κs = search needs
 
 add-result : tie.Need-add-result
 add-result c =
-    let long : length (c .before .before .before .before .before .args .bytes .now) < 18446744073709551616 = search needs in
-    let a = c .before .before .before .before .before .args in
+    let at-args = c .before .before .before .before .before .args in
+    let long : length (at-args .bytes .now) < 18446744073709551616 = search needs in
+    let a = at-args in
     let at-pre = c .before .before .before .before .before .pre in
     let at-to-string = c .before .before .to-string in
     let put = put-text (a .bytes .now) (decimal (a .number)) _ (a .n) _ (at-to-string .result) refl (at-pre) (at-to-string .ensures .0)

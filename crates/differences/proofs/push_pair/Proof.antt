@@ -28,8 +28,9 @@ slice-write-bytes-2 c =
 
 add-push-number-2 : tie.Need-add-push-number-2
 add-push-number-2 c =
-    let long : length (c .before .before .before .before .before .before .args .bytes .now) < 18446744073709551616 = search needs in
-    let a = c .before .before .before .before .before .before .args in
+    let at-args = c .before .before .before .before .before .before .args in
+    let long : length (at-args .bytes .now) < 18446744073709551616 = search needs in
+    let a = at-args in
     let at-pre = c .before .before .before .before .before .before .pre in
     let at-push-number = c .before .before .before .push-number in
     omega (
@@ -57,8 +58,9 @@ slice-write-bytes-3 c =
 
 add-result : tie.Need-add-result
 add-result c =
-    let long : length (c .before .before .before .before .before .before .before .before .before .args .bytes .now) < 18446744073709551616 = search needs in
-    let a = c .before .before .before .before .before .before .before .before .before .args in
+    let at-args = c .before .before .before .before .before .before .before .before .before .args in
+    let long : length (at-args .bytes .now) < 18446744073709551616 = search needs in
+    let a = at-args in
     let at-pre = c .before .before .before .before .before .before .before .before .before .pre in
     let at-push-number = c .before .before .before .before .before .before .push-number in
     let at-push-number2 = c .before .before .push-number2 in

@@ -22,8 +22,9 @@ write-text-requires c κs = search needs
 
 add-result : tie.Need-add-result
 add-result c =
-    let long : length (c .before .before .before .before .before .before .args .bytes .now) < 18446744073709551616 = search needs in
-    let a = c .before .before .before .before .before .before .args in
+    let at-args = c .before .before .before .before .before .before .args in
+    let long : length (at-args .bytes .now) < 18446744073709551616 = search needs in
+    let a = at-args in
     let at-pre = c .before .before .before .before .before .before .pre in
     let at-write-text = c .before .before .write-text in
     let put = put-text (a .bytes .now) (a .word .now) _ (a .n) _ (at-write-text .result) refl (at-pre) (at-write-text .ensures .0) (at-write-text .ensures .1)

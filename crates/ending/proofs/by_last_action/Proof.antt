@@ -11,7 +11,9 @@ returns : tie.Need-returns
 returns c = sym (begun-goes-on (c .before .before .args .acts .now) (c .before .before .args .n) (c .if1 .taken))
 
 returns-2 : tie.Need-returns-2
-returns-2 c = sym (past-goes-on (c .before .before .before .args .acts .now) (c .before .before .before .args .n) (omega (arith, c .if2 .taken)))
+returns-2 c =
+    let a = c .before .before .before .args in
+    sym (past-goes-on (a .acts .now) (a .n) (omega (arith, c .if2 .taken)))
 
 sub-if3 : tie.Need-sub-if3
 sub-if3 c = search needs

@@ -45,10 +45,12 @@ by-last-action-requires c κs = search needs
 
 returns-2 : tie.Need-returns-2
 returns-2 c =
-    let last = lastAction (c .before .before .before .before .before .before .args .acts .now) (c .before .before .before .before .before .before .args .n) in
+    let a = c .before .before .before .before .before .before .args in
+    let at-at = c .before .before .before .at in
+    let last = lastAction (a .acts .now) (a .n) in
     c .by-last-action .ensures
-    ∙ sym (result-last (c .before .before .before .at .result .now) last (λ e. c .before .if1 .left (c .before .before .byte-at .ensures ∙ e)))
-    ∙ ap (λ (p : List ℕ). resultOf (positionOf p) last) (c .before .before .before .at .ensures)
+    ∙ sym (result-last (at-at .result .now) last (λ e. c .before .if1 .left (c .before .before .byte-at .ensures ∙ e)))
+    ∙ ap (λ (p : List ℕ). resultOf (positionOf p) last) (at-at .ensures)
 
 pub result-spec : {M : Type 1} → statement M
 result-spec =

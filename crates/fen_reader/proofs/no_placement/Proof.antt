@@ -36,11 +36,12 @@ refused-at-requires-2 c κs = search needs
 
 returns-2 : tie.Need-returns-2
 returns-2 c =
-    let s = c .before .before .before .before .before .before .args .text .now in
+    let a = c .before .before .before .before .before .before .args in
+    let s = a .text .now in
     let enough : 4 ≤ length (tokens s) = omega (arith, c .before .before .before .if1 .left, c .before .before .before .before .spaces .ensures) in
     c .refused-at2 .ensures
     ∙ ap (refusedAt badPlacement) (c .before .first-bad .ensures ∙ ap firstBad (c .before .before .up-to .ensures))
-    ∙ sym (bad-first s (c .before .before .before .before .before .before .args .end) (c .before .before .before .before .before .before .pre) enough)
+    ∙ sym (bad-first s (a .end) (c .before .before .before .before .before .before .pre) enough)
 
 pub no-placement-spec : {M : Type 1} → statement M
 no-placement-spec =

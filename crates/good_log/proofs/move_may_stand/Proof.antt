@@ -27,7 +27,9 @@ at-requires-2 : tie.Need-at-requires-2
 at-requires-2 c κs = search needs
 
 move-leads-requires : tie.Need-move-leads-requires
-move-leads-requires c κs = (c .before .before .before .before .pre .1, ap recordFits (c .before .at .ensures) ∙ c .before .before .before .before .pre .2)
+move-leads-requires c κs =
+    let at-pre = c .before .before .before .before .pre in
+    (at-pre .1, ap recordFits (c .before .at .ensures) ∙ at-pre .2)
 
 returns-2 : tie.Need-returns-2
 returns-2 c =

@@ -26,12 +26,14 @@ write-refusal-requires c κs = search needs
 
 add-t14 : tie.Need-add-t14
 add-t14 c =
-    let small : c .before .before .before .before .before .before .read-fen .result .number < 18446744073709551616 = search needs in
-    let near : c .before .before .before .before .before .before .read-fen .result .offset < 18446744073709551616 = search needs in
-    let long : length (c .before .before .before .before .before .before .before .before .before .args .out .now) < 18446744073709551616 = search needs in
-    let a = c .before .before .before .before .before .before .before .before .before .args in
+    let at-args = c .before .before .before .before .before .before .before .before .before .args in
+    let at-read-fen-6 = c .before .before .before .before .before .before .read-fen in
+    let small : at-read-fen-6 .result .number < 18446744073709551616 = search needs in
+    let near : at-read-fen-6 .result .offset < 18446744073709551616 = search needs in
+    let long : length (at-args .out .now) < 18446744073709551616 = search needs in
+    let a = at-args in
     let at-pre = c .before .before .before .before .before .before .before .before .before .pre in
-    let at-read-fen = c .before .before .before .before .before .before .read-fen in
+    let at-read-fen = at-read-fen-6 in
     let at-if1 = c .before .before .before .before .if1 in
     let at-write-refusal = c .before .before .write-refusal in
     omega (
@@ -48,12 +50,14 @@ same-length c = search needs
 
 returns : tie.Need-returns
 returns c =
-    let small : c .before .before .before .before .before .before .read-fen .result .number < 18446744073709551616 = search needs in
-    let near : c .before .before .before .before .before .before .read-fen .result .offset < 18446744073709551616 = search needs in
-    let long : length (c .before .before .before .before .before .before .before .before .before .args .out .now) < 18446744073709551616 = search needs in
-    let a = c .before .before .before .before .before .before .before .before .before .args in
+    let at-args = c .before .before .before .before .before .before .before .before .before .args in
+    let at-read-fen-6 = c .before .before .before .before .before .before .read-fen in
+    let small : at-read-fen-6 .result .number < 18446744073709551616 = search needs in
+    let near : at-read-fen-6 .result .offset < 18446744073709551616 = search needs in
+    let long : length (at-args .out .now) < 18446744073709551616 = search needs in
+    let a = at-args in
     let at-pre = c .before .before .before .before .before .before .before .before .before .pre in
-    let at-read-fen = c .before .before .before .before .before .before .read-fen in
+    let at-read-fen = at-read-fen-6 in
     let at-if1 = c .before .before .before .before .if1 in
     let at-write-refusal = c .before .before .write-refusal in
     let left = at-write-refusal .last .1 .1 .0 in (
@@ -82,9 +86,10 @@ write-fen-requires c κs = search needs
 
 add-end : tie.Need-add-end
 add-end c =
-    let long : length (c .before .before .before .before .before .before .before .before .before .before .args .out .now)
+    let at-args = c .before .before .before .before .before .before .before .before .before .before .args in
+    let long : length (at-args .out .now)
     < 18446744073709551616 = search needs in
-    let a = c .before .before .before .before .before .before .before .before .before .before .args in
+    let a = at-args in
     let at-pre = c .before .before .before .before .before .before .before .before .before .before .pre in
     let at-read-fen = c .before .before .before .before .before .before .before .read-fen in
     let at-if1 = c .before .before .before .before .before .if1 in
@@ -108,9 +113,10 @@ slice-write-out c =
 
 add-t16 : tie.Need-add-t16
 add-t16 c =
-    let long : length (c .before .before .before .before .before .before .before .before .before .before .args .out .now)
+    let at-args = c .before .before .before .before .before .before .before .before .before .before .args in
+    let long : length (at-args .out .now)
     < 18446744073709551616 = search needs in
-    let a = c .before .before .before .before .before .before .before .before .before .before .args in
+    let a = at-args in
     let at-pre = c .before .before .before .before .before .before .before .before .before .before .pre in
     let at-read-fen = c .before .before .before .before .before .before .before .read-fen in
     let at-if1 = c .before .before .before .before .before .if1 in

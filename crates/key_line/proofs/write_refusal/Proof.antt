@@ -23,8 +23,9 @@ push-number-requires c κs = search needs
 
 array-write-bytes-3 : tie.Need-array-write-bytes-3
 array-write-bytes-3 c =
-    let n = c .before .before .before .before .args .number in
-    let o = c .before .before .before .before .args .offset in
+    let at-args = c .before .before .before .before .args in
+    let n = at-args .number in
+    let o = at-args .offset in
     let small : n < 18446744073709551616 = search needs in
     let near : o < 18446744073709551616 = search needs in
     let first = c .before .push-number .ensures in
@@ -36,8 +37,9 @@ slice-aggregate-push-number-2 c = search needs
 
 add-push-number : tie.Need-add-push-number
 add-push-number c =
-    let n = c .before .before .before .before .before .args .number in
-    let o = c .before .before .before .before .before .args .offset in
+    let at-args = c .before .before .before .before .before .args in
+    let n = at-args .number in
+    let o = at-args .offset in
     let small : n < 18446744073709551616 = search needs in
     let near : o < 18446744073709551616 = search needs in
     let first = c .before .before .push-number .ensures in
@@ -46,8 +48,9 @@ add-push-number c =
 
 push-number-requires-2 : tie.Need-push-number-requires-2
 push-number-requires-2 c κs =
-    let n = c .before .before .before .before .before .args .number in
-    let o = c .before .before .before .before .before .args .offset in
+    let at-args = c .before .before .before .before .before .args in
+    let n = at-args .number in
+    let o = at-args .offset in
     let small : n < 18446744073709551616 = search needs in
     let near : o < 18446744073709551616 = search needs in
     let first = c .before .before .push-number .ensures in

@@ -20,8 +20,9 @@ number-if-requires-2 c κs = search needs
 
 add-result : tie.Need-add-result
 add-result c =
-    let one = at-most (leb claimCount (c .before .before .before .args .count)) 1 (c .before .number-if .result) (c .before .number-if .ensures) in
-    let two = at-most (leb 2 (c .before .before .before .args .equals)) 2 (c .number-if2 .result) (c .number-if2 .ensures) in
+    let a = c .before .before .before .args in
+    let one = at-most (leb claimCount (a .count)) 1 (c .before .number-if .result) (c .before .number-if .ensures) in
+    let two = at-most (leb 2 (a .equals)) 2 (c .number-if2 .result) (c .number-if2 .ensures) in
     omega arith
 
 returns-2 : tie.Need-returns-2

@@ -11,7 +11,9 @@ slice-aggregate-result : tie.Need-slice-aggregate-result
 slice-aggregate-result c = search needs
 
 returns : tie.Need-returns
-returns c = sym (item-past positionSize (c .before .before .before .args .k) (c .before .before .before .args .ps .now) (omega (arith, c .before .if1 .taken)))
+returns c =
+    let a = c .before .before .before .args in
+    sym (item-past positionSize (a .k) (a .ps .now) (omega (arith, c .before .if1 .taken)))
 
 mul-from : tie.Need-mul-from
 mul-from c = search needs

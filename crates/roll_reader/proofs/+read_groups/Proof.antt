@@ -101,9 +101,14 @@ read-groups-returns-4 : (t : ℕ) → read-groups-lts.Need-returns-4 (
   read-groups-below t,
   read-groups.Post,
 ) (read-groups-at t) read-groups.Post
-read-groups-returns-4 t c = needless _ _ _ _ (c .before .before .before .before .before .before .before .before .before .if1 .left) (c .before .before
-    .before .before .before .before .before .before .if2 .left) (c .before .before .before .before .before .before .if3 .left) (c .before .before
-    .before .before .before .rest .ensures) (c .before .before .before .before .read-groups .ensures) _ _ (c .before .before .more .given .1) (c .if4 .taken)
+read-groups-returns-4 t c =
+    let at-if1 = c .before .before .before .before .before .before .before .before .before .if1 in
+    let at-if2 = c .before .before .before .before .before .before .before .before .if2 in
+    let at-if3 = c .before .before .before .before .before .before .if3 in
+    let at-rest = c .before .before .before .before .before .rest in
+    let at-read-groups = c .before .before .before .before .read-groups in
+    let at-more = c .before .before .more in
+    needless _ _ _ _ (at-if1 .left) (at-if2 .left) (at-if3 .left) (at-rest .ensures) (at-read-groups .ensures) _ _ (at-more .given .1) (c .if4 .taken)
 
 read-groups-cast-t16 : (t : ℕ) → read-groups-lts.Need-cast-t16 (
   rest-reads.Asked,
@@ -154,9 +159,14 @@ read-groups-returns-5 : (t : ℕ) → read-groups-lts.Need-returns-5 (
   read-groups-below t,
   read-groups.Post,
 ) (read-groups-at t) read-groups.Post
-read-groups-returns-5 t c = joined _ _ _ _ (c .before .before .before .before .before .before .before .before .before .if1 .left) (c .before .before
-    .before .before .before .before .before .before .if2 .left) (c .before .before .before .before .before .before .if3 .left) (c .before .before
-    .before .before .before .rest .ensures) (c .before .before .before .before .read-groups .ensures) _ _ (c .before .before .more .given .1) (c .if4 .left)
+read-groups-returns-5 t c =
+    let at-if1 = c .before .before .before .before .before .before .before .before .before .if1 in
+    let at-if2 = c .before .before .before .before .before .before .before .before .if2 in
+    let at-if3 = c .before .before .before .before .before .before .if3 in
+    let at-rest = c .before .before .before .before .before .rest in
+    let at-read-groups = c .before .before .before .before .read-groups in
+    let at-more = c .before .before .more in
+    joined _ _ _ _ (at-if1 .left) (at-if2 .left) (at-if3 .left) (at-rest .ensures) (at-read-groups .ensures) _ _ (at-more .given .1) (c .if4 .left)
 
 read-groups-returns-6 : (t : ℕ) → read-groups-lts.Need-returns-6 (
   rest-reads.Asked,
@@ -164,9 +174,13 @@ read-groups-returns-6 : (t : ℕ) → read-groups-lts.Need-returns-6 (
   read-groups-below t,
   read-groups.Post,
 ) (read-groups-at t) read-groups.Post
-read-groups-returns-6 t c = cut _ _ _ _ (c .before .before .before .before .before .before .before .if1 .left) (c .before .before .before .before
-    .before .before .if2 .left) (c .before .before .before .before .if3 .left) (c .before .before .before .rest .ensures) (c .before .before
-    .read-groups .ensures) (c .enum-told .given .1)
+read-groups-returns-6 t c =
+    let at-if1 = c .before .before .before .before .before .before .before .if1 in
+    let at-if2 = c .before .before .before .before .before .before .if2 in
+    let at-if3 = c .before .before .before .before .if3 in
+    let at-rest = c .before .before .before .rest in
+    let at-read-groups = c .before .before .read-groups in
+    cut _ _ _ _ (at-if1 .left) (at-if2 .left) (at-if3 .left) (at-rest .ensures) (at-read-groups .ensures) (c .enum-told .given .1)
 
 pub +read-groups-spec : {M : Type 1} → statement M
 +read-groups-spec = close μ-read-groups λ t. read-groups-lts.spec (

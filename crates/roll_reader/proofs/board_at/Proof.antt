@@ -33,17 +33,17 @@ loop-less : tie.Need-loop-less Inv-loop μ-loop
 loop-less c = search needs
 
 loop-again : tie.Need-loop-again Inv-loop μ-loop
-loop-again c = (
-  omega (arith, c .before .loop-test .taken),
-  simp length-set (c .before .before .loop .inv .1),
-  square-copied (c .before .before .before
-      .args .s .now) (c .before .before .loop .pieces) (c .before .before .loop .i) (omega (
+loop-again c =
+    let a = c .before .before .before .args in (
+      omega (arith, c .before .loop-test .taken),
+      simp length-set (c .before .before .loop .inv .1),
+      square-copied (a .s .now) (c .before .before .loop .pieces) (c .before .before .loop .i) (omega (
         arith,
         c .before .loop-test .taken,
         c .before .before .loop
             .inv .1,
       )) (omega (arith, c .before .loop-test .taken, c .before .before .before .pre)) (c .before .before .loop .inv .2),
-)
+    )
 
 shared-slice-read-t11 : tie.Need-shared-slice-read-t11 Inv-loop μ-loop
 shared-slice-read-t11 c = search needs
@@ -58,12 +58,12 @@ shared-slice-read-t17 : tie.Need-shared-slice-read-t17 Inv-loop μ-loop
 shared-slice-read-t17 c = search needs
 
 returns : tie.Need-returns Inv-loop μ-loop
-returns c = ap (λ (l : List ℕ). board l (getD (c .before .before .before .before .before .before .args .s .now) 64 0) (getD (c .before .before .before
-    .before .before .before .args .s .now) 65 0) (getD (c .before .before .before .before .before .before .args .s .now) 66 0) (getD (c .before .before
-    .before .before .before .before .args .s .now) 67 0)) (squares-copied (c .before .before .before .before .before .before .args .s .now) (c .before
-    .before .before .before .before .loop .pieces) (c .before .before .before .before .before .loop .i) (c .before .before .before .before .before
-    .loop .inv .1) (omega (arith, c .before .before .before .before .loop-test .left, c .before .before .before .before .before .loop .inv .0)) (c
-    .before .before .before .before .before .loop .inv .2))
+returns c =
+    let at-args = c .before .before .before .before .before .before .args in
+    let at-loop = c .before .before .before .before .before .loop in
+    let at-loop-test = c .before .before .before .before .loop-test in
+    ap (λ (l : List ℕ). board l (getD (at-args .s .now) 64 0) (getD (at-args .s .now) 65 0) (getD (at-args .s .now) 66 0) (getD (at-args .s .now) 67 0))
+    (squares-copied (at-args .s .now) (at-loop .pieces) (at-loop .i) (at-loop .inv .1) (omega (arith, at-loop-test .left, at-loop .inv .0)) (at-loop .inv .2))
 
 pub board-at-spec : {M : Type 1} → statement M
 board-at-spec =

@@ -25,24 +25,32 @@ short-move-requires c κs = search needs
 
 add-at : tie.Need-add-at Inv-loop μ-loop
 add-at c =
-    let s = c .before .before .before .before .before .args .s .now in
-    let n = c .before .before .before .before .before .args .n in
-    let at = c .before .before .before .loop .at in
-    let left = c .before .before .before .loop .left in
-    let i = c .before .before .before .loop .i in
-    let t = short-turn (n - i) left at s (c .before .short-move .result) (omega (arith, c .before .before .loop-test .taken)) (c .before .before
-    .before .loop .inv .1) (c .before .short-move .ensures .there (omega (arith, c .if1 .taken))) in
+    let at-args = c .before .before .before .before .before .args in
+    let at-loop = c .before .before .before .loop in
+    let at-loop-test = c .before .before .loop-test in
+    let at-short-move = c .before .short-move in
+    let s = at-args .s .now in
+    let n = at-args .n in
+    let at = at-loop .at in
+    let left = at-loop .left in
+    let i = at-loop .i in
+    let t = short-turn (n - i) left at s (at-short-move .result) (omega (arith, at-loop-test .taken)) (at-loop .inv .1)
+    (at-short-move .ensures .there (omega (arith, c .if1 .taken))) in
     omega (arith, t .inside)
 
 sub-left : tie.Need-sub-left Inv-loop μ-loop
 sub-left c =
-    let s = c .before .before .before .before .before .args .s .now in
-    let n = c .before .before .before .before .before .args .n in
-    let at = c .before .before .before .loop .at in
-    let left = c .before .before .before .loop .left in
-    let i = c .before .before .before .loop .i in
-    let t = short-turn (n - i) left at s (c .before .short-move .result) (omega (arith, c .before .before .loop-test .taken)) (c .before .before
-    .before .loop .inv .1) (c .before .short-move .ensures .there (omega (arith, c .if1 .taken))) in
+    let at-args = c .before .before .before .before .before .args in
+    let at-loop = c .before .before .before .loop in
+    let at-loop-test = c .before .before .loop-test in
+    let at-short-move = c .before .short-move in
+    let s = at-args .s .now in
+    let n = at-args .n in
+    let at = at-loop .at in
+    let left = at-loop .left in
+    let i = at-loop .i in
+    let t = short-turn (n - i) left at s (at-short-move .result) (omega (arith, at-loop-test .taken)) (at-loop .inv .1)
+    (at-short-move .ensures .there (omega (arith, c .if1 .taken))) in
     t .some
 
 add-i : tie.Need-add-i Inv-loop μ-loop
@@ -53,17 +61,20 @@ loop-less c = omega (arith, c .before .before .loop-test .taken)
 
 loop-again : tie.Need-loop-again Inv-loop μ-loop
 loop-again c =
-    let s = c .before .before .before .before .before .args .s .now in
-    let n = c .before .before .before .before .before .args .n in
-    let at = c .before .before .before .loop .at in
-    let left = c .before .before .before .loop .left in
-    let i = c .before .before .before .loop .i in
-    let t = short-turn (n - i) left at s (c .before .short-move .result) (omega (arith, c .before .before .loop-test .taken)) (c .before .before
-    .before .loop .inv .1) (c .before .short-move .ensures .there (omega (arith, c .if1 .taken))) in (
-      omega (arith, c .before .before .loop-test .taken),
+    let at-args = c .before .before .before .before .before .args in
+    let at-loop = c .before .before .before .loop in
+    let at-loop-test = c .before .before .loop-test in
+    let at-short-move = c .before .short-move in
+    let s = at-args .s .now in
+    let n = at-args .n in
+    let at = at-loop .at in
+    let left = at-loop .left in
+    let i = at-loop .i in
+    let t = short-turn (n - i) left at s (at-short-move .result) (omega (arith, at-loop-test .taken)) (at-loop .inv .1)
+    (at-short-move .ensures .there (omega (arith, c .if1 .taken))) in (
+      omega (arith, at-loop-test .taken),
       t .inside,
-      judged-move (actsNumber (readActions n (c .before .before .before .before .before
-          .args .most) s)) n i left at s _ 3 t (c .before .before .before .loop .inv .2),
+      judged-move (actsNumber (readActions n (at-args .most) s)) n i left at s _ 3 t (at-loop .inv .2),
     )
 
 rest-requires : tie.Need-rest-requires Inv-loop μ-loop
@@ -80,26 +91,36 @@ enum-known-e c = search needs
 
 add-at-2 : tie.Need-add-at-2 Inv-loop μ-loop
 add-at-2 c =
-    let s = c .before .before .before .before .before .before .before .before .before .before .args .s .now in
-    let n = c .before .before .before .before .before .before .before .before .before .before .args .n in
-    let at = c .before .before .before .before .before .before .before .before .loop .at in
-    let left = c .before .before .before .before .before .before .before .before .loop .left in
-    let i = c .before .before .before .before .before .before .before .before .loop .i in
-    let t = move-turn (n - i) left at s _ _ (omega (arith, c .before .before .before .before .before .before .before .loop-test .taken)) (c .before
-    .before .before .before .before .before .before .before .loop .inv .1) (c .before .before .before .before .rest .ensures) (c .before .before
-    .before .read-entry .ensures) _ _ (c .before .e .given .1) in
+    let at-args = c .before .before .before .before .before .before .before .before .before .before .args in
+    let at-loop = c .before .before .before .before .before .before .before .before .loop in
+    let at-loop-test = c .before .before .before .before .before .before .before .loop-test in
+    let at-rest = c .before .before .before .before .rest in
+    let at-read-entry = c .before .before .before .read-entry in
+    let at-e = c .before .e in
+    let s = at-args .s .now in
+    let n = at-args .n in
+    let at = at-loop .at in
+    let left = at-loop .left in
+    let i = at-loop .i in
+    let t = move-turn (n - i) left at s _ _ (omega (arith, at-loop-test .taken)) (at-loop .inv .1) (at-rest .ensures) (at-read-entry .ensures) _ _
+    (at-e .given .1) in
     omega (arith, t .inside)
 
 sub-left-2 : tie.Need-sub-left-2 Inv-loop μ-loop
 sub-left-2 c =
-    let s = c .before .before .before .before .before .before .before .before .before .before .args .s .now in
-    let n = c .before .before .before .before .before .before .before .before .before .before .args .n in
-    let at = c .before .before .before .before .before .before .before .before .loop .at in
-    let left = c .before .before .before .before .before .before .before .before .loop .left in
-    let i = c .before .before .before .before .before .before .before .before .loop .i in
-    let t = move-turn (n - i) left at s _ _ (omega (arith, c .before .before .before .before .before .before .before .loop-test .taken)) (c .before
-    .before .before .before .before .before .before .before .loop .inv .1) (c .before .before .before .before .rest .ensures) (c .before .before
-    .before .read-entry .ensures) _ _ (c .before .e .given .1) in
+    let at-args = c .before .before .before .before .before .before .before .before .before .before .args in
+    let at-loop = c .before .before .before .before .before .before .before .before .loop in
+    let at-loop-test = c .before .before .before .before .before .before .before .loop-test in
+    let at-rest = c .before .before .before .before .rest in
+    let at-read-entry = c .before .before .before .read-entry in
+    let at-e = c .before .e in
+    let s = at-args .s .now in
+    let n = at-args .n in
+    let at = at-loop .at in
+    let left = at-loop .left in
+    let i = at-loop .i in
+    let t = move-turn (n - i) left at s _ _ (omega (arith, at-loop-test .taken)) (at-loop .inv .1) (at-rest .ensures) (at-read-entry .ensures) _ _
+    (at-e .given .1) in
     t .some
 
 loop-less-2 : tie.Need-loop-less-2 Inv-loop μ-loop
@@ -107,19 +128,22 @@ loop-less-2 c = omega (arith, c .before .before .before .before .before .before 
 
 loop-again-2 : tie.Need-loop-again-2 Inv-loop μ-loop
 loop-again-2 c =
-    let s = c .before .before .before .before .before .before .before .before .before .before .args .s .now in
-    let n = c .before .before .before .before .before .before .before .before .before .before .args .n in
-    let at = c .before .before .before .before .before .before .before .before .loop .at in
-    let left = c .before .before .before .before .before .before .before .before .loop .left in
-    let i = c .before .before .before .before .before .before .before .before .loop .i in
-    let t = move-turn (n - i) left at s _ _ (omega (arith, c .before .before .before .before .before .before .before .loop-test .taken)) (c .before
-    .before .before .before .before .before .before .before .loop .inv .1) (c .before .before .before .before .rest .ensures) (c .before .before
-    .before .read-entry .ensures) _ _ (c .before .e .given .1) in (
-      omega (arith, c .before .before .before .before .before .before .before .loop-test .taken),
+    let at-args = c .before .before .before .before .before .before .before .before .before .before .args in
+    let at-loop = c .before .before .before .before .before .before .before .before .loop in
+    let at-loop-test = c .before .before .before .before .before .before .before .loop-test in
+    let at-rest = c .before .before .before .before .rest in
+    let at-read-entry = c .before .before .before .read-entry in
+    let at-e = c .before .e in
+    let s = at-args .s .now in
+    let n = at-args .n in
+    let at = at-loop .at in
+    let left = at-loop .left in
+    let i = at-loop .i in
+    let t = move-turn (n - i) left at s _ _ (omega (arith, at-loop-test .taken)) (at-loop .inv .1) (at-rest .ensures) (at-read-entry .ensures) _ _
+    (at-e .given .1) in (
+      omega (arith, at-loop-test .taken),
       t .inside,
-      judged-move (actsNumber (readActions n (c
-          .before .before .before .before .before .before .before .before .before .before .args .most) s)) n i left at s _ _ t (c .before .before .before
-          .before .before .before .before .before .loop .inv .2),
+      judged-move (actsNumber (readActions n (at-args .most) s)) n i left at s _ _ t (at-loop .inv .2),
     )
 
 enum-known-e-2 : tie.Need-enum-known-e-2 Inv-loop μ-loop
@@ -127,14 +151,19 @@ enum-known-e-2 c = search needs
 
 add-at-3 : tie.Need-add-at-3 Inv-loop μ-loop
 add-at-3 c =
-    let s = c .before .before .before .before .before .before .before .before .before .before .args .s .now in
-    let n = c .before .before .before .before .before .before .before .before .before .before .args .n in
-    let at = c .before .before .before .before .before .before .before .before .loop .at in
-    let left = c .before .before .before .before .before .before .before .before .loop .left in
-    let i = c .before .before .before .before .before .before .before .before .loop .i in
-    let t = plain-turn (n - i) left at s _ _ (omega (arith, c .before .before .before .before .before .before .before .loop-test .taken)) (c .before
-    .before .before .before .before .before .before .before .loop .inv .1) (c .before .before .before .before .rest .ensures) (c .before .before
-    .before .read-entry .ensures) _ _ (c .before .e2 .given .1) in
+    let at-args = c .before .before .before .before .before .before .before .before .before .before .args in
+    let at-loop = c .before .before .before .before .before .before .before .before .loop in
+    let at-loop-test = c .before .before .before .before .before .before .before .loop-test in
+    let at-rest = c .before .before .before .before .rest in
+    let at-read-entry = c .before .before .before .read-entry in
+    let at-e2 = c .before .e2 in
+    let s = at-args .s .now in
+    let n = at-args .n in
+    let at = at-loop .at in
+    let left = at-loop .left in
+    let i = at-loop .i in
+    let t = plain-turn (n - i) left at s _ _ (omega (arith, at-loop-test .taken)) (at-loop .inv .1) (at-rest .ensures) (at-read-entry .ensures) _ _
+    (at-e2 .given .1) in
     omega (arith, t .inside)
 
 loop-less-3 : tie.Need-loop-less-3 Inv-loop μ-loop
@@ -142,19 +171,22 @@ loop-less-3 c = omega (arith, c .before .before .before .before .before .before 
 
 loop-again-3 : tie.Need-loop-again-3 Inv-loop μ-loop
 loop-again-3 c =
-    let s = c .before .before .before .before .before .before .before .before .before .before .args .s .now in
-    let n = c .before .before .before .before .before .before .before .before .before .before .args .n in
-    let at = c .before .before .before .before .before .before .before .before .loop .at in
-    let left = c .before .before .before .before .before .before .before .before .loop .left in
-    let i = c .before .before .before .before .before .before .before .before .loop .i in
-    let t = plain-turn (n - i) left at s _ _ (omega (arith, c .before .before .before .before .before .before .before .loop-test .taken)) (c .before
-    .before .before .before .before .before .before .before .loop .inv .1) (c .before .before .before .before .rest .ensures) (c .before .before
-    .before .read-entry .ensures) _ _ (c .before .e2 .given .1) in (
-      omega (arith, c .before .before .before .before .before .before .before .loop-test .taken),
+    let at-args = c .before .before .before .before .before .before .before .before .before .before .args in
+    let at-loop = c .before .before .before .before .before .before .before .before .loop in
+    let at-loop-test = c .before .before .before .before .before .before .before .loop-test in
+    let at-rest = c .before .before .before .before .rest in
+    let at-read-entry = c .before .before .before .read-entry in
+    let at-e2 = c .before .e2 in
+    let s = at-args .s .now in
+    let n = at-args .n in
+    let at = at-loop .at in
+    let left = at-loop .left in
+    let i = at-loop .i in
+    let t = plain-turn (n - i) left at s _ _ (omega (arith, at-loop-test .taken)) (at-loop .inv .1) (at-rest .ensures) (at-read-entry .ensures) _ _
+    (at-e2 .given .1) in (
+      omega (arith, at-loop-test .taken),
       t .inside,
-      judged-plain (actsNumber (readActions n (c
-          .before .before .before .before .before .before .before .before .before .before .args .most) s)) n i left at s _ _ t (c .before .before .before
-          .before .before .before .before .before .loop .inv .2),
+      judged-plain (actsNumber (readActions n (at-args .most) s)) n i left at s _ _ t (at-loop .inv .2),
     )
 
 enum-known-e-3 : tie.Need-enum-known-e-3 Inv-loop μ-loop
@@ -162,34 +194,41 @@ enum-known-e-3 c = search needs
 
 returns : tie.Need-returns Inv-loop μ-loop
 returns c =
-    let s = c .before .before .before .before .before .before .before .before .before .before .args .s .now in
-    let n = c .before .before .before .before .before .before .before .before .before .before .args .n in
-    let at = c .before .before .before .before .before .before .before .before .loop .at in
-    let left = c .before .before .before .before .before .before .before .before .loop .left in
-    let i = c .before .before .before .before .before .before .before .before .loop .i in
-    let stop = stop-turn (n - i) left at s _ _ (omega (arith, c .before .before .before .before .before .before .before .loop-test .taken)) (c .before
-    .before .before .before .before .before .before .before .loop .inv .1) (c .before .before .before .before .rest .ensures) (c .before .before
-    .before .read-entry .ensures) _ (c .before .e3 .given .1) in
-    sym (c .before .before .before .before .before .before .before .before .loop .inv .2 ∙ ap actsNumber stop ∙ number-halted _)
+    let at-args = c .before .before .before .before .before .before .before .before .before .before .args in
+    let at-loop = c .before .before .before .before .before .before .before .before .loop in
+    let at-loop-test = c .before .before .before .before .before .before .before .loop-test in
+    let at-rest = c .before .before .before .before .rest in
+    let at-read-entry = c .before .before .before .read-entry in
+    let at-e3 = c .before .e3 in
+    let s = at-args .s .now in
+    let n = at-args .n in
+    let at = at-loop .at in
+    let left = at-loop .left in
+    let i = at-loop .i in
+    let stop = stop-turn (n - i) left at s _ _ (omega (arith, at-loop-test .taken)) (at-loop .inv .1) (at-rest .ensures) (at-read-entry .ensures) _
+    (at-e3 .given .1) in
+    sym (at-loop .inv .2 ∙ ap actsNumber stop ∙ number-halted _)
 
 returns-2 : tie.Need-returns-2 Inv-loop μ-loop
 returns-2 c =
-    let s = c .before .before .before .before .args .s .now in
-    let n = c .before .before .before .before .args .n in
+    let a = c .before .before .before .before .args in
+    let s = a .s .now in
+    let n = a .n in
     let at = c .before .before .loop .at in
     let left = c .before .before .loop .left in
     let i = c .before .before .loop .i in
-    judged-long (actsNumber (readActions n (c .before .before .before .before .args .most) s)) n i left at s (c .before .loop-test .left) (c .if2
+    judged-long (actsNumber (readActions n (a .most) s)) n i left at s (c .before .loop-test .left) (c .if2
     .taken) (c .before .before .loop .inv .2)
 
 returns-3 : tie.Need-returns-3 Inv-loop μ-loop
 returns-3 c =
-    let s = c .before .before .before .before .args .s .now in
-    let n = c .before .before .before .before .args .n in
+    let a = c .before .before .before .before .args in
+    let s = a .s .now in
+    let n = a .n in
     let at = c .before .before .loop .at in
     let left = c .before .before .loop .left in
     let i = c .before .before .loop .i in
-    judged-end (actsNumber (readActions n (c .before .before .before .before .args .most) s)) n i left at s (c .before .loop-test .left) (c .if2 .left)
+    judged-end (actsNumber (readActions n (a .most) s)) n i left at s (c .before .loop-test .left) (c .if2 .left)
     (c .before .before .loop .inv .2)
 
 pub judge-actions-spec : {M : Type 1} → statement M

@@ -35,33 +35,49 @@ enum-known-x : tie.Need-enum-known-x Inv-loop μ-loop
 enum-known-x c = search needs
 
 returns : tie.Need-returns Inv-loop μ-loop
-returns c = number-over (c .before .before .before .before .before .before .before .before .loop .i) (c .before .before .before .before .before .before
-    .before .before .before .before .args .s .now) _ _ _ (c .before .before .before .before .before .before .before .loop-test .taken) (c .before
-    .before .before .before .before .before .rest .ensures) (c .before .before .before .before .before .read-number .ensures) (c .before .before
-    .before .before .largest-at .ensures) _ _ _ (c .before .before .x .given .1) (c .if1 .taken) (c .before .before .before .before .before .before
-    .before .before .loop .inv .1)
+returns c =
+    let at-args = c .before .before .before .before .before .before .before .before .before .before .args in
+    let at-loop = c .before .before .before .before .before .before .before .before .loop in
+    let at-loop-test = c .before .before .before .before .before .before .before .loop-test in
+    let at-rest = c .before .before .before .before .before .before .rest in
+    let at-read-number = c .before .before .before .before .before .read-number in
+    let at-largest-at = c .before .before .before .before .largest-at in
+    let at-x = c .before .before .x in
+    number-over (at-loop .i) (at-args .s .now) _ _ _ (at-loop-test .taken) (at-rest .ensures) (at-read-number .ensures) (at-largest-at .ensures) _ _ _
+    (at-x .given .1) (c .if1 .taken) (at-loop .inv .1)
 
 loop-less : tie.Need-loop-less Inv-loop μ-loop
 loop-less c = search needs
 
 loop-again : tie.Need-loop-again Inv-loop μ-loop
-loop-again c = (
-  omega (arith, c .before .before .before .before .before .before .before .loop-test .taken),
-  number-turn (c .before .before .before
-      .before .before .before .before .before .loop .i) (c .before .before .before .before .before .before .before .before .before .before .args .s .now)
-      _ _ _ (c .before .before .before .before .before .before .before .loop-test .taken) (c .before .before .before .before .before .before .rest
-      .ensures) (c .before .before .before .before .before .read-number .ensures) (c .before .before .before .before .largest-at .ensures) _ _ _ (c
-      .before .before .x .given .1) (c .if1 .left) (c .before .before .before .before .before .before .before .before .loop .inv .1),
-)
+loop-again c =
+    let a = c .before .before .before .before .before .before .before .before .before .before .args in
+    let at-loop = c .before .before .before .before .before .before .before .before .loop in
+    let at-loop-test = c .before .before .before .before .before .before .before .loop-test in
+    let at-rest = c .before .before .before .before .before .before .rest in
+    let at-read-number = c .before .before .before .before .before .read-number in
+    let at-largest-at = c .before .before .before .before .largest-at in
+    let at-x = c .before .before .x in
+    let at-x = at-x in (
+      omega (arith, at-loop-test .taken),
+      number-turn (at-loop .i) (a .s .now)
+          _ _ _ (at-loop-test .taken) (at-rest
+          .ensures) (at-read-number .ensures) (at-largest-at .ensures) _ _ _ (at-x .given .1) (c .if1 .left) (at-loop .inv .1),
+    )
 
 enum-told : tie.Need-enum-told Inv-loop μ-loop
 enum-told c = search needs
 
 returns-2 : tie.Need-returns-2 Inv-loop μ-loop
-returns-2 c = number-bad (c .before .before .before .before .before .before .loop .i) (c .before .before .before .before .before .before .before
-    .before .args .s .now) _ _ _ (c .before .before .before .before .before .loop-test .taken) (c .before .before .before .before .rest .ensures) (c
-    .before .before .before .read-number .ensures) (c .before .before .largest-at .ensures) _ (c .enum-told .given .1) (c .before .before .before
-    .before .before .before .loop .inv .1)
+returns-2 c =
+    let at-args = c .before .before .before .before .before .before .before .before .args in
+    let at-loop = c .before .before .before .before .before .before .loop in
+    let at-loop-test = c .before .before .before .before .before .loop-test in
+    let at-rest = c .before .before .before .before .rest in
+    let at-read-number = c .before .before .before .read-number in
+    let at-largest-at = c .before .before .largest-at in
+    number-bad (at-loop .i) (at-args .s .now) _ _ _ (at-loop-test .taken) (at-rest .ensures) (at-read-number .ensures) (at-largest-at .ensures) _
+    (c .enum-told .given .1) (at-loop .inv .1)
 
 returns-3 : tie.Need-returns-3 Inv-loop μ-loop
 returns-3 c = numbers-end (c .before .loop .i) _ (c .before .before .before .args .s .now) (c .loop-test .left) (c .before .loop .inv .1)

@@ -15,14 +15,17 @@ sub-if3 : tie.Need-sub-if3
 sub-if3 c = search needs
 
 returns-3 : tie.Need-returns-3
-returns-3 c = no-short (c .before .before .before .args .s .now) (c .before .before .before .args .at) (c .before .before .before .args .left)
+returns-3 c =
+    let a = c .before .before .before .args in
+    no-short (a .s .now) (a .at) (a .left)
 
 shared-slice-read-if4 : tie.Need-shared-slice-read-if4
 shared-slice-read-if4 c = search needs
 
 returns-4 : tie.Need-returns-4
-returns-4 c = no-short (c .before .before .before .before .before .args .s .now) (c .before .before .before .before .before .args .at) (c .before
-    .before .before .before .before .args .left)
+returns-4 c =
+    let a = c .before .before .before .before .before .args in
+    no-short (a .s .now) (a .at) (a .left)
 
 add-low : tie.Need-add-low
 add-low c = search needs
@@ -31,8 +34,9 @@ shared-slice-read-low : tie.Need-shared-slice-read-low
 shared-slice-read-low c = search needs
 
 returns-5 : tie.Need-returns-5
-returns-5 c = no-short (c .before .before .before .before .before .before .before .args .s .now) (c .before .before .before .before .before .before
-    .before .args .at) (c .before .before .before .before .before .before .before .args .left)
+returns-5 c =
+    let a = c .before .before .before .before .before .before .before .args in
+    no-short (a .s .now) (a .at) (a .left)
 
 add-high : tie.Need-add-high
 add-high c = search needs
@@ -41,13 +45,14 @@ shared-slice-read-high : tie.Need-shared-slice-read-high
 shared-slice-read-high c = search needs
 
 returns-6 : tie.Need-returns-6
-returns-6 c = no-short (c .before .before .before .before .before .before .before .before .before .args .s .now) (c .before .before .before .before
-    .before .before .before .before .before .args .at) (c .before .before .before .before .before .before .before .before .before .args .left)
+returns-6 c =
+    let a = c .before .before .before .before .before .before .before .before .before .args in
+    no-short (a .s .now) (a .at) (a .left)
 
 returns-7 : tie.Need-returns-7
-returns-7 c = no-short (c .before .before .before .before .before .before .before .before .before .before .args .s .now) (c .before .before .before
-    .before .before .before .before .before .before .before .args .at) (c .before .before .before .before .before .before .before .before .before
-    .before .args .left)
+returns-7 c =
+    let a = c .before .before .before .before .before .before .before .before .before .before .args in
+    no-short (a .s .now) (a .at) (a .left)
 
 cast-result : tie.Need-cast-result
 cast-result c = search needs
@@ -62,15 +67,15 @@ add-result : tie.Need-add-result
 add-result c = search needs
 
 returns-8 : tie.Need-returns-8
-returns-8 c = short (c .before .before .before .before .before .before .before .before .before .before .args .s .now) (c .before .before .before
-    .before .before .before .before .before .before .before .args .at) (c .before .before .before .before .before .before .before .before .before
-    .before .args .left) (c .before .before .before .before .before .before .before .before .before .if1 .left) (omega (
+returns-8 c =
+    let a = c .before .before .before .before .before .before .before .before .before .before .args in
+    let at-if2 = c .before .before .before .before .before .before .before .before .if2 in
+    let at-if4 = c .before .before .before .before .before .if4 in
+    short (a .s .now) (a .at) (a .left) (c .before .before .before .before .before .before .before .before .before .if1 .left) (omega (
       arith,
-      c .before .before
-          .before .before .before .before .before .before .if2 .left,
+      at-if2 .left,
       c .before .before .before .before .before .before .before .if3 .left,
-    )) (c .before
-    .before .before .before .before .if4 .left) (c .before .before .before .if5 .left) (omega (arith, c .before .if6 .left)) (c .if7 .left)
+    )) (at-if4 .left) (c .before .before .before .if5 .left) (omega (arith, c .before .if6 .left)) (c .if7 .left)
 
 pub short-move-spec : {M : Type 1} → statement M
 short-move-spec =

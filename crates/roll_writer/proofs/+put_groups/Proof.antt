@@ -97,8 +97,10 @@ put-groups-add-put-groups : (t : ℕ) → put-groups-lts.Need-add-put-groups (
   put-groups-below t,
   put-groups.Post,
 ) (put-groups-at t) put-groups.Post
-put-groups-add-put-groups t c = let e = ap length (group-and-more (c .before .before .before .args .k) (c .before .before .before .args .n) (c .before
-    .before .before .pre .1 .0 .0) (c .before .if1 .left)) in omega (arith, e, c .before .before .before .pre .1 .1)
+put-groups-add-put-groups t c =
+    let a = c .before .before .before .args in
+    let at-pre = c .before .before .before .pre in
+    let e = ap length (group-and-more (a .k) (a .n) (at-pre .1 .0 .0) (c .before .if1 .left)) in omega (arith, e, at-pre .1 .1)
 
 put-groups-sub-put-groups : (t : ℕ) → put-groups-lts.Need-sub-put-groups (
   put-groups-below t,
@@ -111,18 +113,19 @@ put-groups-put-groups-requires : (t : ℕ) → put-groups-lts.Need-put-groups-re
   put-groups.Post,
 ) (put-groups-at t) put-groups.Post
 put-groups-put-groups-requires t c κs =
-    let e = ap length (group-and-more (c .before .before .before .args .k) (c .before .before .before .args .n) (c .before .before .before .pre .1 .0
-    .0) (c .before .if1 .left)) in
-    let h = reach-next (c .before .before .before .args .k) (c .before .before .before .args .n) (c .before .before .before .pre .1 .0 .1) (c .before
-    .if1 .left) in (
-      omega (arith, c .before .before .before .pre .0, c .before .before .before .pre .1 .0 .0),
+    let a = c .before .before .before .args in
+    let at-pre = c .before .before .before .pre in
+    let at-if1 = c .before .if1 in
+    let e = ap length (group-and-more (a .k) (a .n) (at-pre .1 .0
+    .0) (at-if1 .left)) in
+    let h = reach-next (a .k) (a .n) (at-pre .1 .0 .1) (at-if1 .left) in (
+      omega (arith, at-pre .0, at-pre .1 .0 .0),
       (
         h,
         simp length-set (omega (
           arith,
           e,
-          c .before .before
-              .before .pre .1 .1,
+          at-pre .1 .1,
         )),
       ),
     )
@@ -131,24 +134,25 @@ put-groups-same-length-2 : (t : ℕ) → put-groups-lts.Need-same-length-2 (
   put-groups-below t,
   put-groups.Post,
 ) (put-groups-at t) put-groups.Post
-put-groups-same-length-2 t c = let w = put-done (c .before .before .before .before .before .before .args .out .now) (c .before .before .before .before
-    .before .before .args .at) (c .before .before .before .before .before .before .args .k) (c .before .before .before .before .before .before .args
-    .n) (c .before .before .put-groups .last .0) (c .before .before .before .before .before .before .pre .1 .0 .0) (c .before .before .before .before
-    .if1 .left) (c .before .before .before .before .before .before .pre .1 .1) (c .before .before .put-groups .ensures .1) in
-    ap length w ∙ length-written (c .before .before .before .before .before .before .args .out .now) (c .before .before .before .before .before .before
-    .args .at) (groups (c .before .before .before .before .before .before .args .k) (c .before .before .before .before .before .before .args .n)) (c
-    .before .before .before .before .before .before .pre .1 .1)
+put-groups-same-length-2 t c =
+    let a = c .before .before .before .before .before .before .args in
+    let at-pre = c .before .before .before .before .before .before .pre in
+    let at-if1 = c .before .before .before .before .if1 in
+    let w = put-done (a .out .now) (a .at) (a .k) (a
+    .n) (c .before .before .put-groups .last .0) (at-pre .1 .0 .0) (at-if1 .left) (at-pre .1 .1) (c .before .before .put-groups .ensures .1) in
+    ap length w ∙ length-written (a .out .now) (a .at) (groups (a .k) (a .n)) (at-pre .1 .1)
 
 put-groups-returns-2 : (t : ℕ) → put-groups-lts.Need-returns-2 (
   put-groups-below t,
   put-groups.Post,
 ) (put-groups-at t) put-groups.Post
-put-groups-returns-2 t c = let w = put-done (c .before .before .before .before .before .before .args .out .now) (c .before .before .before .before
-    .before .before .args .at) (c .before .before .before .before .before .before .args .k) (c .before .before .before .before .before .before .args
-    .n) (c .before .before .put-groups .last .0) (c .before .before .before .before .before .before .pre .1 .0 .0) (c .before .before .before .before
-    .if1 .left) (c .before .before .before .before .before .before .pre .1 .1) (c .before .before .put-groups .ensures .1) in
-    let e = ap length (group-and-more (c .before .before .before .before .before .before .args .k) (c .before .before .before .before .before .before
-    .args .n) (c .before .before .before .before .before .before .pre .1 .0 .0) (c .before .before .before .before .if1 .left)) in
+put-groups-returns-2 t c =
+    let a = c .before .before .before .before .before .before .args in
+    let at-pre = c .before .before .before .before .before .before .pre in
+    let at-if1 = c .before .before .before .before .if1 in
+    let w = put-done (a .out .now) (a .at) (a .k) (a
+    .n) (c .before .before .put-groups .last .0) (at-pre .1 .0 .0) (at-if1 .left) (at-pre .1 .1) (c .before .before .put-groups .ensures .1) in
+    let e = ap length (group-and-more (a .k) (a .n) (at-pre .1 .0 .0) (at-if1 .left)) in
     (omega (arith, e, c .before .before .put-groups .ensures .0), w)
 
 pub +put-groups-spec : {M : Type 1} → statement M

@@ -18,11 +18,16 @@ move-size-requires c κs = search needs
 
 returns : tie.Need-returns
 returns c =
-    let f = c .before .before .before .fields-at .ensures in
-    let one = sym (ap (λ (x : Fields). x .kind) f) ∙ c .before .if1 .taken in
-    let bs = drop (c .before .before .before .before .before .args .at) (c .before .before .before .before .before .args .acts .now) in (
-      c .move-size .ensures .0 ∙ ap (λ (x : Fields). moveSize (x .colour) (x .number)) f ∙ at-move bs (four-there (c .before .before .before .before
-          .before .args .acts .now) (c .before .before .before .before .before .args .at) (c .before .before .before .before .before .pre)) one,
+    let at-args = c .before .before .before .before .before .args in
+    let at-pre = c .before .before .before .before .before .pre in
+    let at-fields-at = c .before .before .before .fields-at in
+    let at-if1 = c .before .if1 in
+    let f = at-fields-at .ensures in
+    let one = sym (ap (λ (x : Fields). x .kind) f) ∙ at-if1 .taken in
+    let bs = drop (at-args .at) (at-args .acts .now) in (
+      c .move-size .ensures .0
+          ∙ ap (λ (x : Fields). moveSize (x .colour) (x .number)) f
+          ∙ at-move bs (four-there (at-args .acts .now) (at-args .at) (at-pre)) one,
       c .move-size .ensures .1,
     )
 
@@ -37,13 +42,13 @@ plain-size-requires c κs = search needs
 
 returns-2 : tie.Need-returns-2
 returns-2 c =
+    let a = c .before .before .before .before .before .before .before .args in
+    let at-pre = c .before .before .before .before .before .before .before .pre in
     let f = c .before .before .before .before .before .fields-at .ensures in
-    let bs = drop (c .before .before .before .before .before .before .before .args .at) (c .before .before .before .before .before .before .before
-    .args .acts .now) in
+    let bs = drop (a .at) (a .acts .now) in
     let is = c .before .front .ensures ∙ ap (take actionSize) (c .before .before .rest .ensures) in (
-      c .plain-size .ensures ∙ at-plain bs (c .before .front .result .now) (four-there (c .before .before .before .before .before .before .before .args
-          .acts .now) (c .before .before .before .before .before .before .before .args .at) (c .before .before .before .before .before .before .before
-          .pre)) (λ e. c .before .before .before .if1 .left (ap (λ (x : Fields). x .kind) f ∙ e)) is,
+      c .plain-size .ensures ∙ at-plain bs (c .before .front .result .now) (four-there (a
+          .acts .now) (a .at) (at-pre)) (λ e. c .before .before .before .if1 .left (ap (λ (x : Fields). x .kind) f ∙ e)) is,
       omega (arith, c .plain-size .ensures, plain-few (c .before .front .result .now)),
     )
 

@@ -21,12 +21,16 @@ action-size-requires : tie.Need-action-size-requires Inv-loop μ-loop
 action-size-requires c κs = omega (arith, c .loop-test .taken, c .before .before .before .pre .0)
 
 returns : tie.Need-returns Inv-loop μ-loop
-returns c = (
-  sized-stop (c .before .before .before .before .before .args .acts .now) (c .before .before .before .before .before .args .n) (c .before
-      .before .before .loop .i) (c .before .action-size .result) (c .before .before .loop-test .taken) (c .before .action-size .ensures .0) (c .if1
-      .taken),
-  omega arith,
-)
+returns c =
+    let at-args = c .before .before .before .before .before .args in
+    let at-loop = c .before .before .before .loop in
+    let at-loop-test = c .before .before .loop-test in
+    let at-action-size = c .before .action-size in
+    let at-loop = at-loop in (
+      sized-stop (at-args .acts .now) (at-args .n) (at-loop .i) (at-action-size .result) (at-loop-test .taken) (at-action-size .ensures .0) (c .if1
+          .taken),
+      omega arith,
+    )
 
 add-k : tie.Need-add-k Inv-loop μ-loop
 add-k c = omega (
@@ -46,15 +50,19 @@ loop-less c = omega (arith, c .before .before .loop-test .taken)
 
 loop-again : tie.Need-loop-again Inv-loop μ-loop
 loop-again c =
-    sized-more (c .before .before .before .before .before .args .acts .now) (c .before .before .before .before .before .args .n) (c .before .before
-    .before .loop .i) (c .before .before .before .loop .k) (c .before .action-size .result) (c .before .before .before .loop .inv) (c .before
-    .before .loop-test .taken) (c .before .action-size .ensures .0) (c .before .action-size .ensures .1) (c .if1 .left)
+    let at-args = c .before .before .before .before .before .args in
+    let at-loop = c .before .before .before .loop in
+    let at-loop-test = c .before .before .loop-test in
+    let at-action-size = c .before .action-size in
+    sized-more (at-args .acts .now) (at-args .n) (at-loop .i) (at-loop .k) (at-action-size .result) (at-loop .inv) (at-loop-test .taken)
+    (at-action-size .ensures .0) (at-action-size .ensures .1) (c .if1 .left)
 
 returns-2 : tie.Need-returns-2 Inv-loop μ-loop
 returns-2 c =
-    let inv = c .before .loop .inv in (
-      sized-all (c .before .before .before .args .acts .now) (c .before .before .before .args .n) (c .before .loop .i) (c .before .loop .k) (c .before
-          .loop .inv) (c .loop-test .left),
+    let a = c .before .before .before .args in
+    let at-loop = c .before .loop in
+    let inv = at-loop .inv in (
+      sized-all (a .acts .now) (a .n) (at-loop .i) (at-loop .k) (at-loop .inv) (c .loop-test .left),
       omega (arith, inv .most, inv .within),
     )
 

@@ -29,7 +29,9 @@ byte-pair-requires : tie.Need-byte-pair-requires
 byte-pair-requires c κs = search needs
 
 returns : tie.Need-returns
-returns c = fields-of (c .before .before .before .before .before .before .args .acts .now) (c .before .before .before .before .before .before .args
+returns c =
+    let a = c .before .before .before .before .before .before .args in
+    fields-of (a .acts .now) (a
     .at) (c .byte-pair .result) (c .byte-pair .ensures)
 
 pub fields-at-spec : {M : Type 1} → statement M

@@ -17,10 +17,9 @@ refused-requires c κs = search needs
 
 returns : tie.Need-returns
 returns c =
-    refused-so _ _ (writeCheck limits (c .before .before .before .args .b) (c .before .before .before .args .acts .now) (c .before .before .before
-    .args .n)) (gameText (c .before .before .before .args .b) (c .before .before .before .args .acts .now) (c .before .before .before .args .n)) (c
-    .refused .ensures) (too-short (c .before .before .before .args .b) (c .before .before .before .args .acts .now) (c .before .before .before
-    .args .n) (c .before .if1 .taken)) (λ z. omega arith)
+    let a = c .before .before .before .args in
+    refused-so _ _ (writeCheck limits (a .b) (a .acts .now) (a .n)) (gameText (a .b) (a .acts .now) (a .n)) (c
+    .refused .ensures) (too-short (a .b) (a .acts .now) (a .n) (c .before .if1 .taken)) (λ z. omega arith)
 
 in-range-requires : tie.Need-in-range-requires
 in-range-requires c κs = search needs
@@ -30,24 +29,27 @@ refused-requires-2 c κs = search needs
 
 returns-2 : tie.Need-returns-2
 returns-2 c =
-    refused-so _ _ (writeCheck limits (c .before .before .before .before .before .args .b) (c .before .before .before .before .before .args .acts .now)
-    (c .before .before .before .before .before .args .n)) (gameText (c .before .before .before .before .before .args .b) (c .before .before .before
-    .before .before .args .acts .now) (c .before .before .before .before .before .args .n)) (c .refused2 .ensures) (not-in-range (c .before .before
-    .before .before .before .args .b) (c .before .before .before .before .before .args .acts .now) (c .before .before .before .before .before .args
-    .n) (c .before .before .before .if1 .left) (sym (c .before .before .in-range .ensures) ∙ not-true (c .before .before .in-range .result) (c
-    .before .if2 .taken))) (λ z. omega arith)
+    let at-args = c .before .before .before .before .before .args in
+    let at-if1 = c .before .before .before .if1 in
+    let at-in-range = c .before .before .in-range in
+    let at-if2 = c .before .if2 in
+    refused-so _ _ (writeCheck limits (at-args .b) (at-args .acts .now)
+    (at-args .n)) (gameText (at-args .b) (at-args .acts .now) (at-args .n)) (c .refused2 .ensures) (not-in-range (at-args .b) (at-args .acts .now) (at-args
+    .n) (at-if1 .left) (sym (at-in-range .ensures) ∙ not-true (at-in-range .result) (at-if2 .taken))) (λ z. omega arith)
 
 refused-requires-3 : tie.Need-refused-requires-3
 refused-requires-3 c κs = search needs
 
 returns-3 : tie.Need-returns-3
 returns-3 c =
-    refused-so _ _ (writeCheck limits (c .before .before .before .before .before .before .args .b) (c .before .before .before .before .before .before
-    .args .acts .now) (c .before .before .before .before .before .before .args .n)) (gameText (c .before .before .before .before .before .before
-    .args .b) (c .before .before .before .before .before .before .args .acts .now) (c .before .before .before .before .before .before .args .n)) (c
-    .refused3 .ensures) (too-many (c .before .before .before .before .before .before .args .b) (c .before .before .before .before .before .before
-    .args .acts .now) (c .before .before .before .before .before .before .args .n) (c .before .before .before .before .if1 .left) (sym (c .before
-    .before .before .in-range .ensures) ∙ not-false (c .before .before .before .in-range .result) (c .before .before .if2 .left)) (c .before .if3
+    let at-args = c .before .before .before .before .before .before .args in
+    let at-if1 = c .before .before .before .before .if1 in
+    let at-in-range = c .before .before .before .in-range in
+    let at-if2 = c .before .before .if2 in
+    let at-if3 = c .before .if3 in
+    refused-so _ _ (writeCheck limits (at-args .b) (at-args .acts .now) (at-args .n)) (gameText (at-args .b) (at-args .acts .now) (at-args .n)) (c
+    .refused3 .ensures) (too-many (at-args .b) (at-args .acts .now) (at-args .n) (at-if1 .left)
+    (sym (at-in-range .ensures) ∙ not-false (at-in-range .result) (at-if2 .left)) (at-if3
     .taken)) (λ z. omega arith)
 
 too-many-moves-requires : tie.Need-too-many-moves-requires
@@ -58,15 +60,17 @@ refused-requires-4 c κs = search needs
 
 returns-4 : tie.Need-returns-4
 returns-4 c =
-    refused-so _ _ (writeCheck limits (c .before .before .before .before .before .before .before .before .args .b) (c .before .before .before .before
-    .before .before .before .before .args .acts .now) (c .before .before .before .before .before .before .before .before .args .n)) (gameText (c
-    .before .before .before .before .before .before .before .before .args .b) (c .before .before .before .before .before .before .before .before
-    .args .acts .now) (c .before .before .before .before .before .before .before .before .args .n)) (c .refused4 .ensures) (too-many-moves (c
-    .before .before .before .before .before .before .before .before .args .b) (c .before .before .before .before .before .before .before .before
-    .args .acts .now) (c .before .before .before .before .before .before .before .before .args .n) (c .before .before .before .before .before
-    .before .if1 .left) (sym (c .before .before .before .before .before .in-range .ensures) ∙ not-false (c .before .before .before .before .before
-    .in-range .result) (c .before .before .before .before .if2 .left)) (c .before .before .before .if3 .left) (ltb-true _ _ (sym (c .before .before
-    .too-many-moves .ensures) ∙ c .before .if4 .taken))) (λ z. omega arith)
+    let at-args = c .before .before .before .before .before .before .before .before .args in
+    let at-if1 = c .before .before .before .before .before .before .if1 in
+    let at-in-range = c .before .before .before .before .before .in-range in
+    let at-if2 = c .before .before .before .before .if2 in
+    let at-if3 = c .before .before .before .if3 in
+    let at-too-many-moves = c .before .before .too-many-moves in
+    let at-if4 = c .before .if4 in
+    refused-so _ _ (writeCheck limits (at-args .b) (at-args .acts .now) (at-args .n)) (gameText (at-args .b) (at-args .acts .now) (at-args .n))
+    (c .refused4 .ensures) (too-many-moves (at-args .b) (at-args .acts .now) (at-args .n) (at-if1 .left)
+    (sym (at-in-range .ensures) ∙ not-false (at-in-range .result) (at-if2 .left)) (at-if3 .left)
+    (ltb-true _ _ (sym (at-too-many-moves .ensures) ∙ at-if4 .taken))) (λ z. omega arith)
 
 actions-size-requires : tie.Need-actions-size-requires
 actions-size-requires c κs = (omega (arith, c .before .before .before .before .before .if1 .left, c .before .before .if3 .left), c .before .before .if3 .left)
@@ -76,30 +80,32 @@ refused-requires-5 c κs = search needs
 
 returns-5 : tie.Need-returns-5
 returns-5 c =
-    refused-so _ _ (writeCheck limits (c .before .before .before .before .before .before .before .before .before .before .args .b) (c .before .before
-    .before .before .before .before .before .before .before .before .args .acts .now) (c .before .before .before .before .before .before .before
-    .before .before .before .args .n)) (gameText (c .before .before .before .before .before .before .before .before .before .before .args .b) (c
-    .before .before .before .before .before .before .before .before .before .before .args .acts .now) (c .before .before .before .before .before
-    .before .before .before .before .before .args .n)) (c .refused5 .ensures) (no-action (c .before .before .before .before .before .before .before
-    .before .before .before .args .b) (c .before .before .before .before .before .before .before .before .before .before .args .acts .now) (c
-    .before .before .before .before .before .before .before .before .before .before .args .n) (c .before .before .before .before .before .before
-    .before .before .if1 .left) (sym (c .before .before .before .before .before .before .before .in-range .ensures) ∙ not-false (c .before .before
-    .before .before .before .before .before .in-range .result) (c .before .before .before .before .before .before .if2 .left)) (c .before .before
-    .before .before .before .if3 .left) (ltb-false _ _ (sym (c .before .before .before .before .too-many-moves .ensures) ∙ c .before .before
-    .before .if4 .left)) (size-none (c .before .before .before .before .before .before .before .before .before .before .args .acts .now) (c .before
-    .before .before .before .before .before .before .before .before .before .args .n) (c .before .before .actions-size .result) (c .before .before
-    .actions-size .ensures .0) (c .before .if5 .taken))) (λ z. omega arith)
+    let at-args = c .before .before .before .before .before .before .before .before .before .before .args in
+    let at-if1 = c .before .before .before .before .before .before .before .before .if1 in
+    let at-in-range = c .before .before .before .before .before .before .before .in-range in
+    let at-if2 = c .before .before .before .before .before .before .if2 in
+    let at-if3 = c .before .before .before .before .before .if3 in
+    let at-too-many-moves = c .before .before .before .before .too-many-moves in
+    let at-if4 = c .before .before .before .if4 in
+    let at-actions-size = c .before .before .actions-size in
+    let at-if5 = c .before .if5 in
+    refused-so _ _ (writeCheck limits (at-args .b) (at-args .acts .now) (at-args .n)) (gameText (at-args .b) (at-args .acts .now) (at-args .n))
+    (c .refused5 .ensures) (no-action (at-args .b) (at-args .acts .now) (at-args .n) (at-if1 .left)
+    (sym (at-in-range .ensures) ∙ not-false (at-in-range .result) (at-if2 .left)) (at-if3 .left)
+    (ltb-false _ _ (sym (at-too-many-moves .ensures) ∙ at-if4 .left))
+    (size-none (at-args .acts .now) (at-args .n) (at-actions-size .result) (at-actions-size .ensures .0) (at-if5 .taken))) (λ z. omega arith)
 
 number-length-requires : tie.Need-number-length-requires
 number-length-requires c κs = search needs
 
 add-accepted : tie.Need-add-accepted
-add-accepted c = omega (
-  arith,
-  c .number-length .ensures,
-  groups-most 5 (c .before .before .before .before .before .before .before .before .before
-      .before .args .n),
-)
+add-accepted c =
+    let a = c .before .before .before .before .before .before .before .before .before .before .args in
+    omega (
+      arith,
+      c .number-length .ensures,
+      groups-most 5 (a .n),
+    )
 
 sub-accepted : tie.Need-sub-accepted
 sub-accepted c = search needs
@@ -114,28 +120,27 @@ accepted-requires c κs = search needs
 
 returns-6 : tie.Need-returns-6
 returns-6 c =
-    let all = size-all (c .before .before .before .before .before .before .before .before .before .before .before .args .acts .now) (c .before .before
-    .before .before .before .before .before .before .before .before .before .args .n) (c .before .before .before .actions-size .result) (c .before
-    .before .before .actions-size .ensures .0) (c .before .before .if5 .left) in
-    let good = (sym (c .before .before .before .before .before .before .before .before .in-range .ensures) ∙ not-false (c .before .before .before
-    .before .before .before .before .before .in-range .result) (c .before .before .before .before .before .before .before .if2 .left)) in
-    let check = passes (c .before .before .before .before .before .before .before .before .before .before .before .args .b) (c .before .before .before
-    .before .before .before .before .before .before .before .before .args .acts .now) (c .before .before .before .before .before .before .before
-    .before .before .before .before .args .n) (c .before .before .before .before .before .before .before .before .before .if1 .left) good (c .before
-    .before .before .before .before .before .if3 .left) (ltb-false _ _ (sym (c .before .before .before .before .before .too-many-moves .ensures) ∙ c
-    .before .before .before .before .if4 .left)) (all .held) in
-    accepted-so _ _ (writeCheck limits (c .before .before .before .before .before .before .before .before .before .before .before .args .b) (c .before
-    .before .before .before .before .before .before .before .before .before .before .args .acts .now) (c .before .before .before .before .before
-    .before .before .before .before .before .before .args .n)) (gameText (c .before .before .before .before .before .before .before .before .before
-    .before .before .args .b) (c .before .before .before .before .before .before .before .before .before .before .before .args .acts .now) (c
-    .before .before .before .before .before .before .before .before .before .before .before .args .n)) (c .accepted .ensures) check
+    let at-args = c .before .before .before .before .before .before .before .before .before .before .before .args in
+    let at-if1 = c .before .before .before .before .before .before .before .before .before .if1 in
+    let at-in-range = c .before .before .before .before .before .before .before .before .in-range in
+    let at-if2 = c .before .before .before .before .before .before .before .if2 in
+    let at-if3 = c .before .before .before .before .before .before .if3 in
+    let at-too-many-moves = c .before .before .before .before .before .too-many-moves in
+    let at-if4 = c .before .before .before .before .if4 in
+    let at-actions-size = c .before .before .before .actions-size in
+    let at-if5 = c .before .before .if5 in
+    let at-number-length = c .before .number-length in
+    let all = size-all (at-args .acts .now) (at-args .n) (at-actions-size .result) (at-actions-size .ensures .0) (at-if5 .left) in
+    let good = (sym (at-in-range .ensures) ∙ not-false (at-in-range .result) (at-if2 .left)) in
+    let check = passes (at-args .b) (at-args .acts .now) (at-args .n) (at-if1 .left) good (at-if3 .left)
+    (ltb-false _ _ (sym (at-too-many-moves .ensures) ∙ at-if4 .left)) (all .held) in
+    accepted-so _ _ (writeCheck limits (at-args .b) (at-args .acts .now) (at-args .n)) (gameText (at-args .b) (at-args .acts .now) (at-args .n))
+    (c .accepted .ensures) check
     (omega (
       arith,
-      text-long (c .before .before .before .before .before .before .before .before .before .before .before .args .b) (c .before .before
-          .before .before .before .before .before .before .before .before .before .args .acts .now) (c .before .before .before .before .before .before
-          .before .before .before .before .before .args .n) good,
+      text-long (at-args .b) (at-args .acts .now) (at-args .n) good,
       all .long,
-      c .before .number-length .ensures,
+      at-number-length .ensures,
     ))
 
 pub measure-spec : {M : Type 1} → statement M

@@ -21,8 +21,9 @@ add-result c = omega (arith, c .number-length .ensures, small-number (c .before 
 
 returns-3 : tie.Need-returns-3
 returns-3 c =
-    let few = small-number (c .before .before .before .args .number) (omega (arith, c .before .if2 .left)) in (
-      ap (λ (k : ℕ). 1 + k) (c .number-length .ensures) ∙ move-there (c .before .before .before .args .colour) (c .before .before .before .args .number)
+    let a = c .before .before .before .args in
+    let few = small-number (a .number) (omega (arith, c .before .if2 .left)) in (
+      ap (λ (k : ℕ). 1 + k) (c .number-length .ensures) ∙ move-there (a .colour) (a .number)
           (c .before .before .if1 .left) (c .before .if2 .left),
       omega (arith, few, c .number-length .ensures),
     )

@@ -13,31 +13,28 @@ to-bytes-requires c κs = search needs
 
 put-groups-requires : tie.Need-put-groups-requires
 put-groups-requires c κs =
-    let p = passed limits (c .before .before .before .before .before .before .before .args .b) (c .before .before .before .before .before .before
-    .before .args .acts .now) (c .before .before .before .before .before .before .before .args .n) (c .before .before .before .before .before .before
-    .before .pre .0) in
-    let x = c .before .before .before .to-bytes .last .1 .0 in (
+    let a = c .before .before .before .before .before .before .before .args in
+    let at-pre = c .before .before .before .before .before .before .before .pre in
+    let at-to-bytes = c .before .before .before .to-bytes in
+    let p = passed limits (a .b) (a .acts .now) (a .n) (at-pre .0) in
+    let x = at-to-bytes .last .1 .0 in (
       (omega arith, omega (arith, reach-five, p .few)),
-      record-there (c .before .before .before .before .before .before .before .args .b) (c .before
-          .before .before .before .before .before .before .args .acts .now) (c .before .before .before .before .before .before .before .args .n) (p .good) (c
-          .before .before .before .before .before .before .before .args .out .now) x x x _ (c .before .before .before .before .before .before .before .pre
-          .1) (c .before .before .before .to-bytes .ensures .1) refl,
+      record-there (a .b) (a .acts .now) (a .n) (p .good) (a .out .now) x x x _ (at-pre
+          .1) (at-to-bytes .ensures .1) refl,
     )
 
 put-actions-requires : tie.Need-put-actions-requires
 put-actions-requires c κs =
-    let p = passed limits (c .before .before .before .before .before .before .before .before .before .before .before .args .b) (c .before .before
-    .before .before .before .before .before .before .before .before .before .args .acts .now) (c .before .before .before .before .before .before
-    .before .before .before .before .before .args .n) (c .before .before .before .before .before .before .before .before .before .before .before .pre .0) in
-    let x = c .before .before .before .before .before .before .before .to-bytes .last .1 .0 in
-    let y = c .before .before .before .put-groups .last .0 in (
+    let at-args = c .before .before .before .before .before .before .before .before .before .before .before .args in
+    let at-pre = c .before .before .before .before .before .before .before .before .before .before .before .pre in
+    let at-to-bytes = c .before .before .before .before .before .before .before .to-bytes in
+    let at-put-groups = c .before .before .before .put-groups in
+    let p = passed limits (at-args .b) (at-args .acts .now) (at-args .n) (at-pre .0) in
+    let x = at-to-bytes .last .1 .0 in
+    let y = at-put-groups .last .0 in (
       omega (arith, p .long, p .few),
-      count-there (c .before .before .before .before .before .before .before .before .before .before .before .args .b) (c .before .before .before
-          .before .before .before .before .before .before .before .before .args .acts .now) (c .before .before .before .before .before .before .before
-          .before .before .before .before .args .n) (p .good) (c .before .before .before .before .before .before .before .before .before .before
-          .before .args .out .now) x y y (c .before .before .before .put-groups .result) (c .before .before .before .before .before .before .before
-          .before .before .before .before .pre .1) (c .before .before .before .before .before .before .before .to-bytes .ensures .1) (c .before .before
-          .before .put-groups .ensures .0) (c .before .before .before .put-groups .ensures .1),
+      count-there (at-args .b) (at-args .acts .now) (at-args .n) (p .good) (at-args .out .now) x y y (at-put-groups .result) (at-pre .1)
+          (at-to-bytes .ensures .1) (at-put-groups .ensures .0) (at-put-groups .ensures .1),
     )
 
 same-length : tie.Need-same-length
@@ -45,20 +42,16 @@ same-length c = search needs
 
 returns : tie.Need-returns
 returns c =
-    let p = passed limits (c .before .before .before .before .before .before .before .before .before .before .before .before .before .before .args .b)
-    (c .before .before .before .before .before .before .before .before .before .before .before .before .before .before .args .acts .now) (c .before
-    .before .before .before .before .before .before .before .before .before .before .before .before .before .args .n) (c .before .before .before
-    .before .before .before .before .before .before .before .before .before .before .before .pre .0) in
-    let x = c .before .before .before .before .before .before .before .before .before .before .to-bytes .last .1 .0 in
-    let y = c .before .before .before .before .before .before .put-groups .last .0 in
-    all-there (c .before .before .before .before .before .before .before .before .before .before .before .before .before .before .args .b) (c .before
-    .before .before .before .before .before .before .before .before .before .before .before .before .before .args .acts .now) (c .before .before
-    .before .before .before .before .before .before .before .before .before .before .before .before .args .n) (p .good) (c .before .before .before
-    .before .before .before .before .before .before .before .before .before .before .before .args .out .now) x y (c .before .before .put-actions
-    .last .1 .1 .0) (c .before .before .before .before .before .before .put-groups .result) (c .before .before .before .before .before .before
-    .before .before .before .before .before .before .before .before .pre .1) (c .before .before .before .before .before .before .before .before
-    .before .before .to-bytes .ensures .1) (c .before .before .before .before .before .before .put-groups .ensures .0) (c .before .before .before
-    .before .before .before .put-groups .ensures .1)
+    let a = c .before .before .before .before .before .before .before .before .before .before .before .before .before .before .args in
+    let at-pre = c .before .before .before .before .before .before .before .before .before .before .before .before .before .before .pre in
+    let at-to-bytes = c .before .before .before .before .before .before .before .before .before .before .to-bytes in
+    let at-put-groups = c .before .before .before .before .before .before .put-groups in
+    let p = passed limits (a .b)
+    (a .acts .now) (a .n) (at-pre .0) in
+    let x = at-to-bytes .last .1 .0 in
+    let y = at-put-groups .last .0 in
+    all-there (a .b) (a .acts .now) (a .n) (p .good) (a .out .now) x y (c .before .before .put-actions
+    .last .1 .1 .0) (at-put-groups .result) (at-pre .1) (at-to-bytes .ensures .1) (at-put-groups .ensures .0) (at-put-groups .ensures .1)
     (c .before .before .put-actions .ensures)
 
 pub put-spec : {M : Type 1} → statement M

@@ -17,11 +17,11 @@ abbrev μ-loop : tie.MeasureT-loop
 μ-loop acts n out₀ from at₀ i₀ out at i = n - i
 
 loop-holds : tie.Need-loop-holds Inv-loop μ-loop
-loop-holds c = (
-  omega arith,
-  so-far-none (c .before .before .args .acts .now) (c .before .before .args .out .now) (c .before .before .args .from) (c
-      .before .before .args .n),
-)
+loop-holds c =
+    let a = c .before .before .args in (
+      omega arith,
+      so-far-none (a .acts .now) (a .out .now) (a .from) (a .n),
+    )
 
 mul-fields-at : tie.Need-mul-fields-at Inv-loop μ-loop
 mul-fields-at c = omega (arith, c .loop-test .taken, c .before .before .before .before .pre .0)
@@ -31,13 +31,17 @@ fields-at-requires c κs = omega (arith, c .loop-test .taken, c .before .before 
 
 put-text-requires : tie.Need-put-text-requires Inv-loop μ-loop
 put-text-requires c κs =
-    let acts = c .before .before .before .before .before .before .args .acts .now in
-    let l = c .before .before .before .before .before .before .args .out .now in
-    let t = drop (4 * c .before .before .before .loop .i) acts in
-    let w = so-far-fits acts l (c .before .before .before .loop .out) (c .before .before .before .before .before .before .args .from) (c .before
-    .before .before .before .before .before .args .n) (c .before .before .before .loop .i) (c .before .before .before .loop .at) t (c .before .before
-    .before .loop .inv .1) (c .before .before .loop-test .taken) refl (c .before .before .before .before .before .before .pre .1) in
-    let e = ap (λ (f : Fields). length (actionText (f .kind) (f .colour) (f .number))) (c .before .fields-at .ensures) in
+    let at-args = c .before .before .before .before .before .before .args in
+    let at-pre = c .before .before .before .before .before .before .pre in
+    let at-loop = c .before .before .before .loop in
+    let at-loop-test = c .before .before .loop-test in
+    let at-fields-at = c .before .fields-at in
+    let acts = at-args .acts .now in
+    let l = at-args .out .now in
+    let t = drop (4 * at-loop .i) acts in
+    let w = so-far-fits acts l (at-loop .out) (at-args .from) (at-args .n) (at-loop .i) (at-loop .at) t (at-loop .inv .1) (at-loop-test .taken) refl
+    (at-pre .1) in
+    let e = ap (λ (f : Fields). length (actionText (f .kind) (f .colour) (f .number))) (at-fields-at .ensures) in
     omega (arith, w .0, w .1, e)
 
 add-i : tie.Need-add-i Inv-loop μ-loop
@@ -48,32 +52,38 @@ loop-less c = omega (arith, c .before .before .before .before .before .loop-test
 
 loop-again : tie.Need-loop-again Inv-loop μ-loop
 loop-again c =
-    let acts = c .before .before .before .before .before .before .before .before .before .args .acts .now in
-    let l = c .before .before .before .before .before .before .before .before .before .args .out .now in
-    let t = drop (4 * c .before .before .before .before .before .before .loop .i) acts in
-    let at = c .before .before .before .before .before .before .loop .at in
-    let end = c .before .before .put-text .ensures .0 ∙ ap (λ (f : Fields). at + length (actionText (f .kind) (f .colour) (f .number))) (c .before
-    .before .before .before .fields-at .ensures) in
-    let bytes = c .before .before .put-text .ensures .1 ∙ ap (λ (f : Fields). written (c .before .before .before .before .before .before .loop .out) at
-    (actionText (f .kind) (f .colour) (f .number))) (c .before .before .before .before .fields-at .ensures) in (
-      omega (arith, c .before .before .before .before .before .loop-test .taken),
+    let at-args = c .before .before .before .before .before .before .before .before .before .args in
+    let at-pre = c .before .before .before .before .before .before .before .before .before .pre in
+    let at-loop = c .before .before .before .before .before .before .loop in
+    let at-loop-test = c .before .before .before .before .before .loop-test in
+    let at-fields-at = c .before .before .before .before .fields-at in
+    let at-put-text = c .before .before .put-text in
+    let acts = at-args .acts .now in
+    let l = at-args .out .now in
+    let t = drop (4 * at-loop .i) acts in
+    let at = at-loop .at in
+    let end = at-put-text .ensures .0 ∙ ap (λ (f : Fields). at + length (actionText (f .kind) (f .colour) (f .number))) (at-fields-at .ensures) in
+    let bytes = at-put-text .ensures .1 ∙ ap (λ (f : Fields). written (at-loop .out) at
+    (actionText (f .kind) (f .colour) (f .number))) (at-fields-at .ensures) in (
+      omega (arith, at-loop-test .taken),
       rw end
-          (so-far-more acts l (c .before .before .before .before .before .before .loop .out) (c .before .before .put-text .last .0) (c .before .before
-          .before .before .before .before .before .before .before .args .from) (c .before .before .before .before .before .before .before .before
-          .before .args .n) (c .before .before .before .before .before .before .loop .i) at t (c .before .before .before .before .before .before .loop
-          .inv .1) (c .before .before .before .before .before .loop-test .taken) refl (c .before .before .before .before .before .before .before
-          .before .before .pre .1) bytes),
+          (so-far-more acts l (at-loop .out) (at-put-text .last .0) (at-args .from) (at-args .n) (at-loop .i) at t (at-loop
+          .inv .1) (at-loop-test .taken) refl (at-pre .1) bytes),
     )
 
 same-length : tie.Need-same-length Inv-loop μ-loop
-same-length c = so-far-length (c .before .before .before .before .args .acts .now) (c .before .before .before .before .args .out .now) (c .before .loop
-    .out) (c .before .before .before .before .args .from) (c .before .before .before .before .args .n) (c .before .loop .i) (c .before .loop .at) (c
-    .before .loop .inv .1) (c .before .before .before .before .pre .1)
+same-length c =
+    let a = c .before .before .before .before .args in
+    let at-loop = c .before .loop in
+    so-far-length (a .acts .now) (a .out .now) (at-loop
+    .out) (a .from) (a .n) (at-loop .i) (at-loop .at) (at-loop .inv .1) (c .before .before .before .before .pre .1)
 
 returns : tie.Need-returns Inv-loop μ-loop
-returns c = so-far-all (c .before .before .before .before .args .acts .now) (c .before .before .before .before .args .out .now) (c .before .loop .out)
-    (c .before .before .before .before .args .from) (c .before .before .before .before .args .n) (c .before .loop .i) (c .before .loop .at) (c .before
-    .loop .inv .1) (c .loop-test .left)
+returns c =
+    let a = c .before .before .before .before .args in
+    let at-loop = c .before .loop in
+    so-far-all (a .acts .now) (a .out .now) (at-loop .out)
+    (a .from) (a .n) (at-loop .i) (at-loop .at) (at-loop .inv .1) (c .loop-test .left)
 
 pub put-actions-spec : {M : Type 1} → statement M
 put-actions-spec =

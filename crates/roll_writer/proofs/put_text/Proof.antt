@@ -27,90 +27,85 @@ same-length c = search needs
 
 returns : tie.Need-returns
 returns c =
+    let a = c .before .before .before .before .before .before .before .args in
     let s = c .before .before .before .before .before .is-short .ensures (c .before .before .before .before .if1 .taken) in
-    let same = ap₂ (λ (x y : ℕ). actionText x y (c .before .before .before .before .before .before .before .args .number)) (s .moves) (s .none) in (
+    let same = ap₂ (λ (x y : ℕ). actionText x y (a .number)) (s .moves) (s .none) in (
       omega (arith, c .before .before .put-short .ensures .0, ap length same),
-      c .before .before .put-short .ensures .1 ∙ ap (written (c .before .before
-          .before .before .before .before .before .args .out .now) (c .before .before .before .before .before .before .before .args .at)) (sym same),
+      c .before .before .put-short .ensures .1 ∙ ap (written (a .out .now) (a .at)) (sym same),
     )
 
 code-of-requires : tie.Need-code-of-requires
 code-of-requires c κs = search needs
 
 put-groups-requires : tie.Need-put-groups-requires
-put-groups-requires c κs = (
-  (omega arith, omega (arith, reach-five, c .code-of .ensures)),
-  code-fits (c .before .before .before .before .before .before
-      .args .out .now) (c .before .before .before .before .before .before .args .kind) (c .before .before .before .before .before .before .args .colour)
-      (c .before .before .before .before .before .before .args .number) (c .before .before .before .before .before .before .args .at) (c .code-of
-      .result) (c .code-of .ensures) (c .before .before .before .before .before .before .pre) (c .before .before .if2 .taken),
-)
+put-groups-requires c κs =
+    let a = c .before .before .before .before .before .before .args in (
+      (omega arith, omega (arith, reach-five, c .code-of .ensures)),
+      code-fits (a .out .now) (a .kind) (a .colour)
+          (a .number) (a .at) (c .code-of
+          .result) (c .code-of .ensures) (c .before .before .before .before .before .before .pre) (c .before .before .if2 .taken),
+    )
 
 put-groups-requires-2 : tie.Need-put-groups-requires-2
-put-groups-requires-2 c κs = (
-  (omega arith, omega (arith, reach-five)),
-  number-fits (c .before .before .before .before .before .before .before .before
-      .before .before .args .out .now) (c .before .before .before .before .before .before .before .before .before .before .args .kind) (c .before .before
-      .before .before .before .before .before .before .before .before .args .colour) (c .before .before .before .before .before .before .before .before
-      .before .before .args .number) (c .before .before .before .before .before .before .before .before .before .before .args .at) (c .before .before
-      .before .before .code-of .result) (c .before .before .before .before .code-of .ensures) (c .before .before .before .before .before .before .before
-      .before .before .before .pre) (c .before .before .before .before .before .before .if2 .taken) (c .before .before .before .put-groups .last .0) (c
-      .before .before .before .put-groups .result) (c .before .before .before .put-groups .ensures .0) (c .before .before .before .put-groups .ensures .1),
-)
+put-groups-requires-2 c κs =
+    let at-args = c .before .before .before .before .before .before .before .before .before .before .args in
+    let at-pre = c .before .before .before .before .before .before .before .before .before .before .pre in
+    let at-if2 = c .before .before .before .before .before .before .if2 in
+    let at-code-of = c .before .before .before .before .code-of in
+    let at-put-groups = c .before .before .before .put-groups in
+    let at-put-groups = at-put-groups in (
+      (omega arith, omega (arith, reach-five)),
+      number-fits (at-args .out .now) (at-args .kind) (at-args .colour) (at-args .number) (at-args .at) (at-code-of .result) (at-code-of .ensures) (at-pre)
+          (at-if2 .taken) (at-put-groups .last .0) (at-put-groups .result) (at-put-groups .ensures .0) (at-put-groups .ensures .1),
+    )
 
 same-length-2 : tie.Need-same-length-2
 same-length-2 c = search needs
 
 returns-2 : tie.Need-returns-2
-returns-2 c = (
-  move-end (c .before .before .before .before .before .before .before .before .before .before .before .before .before .args .out .now) (c .before
-      .before .before .before .before .before .before .before .before .before .before .before .before .args .kind) (c .before .before .before .before
-      .before .before .before .before .before .before .before .before .before .args .colour) (c .before .before .before .before .before .before .before
-      .before .before .before .before .before .before .args .number) (c .before .before .before .before .before .before .before .before .before .before
-      .before .before .before .args .at) (c .before .before .before .before .before .before .before .code-of .result) (c .before .before .before .before
-      .before .before .before .code-of .ensures) (c .before .before .before .before .before .before .before .before .before .before .before .before
-      .before .pre) (c .before .before .before .before .before .before .before .before .before .if2 .taken) (c .before .before .before .before .before
-      .before .put-groups .last .0) (c .before .before .before .before .before .before .put-groups .result) (c .before .before .before .before .before
-      .before .put-groups .ensures .0) (c .before .before .before .before .before .before .put-groups .ensures .1) (c .before .before .put-groups2
-      .result) (c .before .before .put-groups2 .ensures .0),
-  move-put (c .before .before .before .before .before .before .before .before .before .before .before .before .before .args .out .now) (c .before
-      .before .before .before .before .before .before .before .before .before .before .before .before .args .kind) (c .before .before .before .before
-      .before .before .before .before .before .before .before .before .before .args .colour) (c .before .before .before .before .before .before
-      .before .before .before .before .before .before .before .args .number) (c .before .before .before .before .before .before .before .before
-      .before .before .before .before .before .args .at) (c .before .before .before .before .before .before .before .code-of .result) (c .before
-      .before .before .before .before .before .before .code-of .ensures) (c .before .before .before .before .before .before .before .before .before
-      .before .before .before .before .pre) (c .before .before .before .before .before .before .before .before .before .if2 .taken) (c .before
-      .before .before .before .before .before .put-groups .last .0) (c .before .before .before .before .before .before .put-groups .result) (c
-      .before .before .before .before .before .before .put-groups .ensures .0) (c .before .before .before .before .before .before .put-groups
-      .ensures .1) (c .before .before .put-groups2 .last .0) (c .before .before .put-groups2 .ensures .1),
-)
+returns-2 c =
+    let at-args = c .before .before .before .before .before .before .before .before .before .before .before .before .before .args in
+    let at-pre = c .before .before .before .before .before .before .before .before .before .before .before .before .before .pre in
+    let at-if2 = c .before .before .before .before .before .before .before .before .before .if2 in
+    let at-code-of = c .before .before .before .before .before .before .before .code-of in
+    let at-put-groups = c .before .before .before .before .before .before .put-groups in
+    let at-put-groups2 = c .before .before .put-groups2 in
+    let at-put-groups = at-put-groups in (
+      move-end (at-args .out .now) (at-args .kind) (at-args .colour) (at-args .number) (at-args .at) (at-code-of .result) (at-code-of .ensures) (at-pre)
+          (at-if2 .taken) (at-put-groups .last .0) (at-put-groups .result) (at-put-groups .ensures .0) (at-put-groups .ensures .1) (at-put-groups2
+          .result) (at-put-groups2 .ensures .0),
+      move-put (at-args .out .now) (at-args .kind) (at-args .colour) (at-args .number) (at-args .at) (at-code-of .result) (at-code-of .ensures) (at-pre)
+          (at-if2 .taken) (at-put-groups .last .0) (at-put-groups .result) (at-put-groups .ensures .0) (at-put-groups
+          .ensures .1) (at-put-groups2 .last .0) (at-put-groups2 .ensures .1),
+    )
 
 code-of-requires-2 : tie.Need-code-of-requires-2
 code-of-requires-2 c κs = search needs
 
 put-groups-requires-3 : tie.Need-put-groups-requires-3
-put-groups-requires-3 c κs = (
-  (omega arith, omega (arith, reach-five, c .code-of2 .ensures)),
-  plain-fits (c .before .before .before .before .before
-      .before .args .out .now) (c .before .before .before .before .before .before .args .kind) (c .before .before .before .before .before .before .args
-      .colour) (c .before .before .before .before .before .before .args .number) (c .before .before .before .before .before .before .args .at) (c
-      .code-of2 .result) (c .code-of2 .ensures) (c .before .before .before .before .before .before .pre) (c .before .before .if2 .left),
-)
+put-groups-requires-3 c κs =
+    let a = c .before .before .before .before .before .before .args in (
+      (omega arith, omega (arith, reach-five, c .code-of2 .ensures)),
+      plain-fits (a .out .now) (a .kind) (a
+          .colour) (a .number) (a .at) (c
+          .code-of2 .result) (c .code-of2 .ensures) (c .before .before .before .before .before .before .pre) (c .before .before .if2 .left),
+    )
 
 same-length-3 : tie.Need-same-length-3
 same-length-3 c = search needs
 
 returns-3 : tie.Need-returns-3
 returns-3 c =
-    let is = plain-is (c .before .before .before .before .before .before .before .before .before .args .out .now) (c .before .before .before .before
-    .before .before .before .before .before .args .kind) (c .before .before .before .before .before .before .before .before .before .args .colour) (c
-    .before .before .before .before .before .before .before .before .before .args .number) (c .before .before .before .before .before .before .before
-    .before .before .args .at) (c .before .before .before .code-of2 .result) (c .before .before .before .code-of2 .ensures) (c .before .before .before
-    .before .before .before .before .before .before .pre) (c .before .before .before .before .before .if2 .left) in (
-      c .before .before .put-groups3 .ensures .0 ∙ ap (λ (t : List ℕ). c .before .before .before .before .before .before .before .before .before .args
+    let at-args = c .before .before .before .before .before .before .before .before .before .args in
+    let at-pre = c .before .before .before .before .before .before .before .before .before .pre in
+    let at-if2 = c .before .before .before .before .before .if2 in
+    let at-code-of2 = c .before .before .before .code-of2 in
+    let at-put-groups3 = c .before .before .put-groups3 in
+    let is = plain-is (at-args .out .now) (at-args .kind) (at-args .colour) (at-args .number) (at-args .at) (at-code-of2 .result) (at-code-of2 .ensures)
+    (at-pre) (at-if2 .left) in (
+      at-put-groups3 .ensures .0 ∙ ap (λ (t : List ℕ). at-args
           .at + length t) is,
-      c .before .before .put-groups3 .ensures .1 ∙ ap (written (c .before .before .before .before .before .before .before .before
-          .before .args .out .now) (c .before .before .before .before .before .before .before .before .before .args .at)) is,
+      at-put-groups3 .ensures .1 ∙ ap (written (at-args .out .now) (at-args .at)) is,
     )
 
 pub put-text-spec : {M : Type 1} → statement M

@@ -20,62 +20,53 @@ measure-requires c κs = search needs
 
 returns : tie.Need-returns
 returns c =
-    let w = not-accepted (c .before .before .measure .result) (writeCheck limits (c .before .before .before .before .before .args .b) (c .before
-    .before .before .before .before .args .acts .now) (c .before .before .before .before .before .args .n)) (gameText (c .before .before .before
-    .before .before .args .b) (c .before .before .before .before .before .args .acts .now) (c .before .before .before .before .before .args .n)) (c
-    .before .before .before .before .before .args .out .now) (c .before .before .measure .ensures) (c .if1 .taken) in
+    let at-args = c .before .before .before .before .before .args in
+    let at-measure = c .before .before .measure in
+    let w = not-accepted (at-measure .result) (writeCheck limits (at-args .b) (at-args .acts .now) (at-args .n))
+    (gameText (at-args .b) (at-args .acts .now) (at-args .n)) (at-args .out .now) (at-measure .ensures) (c .if1 .taken) in
     (w .answer, w .bytes)
 
 returns-2 : tie.Need-returns-2
 returns-2 c =
-    let m = was-accepted (c .before .before .before .before .measure .result) (writeCheck limits (c .before .before .before .before .before .before
-    .before .args .b) (c .before .before .before .before .before .before .before .args .acts .now) (c .before .before .before .before .before .before
-    .before .args .n)) (gameText (c .before .before .before .before .before .before .before .args .b) (c .before .before .before .before .before
-    .before .before .args .acts .now) (c .before .before .before .before .before .before .before .args .n)) (c .before .before .before .before .measure
-    .ensures) (c .before .before .if1 .left) in
+    let at-args = c .before .before .before .before .before .before .before .args in
+    let at-measure = c .before .before .before .before .measure in
+    let at-if1 = c .before .before .if1 in
+    let m = was-accepted (at-measure .result) (writeCheck limits (at-args .b) (at-args .acts .now) (at-args .n))
+    (gameText (at-args .b) (at-args .acts .now) (at-args .n)) (at-measure
+    .ensures) (at-if1 .left) in
     let value = ap (λ (a : Answer). a .value) (m .told) in
-    let w = write-short (gameText (c .before .before .before .before .before .before .before .args .b) (c .before .before .before .before .before
-    .before .before .args .acts .now) (c .before .before .before .before .before .before .before .args .n)) (c .before .before .before .before .before
-    .before .before .args .out .now) (omega (arith, value, c .if2 .taken)) in
+    let w = write-short (gameText (at-args .b) (at-args .acts .now) (at-args .n)) (at-args .out .now) (omega (arith, value, c .if2 .taken)) in
     rw (m .passed) (ap tooShort value ∙ w .answer, w .bytes)
 
 put-requires : tie.Need-put-requires
 put-requires c κs =
-    let m = was-accepted (c .before .before .before .before .before .measure .result) (writeCheck limits (c .before .before .before .before .before
-    .before .before .before .args .b) (c .before .before .before .before .before .before .before .before .args .acts .now) (c .before .before .before
-    .before .before .before .before .before .args .n)) (gameText (c .before .before .before .before .before .before .before .before .args .b) (c
-    .before .before .before .before .before .before .before .before .args .acts .now) (c .before .before .before .before .before .before .before
-    .before .args .n)) (c .before .before .before .before .before .measure .ensures) (c .before .before .before .if1 .left) in
+    let at-args = c .before .before .before .before .before .before .before .before .args in
+    let at-measure = c .before .before .before .before .before .measure in
+    let at-if1 = c .before .before .before .if1 in
+    let at-if2 = c .before .if2 in
+    let m = was-accepted (at-measure .result) (writeCheck limits (at-args .b) (at-args .acts .now) (at-args .n))
+    (gameText (at-args .b) (at-args .acts .now) (at-args .n)) (at-measure .ensures) (at-if1 .left) in
     let value = ap (λ (a : Answer). a .value) (m .told) in
-    (m .passed, omega (arith, value, c .before .if2 .left))
+    (m .passed, omega (arith, value, at-if2 .left))
 
 same-length : tie.Need-same-length
 same-length c = search needs
 
 returns-3 : tie.Need-returns-3
 returns-3 c =
-    let m = was-accepted (c .before .before .before .before .before .before .before .before .measure .result) (writeCheck limits (c .before .before
-    .before .before .before .before .before .before .before .before .before .args .b) (c .before .before .before .before .before .before .before
-    .before .before .before .before .args .acts .now) (c .before .before .before .before .before .before .before .before .before .before .before .args
-    .n)) (gameText (c .before .before .before .before .before .before .before .before .before .before .before .args .b) (c .before .before .before
-    .before .before .before .before .before .before .before .before .args .acts .now) (c .before .before .before .before .before .before .before
-    .before .before .before .before .args .n)) (c .before .before .before .before .before .before .before .before .measure .ensures) (c .before .before
-    .before .before .before .before .if1 .left) in
+    let at-args = c .before .before .before .before .before .before .before .before .before .before .before .args in
+    let at-measure = c .before .before .before .before .before .before .before .before .measure in
+    let at-if1 = c .before .before .before .before .before .before .if1 in
+    let at-if2 = c .before .before .before .before .if2 in
+    let at-put = c .before .before .put in
+    let m = was-accepted (at-measure .result) (writeCheck limits (at-args .b) (at-args .acts .now) (at-args
+    .n)) (gameText (at-args .b) (at-args .acts .now) (at-args .n)) (at-measure .ensures) (at-if1 .left) in
     let value = ap (λ (a : Answer). a .value) (m .told) in
-    let fits : length (gameText (c .before .before .before .before .before .before .before .before .before .before .before .args .b) (c .before .before
-    .before .before .before .before .before .before .before .before .before .args .acts .now) (c .before .before .before .before .before .before
-    .before .before .before .before .before .args .n)) ≤ length (c .before .before .before .before .before .before .before .before .before .before
-    .before .args .out .now) = omega (arith, value, c .before .before .before .before .if2 .left) in
-    let w = write-fits (gameText (c .before .before .before .before .before .before .before .before .before .before .before .args .b) (c .before
-    .before .before .before .before .before .before .before .before .before .before .args .acts .now) (c .before .before .before .before .before
-    .before .before .before .before .before .before .args .n)) (c .before .before .before .before .before .before .before .before .before .before
-    .before .args .out .now) fits in
+    let fits : length (gameText (at-args .b) (at-args .acts .now) (at-args .n)) ≤ length (at-args .out .now) = omega (arith, value, at-if2 .left) in
+    let w = write-fits (gameText (at-args .b) (at-args .acts .now) (at-args .n)) (at-args .out .now) fits in
     rw (m .passed) (
       m .told ∙ w .answer,
-      c .before .before .put .ensures ∙ sym (over-front (gameText (c .before .before .before .before .before .before
-          .before .before .before .before .before .args .b) (c .before .before .before .before .before .before .before .before .before .before .before
-          .args .acts .now) (c .before .before .before .before .before .before .before .before .before .before .before .args .n)) (c .before .before
-          .before .before .before .before .before .before .before .before .before .args .out .now) fits),
+      at-put .ensures ∙ sym (over-front (gameText (at-args .b) (at-args .acts .now) (at-args .n)) (at-args .out .now) fits),
     )
 
 pub write-spec : {M : Type 1} → statement M

@@ -14,8 +14,10 @@ refused-requires : tie.Need-refused-requires
 refused-requires c κs = search needs
 
 returns : tie.Need-returns
-returns c = let h : squareCheck (c .before .before .before .args .square) ≡ 5 = simp (le-ltb _ _ (c .before .if1 .taken)) in
-    let w = write-refused 5 (squareText (c .before .before .before .args .square)) (c .before .before .before .args .out .now) (λ e. omega arith) in
+returns c =
+    let a = c .before .before .before .args in
+    let h : squareCheck (a .square) ≡ 5 = simp (le-ltb _ _ (c .before .if1 .taken)) in
+    let w = write-refused 5 (squareText (a .square)) (a .out .now) (λ e. omega arith) in
     rw h (c .refused .ensures ∙ w .answer, w .bytes)
 
 add-t6 : tie.Need-add-t6

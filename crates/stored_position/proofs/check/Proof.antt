@@ -16,10 +16,11 @@ in-range-requires c κs = search needs
 
 returns : tie.Need-returns
 returns c =
-    let b = c .before .before .before .args .b in
+    let a = c .before .before .before .args in
+    let b = a .b in
     let long : length (b .pieces) ≡ squares = search length-unmapped in
     let e : numbersInRange (numbers b) ≡ false = numbers-range b long ∙ sym (c .before .in-range .ensures) ∙ not-true _ (c .if1 .taken) in
-    sym (bad-board (positionGiven b (c .before .before .before .args .in-check) (c .before .before .before .args .list .now)) e)
+    sym (bad-board (positionGiven b (a .in-check) (a .list .now)) e)
 
 returns-2 : tie.Need-returns-2
 returns-2 c =

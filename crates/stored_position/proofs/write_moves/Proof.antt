@@ -58,13 +58,14 @@ loop-less c = omega arith
 
 loop-again : tie.Need-loop-again Inv-loop μ-loop
 loop-again c =
-    let list = c .before .before .before .args .list .now in
-    let at = c .before .before .before .args .at in
+    let a = c .before .before .before .args in
+    let list = a .list .now in
+    let at = a .at in
     let i = c .before .before .loop .i in (
       omega arith,
       simp length-set (c .before .before .loop .inv .1),
       ap (λ (w : List ℕ). set (set w (at + 2 * i) (lowByte (getD list i 0))) (at + 2 * i + 1) (highByte (getD list i 0))) (c .before .before .loop .inv .2)
-          ∙ moves-turn (c .before .before .before .args .out .now) list at i (c .before .before .before .pre) (c .before .loop-test .taken),
+          ∙ moves-turn (a .out .now) list at i (c .before .before .before .pre) (c .before .loop-test .taken),
     )
 
 same-length : tie.Need-same-length Inv-loop μ-loop

@@ -35,12 +35,13 @@ loop-less c = search needs
 
 loop-again : tie.Need-loop-again Inv-loop μ-loop
 loop-again c =
+    let at-loop = c .before .before .before .loop in
     let s = c .before .before .before .before .before .args .block .now in
-    let i = c .before .before .before .loop .i in (
+    let i = at-loop .i in (
       search needs,
-      ap (λ (x : ℕ). not (eqb (bitOr (c .before .before .before .loop .hit) x) 0) || among lineFeed (drop (i + 1) s)) (c .flag .ensures)
-          ∙ found-turn lineFeed s (c .before .before .before .loop .hit) i (c .before .before .loop-test .taken)
-          ∙ c .before .before .before .loop .inv .1,
+      ap (λ (x : ℕ). not (eqb (bitOr (at-loop .hit) x) 0) || among lineFeed (drop (i + 1) s)) (c .flag .ensures)
+          ∙ found-turn lineFeed s (at-loop .hit) i (c .before .before .loop-test .taken)
+          ∙ at-loop .inv .1,
     )
 
 returns : tie.Need-returns Inv-loop μ-loop

@@ -28,10 +28,11 @@ flag-requires c κs = search needs
 
 add-n : tie.Need-add-n Inv-loop μ-loop
 add-n c =
+    let at-loop = c .before .before .before .loop in
     let s = c .before .before .before .before .before .args .block .now in
-    let i = c .before .before .before .loop .i in
+    let i = at-loop .i in
     let one = one-at-most (eqb (getD s i 0) lineFeed) 0 (c .flag .result) zero-le (c .flag .ensures) in
-    omega (arith, c .before .before .before .loop .inv .1, c .before .before .before .before .before .pre, c .before .before .loop-test .taken)
+    omega (arith, at-loop .inv .1, c .before .before .before .before .before .pre, c .before .before .loop-test .taken)
 
 add-i : tie.Need-add-i Inv-loop μ-loop
 add-i c = search needs
@@ -41,11 +42,12 @@ loop-less c = search needs
 
 loop-again : tie.Need-loop-again Inv-loop μ-loop
 loop-again c =
+    let at-loop = c .before .before .before .loop in
     let s = c .before .before .before .before .before .args .block .now in
-    let i = c .before .before .before .loop .i in
+    let i = at-loop .i in
     let one = one-at-most (eqb (getD s i 0) lineFeed) 0 (c .flag .result) zero-le (c .flag .ensures) in
     let turn = ended-turn s i (c .before .before .loop-test .taken) in
-    (search needs, omega (arith, c .before .before .before .loop .inv .1), omega (arith, c .before .before .before .loop .inv .2, turn, c .flag .ensures))
+    (search needs, omega (arith, at-loop .inv .1), omega (arith, at-loop .inv .2, turn, c .flag .ensures))
 
 returns : tie.Need-returns Inv-loop μ-loop
 returns c = omega (arith, c .before .loop .inv .2, ended-end (c .before .before .before .args .block .now) (c .before .loop .i) (c .loop-test .left))

@@ -39,9 +39,10 @@ read-fen-requires c κs = search needs
 
 mul-put-record : tie.Need-mul-put-record Inv-loop μ-loop
 mul-put-record c =
-    let long : length (c .before .before .before .before .before .before .loop .records) < 18446744073709551616 = search needs in
+    let at-loop-6 = c .before .before .before .before .before .before .loop in
+    let long : length (at-loop-6 .records) < 18446744073709551616 = search needs in
     let at-pre = c .before .before .before .before .before .before .before .before .before .before .pre in
-    let at-loop = c .before .before .before .before .before .before .loop in
+    let at-loop = at-loop-6 in
     let at-loop-test = c .before .before .before .before .before .loop-test in
     let at-line-end = c .before .before .before .before .line-end in
     let at-read-fen = c .before .before .read-fen in
@@ -61,9 +62,10 @@ put-record-requires c κs =
 
 mul-put-told : tie.Need-mul-put-told Inv-loop μ-loop
 mul-put-told c =
-    let long : length (c .before .before .before .before .before .before .before .before .before .before .loop .told) < 18446744073709551616 = search needs in
+    let at-loop-10 = c .before .before .before .before .before .before .before .before .before .before .loop in
+    let long : length (at-loop-10 .told) < 18446744073709551616 = search needs in
     let at-pre = c .before .before .before .before .before .before .before .before .before .before .before .before .before .before .pre in
-    let at-loop = c .before .before .before .before .before .before .before .before .before .before .loop in
+    let at-loop = at-loop-10 in
     let at-loop-test = c .before .before .before .before .before .before .before .before .before .loop-test in
     let at-line-end = c .before .before .before .before .before .before .before .before .line-end in
     let at-read-fen = c .before .before .before .before .before .before .read-fen in

@@ -21,9 +21,10 @@ too-short-requires c κs = search needs
 
 returns : tie.Need-returns
 returns c =
-    let s = c .before .before .before .before .before .before .args .text .now in
-    let records = c .before .before .before .before .before .before .args .records .now in
-    let told = c .before .before .before .before .before .before .args .told .now in
+    let a = c .before .before .before .before .before .before .args in
+    let s = a .text .now in
+    let records = a .records .now in
+    let told = a .told .now in
     let n : c .before .before .line-count .result ≡ lineCount s = c .before .before .line-count .ensures in
     let cut : length records < recordSize * lineCount s = omega (arith, c .before .if1 .taken) in
     let all = page-refused s records told (records-cut s (length records) (length told) cut) in
@@ -34,18 +35,21 @@ too-short-requires-2 c κs = search needs
 
 returns-2 : tie.Need-returns-2
 returns-2 c =
-    let s = c .before .before .before .before .before .before .before .args .text .now in
-    let records = c .before .before .before .before .before .before .before .args .records .now in
-    let told = c .before .before .before .before .before .before .before .args .told .now in
-    let n : c .before .before .before .line-count .result ≡ lineCount s = c .before .before .before .line-count .ensures in
+    let a = c .before .before .before .before .before .before .before .args in
+    let at-line-count = c .before .before .before .line-count in
+    let s = a .text .now in
+    let records = a .records .now in
+    let told = a .told .now in
+    let n : at-line-count .result ≡ lineCount s = at-line-count .ensures in
     let cut : length told < toldSize * lineCount s = omega (arith, c .before .if2 .taken) in
     let all = page-refused s records told (told-cut s (length records) (length told) cut) in
     (c .too-short2 .ensures ∙ ap tooShort n ∙ all .0, (all .1, all .2))
 
 read-lines-requires : tie.Need-read-lines-requires
 read-lines-requires c κs =
+    let at-line-count = c .before .before .before .before .line-count in
     let s = c .before .before .before .before .before .before .before .before .args .text .now in
-    let n : c .before .before .before .before .line-count .result ≡ lineCount s = c .before .before .before .before .line-count .ensures in
+    let n : at-line-count .result ≡ lineCount s = at-line-count .ensures in
     (omega (arith, c .before .before .before .if1 .left), omega (arith, c .before .before .if2 .left))
 
 accepted-requires : tie.Need-accepted-requires

@@ -28,11 +28,12 @@ one-if-requires c κs = search needs
 
 add-n : tie.Need-add-n Inv-loop μ-loop
 add-n c =
+    let at-loop = c .before .before .before .loop in
     let s = c .before .before .before .before .before .args .s .now in
-    let i = c .before .before .before .loop .i in
+    let i = at-loop .i in
     let one = one-at-most (eqb (getD s i 0) 32) 0 (c .one-if .result) zero-le (c .one-if .ensures) in
     let fits : i + 1 < 18446744073709551616 = search needs in
-    omega (arith, c .before .before .before .loop .inv .1)
+    omega (arith, at-loop .inv .1)
 
 add-i : tie.Need-add-i Inv-loop μ-loop
 add-i c = search needs
@@ -42,11 +43,12 @@ loop-less c = search needs
 
 loop-again : tie.Need-loop-again Inv-loop μ-loop
 loop-again c =
+    let at-loop = c .before .before .before .loop in
     let s = c .before .before .before .before .before .args .s .now in
-    let i = c .before .before .before .loop .i in
+    let i = at-loop .i in
     let one = one-at-most (eqb (getD s i 0) 32) 0 (c .one-if .result) zero-le (c .one-if .ensures) in
     let turn = count-turn s i (c .before .before .loop-test .taken) in
-    (search needs, omega (arith, c .before .before .before .loop .inv .1), omega (arith, c .before .before .before .loop .inv .2, turn, c .one-if .ensures))
+    (search needs, omega (arith, at-loop .inv .1), omega (arith, at-loop .inv .2, turn, c .one-if .ensures))
 
 returns : tie.Need-returns Inv-loop μ-loop
 returns c = omega (arith, c .before .loop .inv .2, count-end (c .before .before .before .args .s .now) (c .before .loop .i) (c .loop-test .left))

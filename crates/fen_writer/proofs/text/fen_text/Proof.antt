@@ -13,9 +13,10 @@ ranks-requires c κs = (c .before .before .pre .0, in-range (c .before .before .
 
 tail-requires : tie.Need-tail-requires
 tail-requires c κs =
+    let at-pre = c .before .before .before .before .pre in
     let b = c .before .before .before .before .args .board in
-    let r = ranks-long 7 (b .pieces) (in-range b (c .before .before .before .before .pre .1) .long) (lit< tt) in
-    (c .before .ranks .ensures .long, (omega (arith, c .before .ranks .ensures .pushed .count, r .high), c .before .before .before .before .pre .1))
+    let r = ranks-long 7 (b .pieces) (in-range b (at-pre .1) .long) (lit< tt) in
+    (c .before .ranks .ensures .long, (omega (arith, c .before .ranks .ensures .pushed .count, r .high), at-pre .1))
 
 returns : tie.Need-returns
 unfolding fenText

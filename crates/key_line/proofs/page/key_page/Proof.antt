@@ -59,9 +59,10 @@ put-line-requires c κs =
 
 add-accepted : tie.Need-add-accepted Inv-loop μ-loop
 add-accepted c =
-    let long : length (c .before .before .before .before .before .before .before .before .before .before .before .before .args .text .now)
+    let at-args = c .before .before .before .before .before .before .before .before .before .before .before .before .args in
+    let long : length (at-args .text .now)
     < 18446744073709551616 = search needs in
-    let a = c .before .before .before .before .before .before .before .before .before .before .before .before .args in
+    let a = at-args in
     let at-loop = c .before .before .before .before .before .before .before .before .before .loop in
     let at-loop-test = c .before .before .before .before .before .before .before .before .loop-test in
     let at-line-end = c .before .before .before .before .before .before .before .line-end in
@@ -99,9 +100,10 @@ sub-refused c =
 
 add-refused : tie.Need-add-refused Inv-loop μ-loop
 add-refused c =
-    let long : length (c .before .before .before .before .before .before .before .before .before .before .before .before .before .args .text .now)
+    let at-args = c .before .before .before .before .before .before .before .before .before .before .before .before .before .args in
+    let long : length (at-args .text .now)
     < 18446744073709551616 = search needs in
-    let a = c .before .before .before .before .before .before .before .before .before .before .before .before .before .args in
+    let a = at-args in
     let at-loop = c .before .before .before .before .before .before .before .before .before .before .loop in
     let at-loop-test = c .before .before .before .before .before .before .before .before .before .loop-test in
     let at-line-end = c .before .before .before .before .before .before .before .before .line-end in
@@ -116,9 +118,10 @@ add-refused c =
 
 add-taken : tie.Need-add-taken Inv-loop μ-loop
 add-taken c =
-    let long : length (c .before .before .before .before .before .before .before .before .before .before .before .before .before .args .text .now)
+    let at-args = c .before .before .before .before .before .before .before .before .before .before .before .before .before .args in
+    let long : length (at-args .text .now)
     < 18446744073709551616 = search needs in
-    let a = c .before .before .before .before .before .before .before .before .before .before .before .before .before .args in
+    let a = at-args in
     let at-if1 = c .before .before .before .before .before .before .before .if1 in
     omega (arith, at-if1 .left)
 

@@ -47,7 +47,9 @@ loop-again c = let e =
     (omega arith, omega arith)
 
 returns-2 : tie.Need-returns-2 Inv-loop μ-loop
-returns-2 c = let e = run-end (c .before .before .before .args .run) (c .before .before .before .args .s .now) (c .before .loop .i) (omega arith) in omega arith
+returns-2 c =
+    let a = c .before .before .before .args in
+    let e = run-end (a .run) (a .s .now) (c .before .loop .i) (omega arith) in omega arith
 
 pub run-length-spec : {M : Type 1} → statement M
 run-length-spec =

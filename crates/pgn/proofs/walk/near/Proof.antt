@@ -60,8 +60,9 @@ run-length-requires c κs = search needs
 
 add-result : tie.Need-add-result
 add-result c =
-    let s = c .before .before .before .before .before .before .before .before .before .before .before .before .before .before .args .s .now in
-    let n = c .before .before .before .before .before .before .before .before .before .before .before .before .before .before .args .place + 1 + 1 in
+    let a = c .before .before .before .before .before .before .before .before .before .before .before .before .before .before .args in
+    let s = a .s .now in
+    let n = a .place + 1 + 1 in
     let w : runLength MoveBytes (drop n s) ≤ length (drop n s) = run-within MoveBytes (drop n s) in
     let l : length (drop n s) ≡ length s - n = length-drop n s in
     let e : c .run-length .result ≡ runLength MoveBytes (drop n s) = c .run-length .ensures ∙ ap (runLength MoveBytes) (c .before .rest .ensures) in
@@ -69,15 +70,18 @@ add-result c =
 
 returns-6 : tie.Need-returns-6
 returns-6 c =
-    let s = c .before .before .before .before .before .before .before .before .before .before .before .before .before .before .args .s .now in
-    let p = c .before .before .before .before .before .before .before .before .before .before .before .before .before .before .args .place in
+    let a = c .before .before .before .before .before .before .before .before .before .before .before .before .before .before .args in
+    let at-is-white = c .before .before .before .before .before .before .before .before .before .before .is-white in
+    let at-starts-move = c .before .before .before .starts-move in
+    let s = a .s .now in
+    let p = a .place in
     let e : c .run-length .result ≡ runLength MoveBytes (drop (p + 1 + 1) s) = c .run-length .ensures ∙ ap (runLength MoveBytes) (c .before .rest .ensures) in
     let f : runLength MoveBytes (drop (p + 1 + 1) s) ≡ c .run-length .result + 1 - 1 = omega arith in
-    let w = sym (c .before .before .before .before .before .before .before .before .before .before .is-white .ensures)
-    ∙ not-false (c .before .before .before .before .before .before .before .before .before .before .is-white .result)
+    let w = sym (at-is-white .ensures)
+    ∙ not-false (at-is-white .result)
     (c .before .before .before .before .before .before .before .before .before .if2 .left) in
     let x = sym (c .before .before .before .before .before .before .is-white2 .ensures) ∙ c .before .before .before .before .before .if4 .left in
-    let y = sym (c .before .before .before .starts-move .ensures) ∙ not-false (c .before .before .before .starts-move .result) (c .before .before .if5 .left) in
+    let y = sym (at-starts-move .ensures) ∙ not-false (at-starts-move .result) (c .before .before .if5 .left) in
     λ h. (
       omega (arith, c .before .before .before .before .before .before .before .before .if3 .left),
       white-passed s p w,

@@ -113,8 +113,9 @@ loop-again c =
 
 returns : tie.Need-returns Inv-loop μ-loop
 returns c =
-    let moves = c .before .before .before .args .moves .now in
-    let p = picked (c .before .before .before .args .mask) (c .before .before .before .args .want) in
+    let a = c .before .before .before .args in
+    let moves = a .moves .now in
+    let p = picked (a .mask) (a .want) in
     let front : ℕ = (length moves + 15) / 16 * 8 in
     let back : ℕ = length moves - front in
     let s = c .before .loop in

@@ -22,10 +22,14 @@ returns c =
     square-here (at-args .a) (at-args .b) (at-if1 .left) (at-if2 .taken) (at-if3 .left) (c .if4 .taken)
 
 returns-2 : tie.Need-returns-2
-returns-2 c = rank-low (c .before .before .before .args .a) (c .before .before .before .args .b) (c .if3 .taken)
+returns-2 c =
+    let at-args = c .before .before .before .args in
+    rank-low (at-args .a) (at-args .b) (c .if3 .taken)
 
 returns-3 : tie.Need-returns-3
-returns-3 c = rank-past (c .before .before .before .before .args .a) (c .before .before .before .before .args .b) (c .if4 .left)
+returns-3 c =
+    let at-args = c .before .before .before .before .args in
+    rank-past (at-args .a) (at-args .b) (c .if4 .left)
 
 returns-4 : tie.Need-returns-4
 returns-4 c = file-low (c .before .args .a) (c .before .args .b) (c .if1 .taken)
