@@ -39,17 +39,16 @@ same-length c = search needs
 
 returns : tie.Need-returns
 returns c =
-    let early = c .before .before .before .before .before .before .before .before .before .before .before .before in
-    let at-args = early .before .before .before .before .before .before .before .args in
-    let at-write-bytes = c .before .before .before .before .before .before .before .before .before .before .write-bytes in
-    let at-write-moves = c .before .before .before .before .before .before .write-moves in
-    let at-write-zeros = c .before .before .write-zeros in
-    let long : length (at-args .b .pieces) ≡ squares = search length-unmapped in
+    let a = c .before .before .before .before .before .before .before .before .before .before .before .before .before .before .before .before .before
+    .before .before .args in
+    let long : length (a .b .pieces) ≡ squares = search length-unmapped in
     let early = c .before .before .before .before .before .before .before .before .before .before .before .before in
     let at-pre = early .before .before .before .before .before .before .before .pre in
     let at-write-record = early .before .before .before .write-record in
-    position-written (at-args .out .now) (numbers (at-args .b)) (at-args .in-check) (at-args .list .now) (length-numbers (at-args .b) long) (at-pre .1)
-    (at-pre .0) _ _ _ _
+    let at-write-bytes = c .before .before .before .before .before .before .before .before .before .before .write-bytes in
+    let at-write-moves = c .before .before .before .before .before .before .write-moves in
+    let at-write-zeros = c .before .before .write-zeros in
+    position-written (a .out .now) (numbers (a .b)) (a .in-check) (a .list .now) (length-numbers (a .b) long) (at-pre .1) (at-pre .0) _ _ _ _
     (at-write-record .ensures) (at-write-bytes .ensures) (at-write-moves .ensures) (at-write-zeros .ensures)
 
 pub write-position-spec : {M : Type 1} → statement M
