@@ -11,7 +11,7 @@ use lib.ListN.{length, length-append, List·getD-append}
 use borrow.Author.Tests.{eqb-true, eqb-false}
 use Rattle.answer.specs.Numbers.{numberAt}
 use Rattle.decimal.specs.Decimal.{digits, decimal}
-use Rattle.decimal.specs.Promises.{valueFrom, valueOf, ReadsBack, OneTextANumber, Digits, NoNeedlessZero, WritesBack, UpTo20}
+use Rattle.decimal.specs.Promises.{valueFrom, valueOf, ReadsBack, OneTextPerNumber, Digits, NoNeedlessZero, WritesBack, UpTo20}
 use Rattle.decimal.proofs.Digits.{decimal-in, decimal-one, decimal-more, by-tens}
 
 -- ---- reading back
@@ -31,7 +31,7 @@ reads-back = by-tens (λ (n : ℕ). valueOf (decimal n) ≡ n) one more
     more : (n : ℕ) → 10 ≤ n → valueOf (decimal (n / 10)) ≡ n / 10 → valueOf (decimal n) ≡ n
     more n h e = rw (decimal-more n h, value-behind 0 (decimal (n / 10)) (48 + n % 10), e) (omega arith)
 
-pub one-text-a-number : OneTextANumber
+pub one-text-a-number : OneTextPerNumber
 one-text-a-number m n e = sym (reads-back m) ∙ ap valueOf e ∙ reads-back n
 
 -- ---- digits only, without a needless zero

@@ -20,8 +20,8 @@ abbrev pub ReadsBack : Type 0
 ReadsBack = (n : ℕ) → valueOf (decimal n) ≡ n
 
 -- two numbers have two texts
-abbrev pub OneTextANumber : Type 0
-OneTextANumber = (m n : ℕ) → decimal m ≡ decimal n → m ≡ n
+abbrev pub OneTextPerNumber : Type 0
+OneTextPerNumber = (m n : ℕ) → decimal m ≡ decimal n → m ≡ n
 
 -- a text of digits, 48 to 57, at least one
 pub record DigitsOnly (s : List ℕ) : Type 0 where
