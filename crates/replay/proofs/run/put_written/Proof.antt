@@ -1,9 +1,9 @@
--- `put_written` of main.rt is safe and ends.
+-- `put_written` of run.rt is safe and ends.
 use borrow.Author.Needs.{needs}
 use mathlib.Core.Path.{sym}
 use lib.Seq.{length-take-le}
-use Rattle.replay.proofs.put_written.Statement.{statement}
-use Rattle.replay.proofs.put_written.Tie as tie
+use Rattle.replay.proofs.run.put_written.Statement.{statement}
+use Rattle.replay.proofs.run.put_written.Tie as tie
 
 at-most-requires : tie.Need-at-most-requires
 at-most-requires c κs = search needs

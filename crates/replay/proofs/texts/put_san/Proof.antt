@@ -1,9 +1,9 @@
--- `put_san` of main.rt is safe and ends.
+-- `put_san` of texts.rt is safe and ends.
 use borrow.Author.Needs.{needs}
 use mathlib.Core.Path.{sym}
 use lib.Seq.{length-take-le}
-use Rattle.replay.proofs.put_san.Statement.{statement}
-use Rattle.replay.proofs.put_san.Tie as tie
+use Rattle.replay.proofs.texts.put_san.Statement.{statement}
+use Rattle.replay.proofs.texts.put_san.Tie as tie
 
 at-most-requires : tie.Need-at-most-requires
 at-most-requires c κs = search needs

@@ -1,7 +1,7 @@
--- `call` of main.rt is safe and ends.
+-- `call` of log.rt is safe and ends.
 use borrow.Author.Needs.{needs}
-use Rattle.replay.proofs.call.Statement.{statement}
-use Rattle.replay.proofs.call.Tie as tie
+use Rattle.replay.proofs.log.call.Statement.{statement}
+use Rattle.replay.proofs.log.call.Tie as tie
 
 letter-requires : tie.Need-letter-requires
 letter-requires c κs = search needs

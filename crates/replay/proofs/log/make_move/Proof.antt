@@ -1,9 +1,9 @@
--- `make_move` of main.rt is safe and ends.
+-- `make_move` of log.rt is safe and ends.
 use borrow.Author.Needs.{needs}
 use mathlib.Core.Path.{sym}
 use lib.Seq.{length-take-le}
-use Rattle.replay.proofs.make_move.Statement.{statement}
-use Rattle.replay.proofs.make_move.Tie as tie
+use Rattle.replay.proofs.log.make_move.Statement.{statement}
+use Rattle.replay.proofs.log.make_move.Tie as tie
 
 word-requires : tie.Need-word-requires
 word-requires c κs = search needs

@@ -1,9 +1,9 @@
--- `start` of main.rt is safe and ends.
+-- `start` of log.rt is safe and ends.
 use borrow.Author.Needs.{needs}
 use mathlib.Core.Path.{sym}
 use lib.Seq.{length-take-le}
-use Rattle.replay.proofs.start.Statement.{statement}
-use Rattle.replay.proofs.start.Tie as tie
+use Rattle.replay.proofs.log.start.Statement.{statement}
+use Rattle.replay.proofs.log.start.Tie as tie
 
 read-position-requires : tie.Need-read-position-requires
 read-position-requires c κs = search needs

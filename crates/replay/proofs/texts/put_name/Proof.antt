@@ -1,9 +1,9 @@
--- `put_name` of main.rt is safe and ends.
+-- `put_name` of texts.rt is safe and ends.
 use borrow.Author.Needs.{needs}
 use mathlib.Core.Path.{sym}
 use lib.Seq.{length-take-le}
-use Rattle.replay.proofs.put_name.Statement.{statement}
-use Rattle.replay.proofs.put_name.Tie as tie
+use Rattle.replay.proofs.texts.put_name.Statement.{statement}
+use Rattle.replay.proofs.texts.put_name.Tie as tie
 
 word-requires : tie.Need-word-requires
 word-requires c κs = search needs
