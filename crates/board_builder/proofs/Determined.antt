@@ -3,10 +3,14 @@
 use mathlib.Core.Path.{sym, _∙_}
 use denote.Ref.{now}
 use Rattle.answer.specs.Determined.{OneAnswer, OnePart}
+use Rattle.board_builder.proofs.counters_in_range.Reads as counters-in-range
+use Rattle.board_builder.proofs.counters_in_range.Kinds as counters-in-range·k
 use Rattle.board_builder.proofs.numbers_in_range.Reads as numbers-in-range
 use Rattle.board_builder.proofs.numbers_in_range.Kinds as numbers-in-range·k
 use Rattle.board_builder.proofs.BoardBuilder.new.Reads as new
 use Rattle.board_builder.proofs.BoardBuilder.new.Kinds as new·k
+use Rattle.board_builder.proofs.BoardBuilder.none.Reads as none
+use Rattle.board_builder.proofs.BoardBuilder.none.Kinds as none·k
 use Rattle.board_builder.proofs.BoardBuilder.default.Reads as default
 use Rattle.board_builder.proofs.BoardBuilder.default.Kinds as default·k
 use Rattle.board_builder.proofs.BoardBuilder.in_range.Reads as in-range
@@ -29,14 +33,24 @@ use Rattle.board_builder.proofs.BoardBuilder.clear_square.Reads as clea
 use Rattle.board_builder.proofs.BoardBuilder.clear_square.Kinds as clear-square·k
 use Rattle.board_builder.proofs.BoardBuilder.en_passant.Reads as en-passant
 use Rattle.board_builder.proofs.BoardBuilder.en_passant.Kinds as en-passant·k
+use Rattle.board_builder.proofs.BoardBuilder.half_moves.Reads as half-moves
+use Rattle.board_builder.proofs.BoardBuilder.half_moves.Kinds as half-moves·k
+use Rattle.board_builder.proofs.BoardBuilder.full_moves.Reads as full-moves
+use Rattle.board_builder.proofs.BoardBuilder.full_moves.Kinds as full-moves·k
 use Rattle.board_builder.proofs.BoardBuilder.to_bytes.Reads as to-bytes
 use Rattle.board_builder.proofs.BoardBuilder.to_bytes.Kinds as to-bytes·k
+
+pub counters-in-range-answer : OneAnswer counters-in-range·k.ps counters-in-range·k.r counters-in-range.Learnt
+counters-in-range-answer κs a x y e f p q = p ∙ sym q
 
 pub numbers-in-range-answer : OneAnswer numbers-in-range·k.ps numbers-in-range·k.r numbers-in-range.Learnt
 numbers-in-range-answer κs a x y e f p q = p ∙ sym q
 
 pub new-answer : OneAnswer new·k.ps new·k.r new.Learnt
 new-answer κs a x y e f p q = p ∙ sym q
+
+pub none-answer : OneAnswer none·k.ps none·k.r none.Learnt
+none-answer κs a x y e f p q = p ∙ sym q
 
 pub default-answer : OneAnswer default·k.ps default·k.r default.Learnt
 default-answer κs a x y e f p q = p ∙ sym q
@@ -70,6 +84,12 @@ clear-square-answer κs a x y e f p q = p ∙ sym q
 
 pub en-passant-answer : OneAnswer en-passant·k.ps en-passant·k.r en-passant.Learnt
 en-passant-answer κs a x y e f p q = p ∙ sym q
+
+pub half-moves-answer : OneAnswer half-moves·k.ps half-moves·k.r half-moves.Learnt
+half-moves-answer κs a x y e f p q = p ∙ sym q
+
+pub full-moves-answer : OneAnswer full-moves·k.ps full-moves·k.r full-moves.Learnt
+full-moves-answer κs a x y e f p q = p ∙ sym q
 
 pub to-bytes-answer : OneAnswer to-bytes·k.ps to-bytes·k.r to-bytes.Learnt
 to-bytes-answer κs a x y e f p q = p .0 ∙ sym (q .0)

@@ -1,4 +1,4 @@
--- The record's numbers as one list: there are 68 of them, and they are the record.
+-- The record's numbers as one list: there are 68 of them beside the counters and 70 in all, and they are the record.
 -- Assumes nothing.
 use mathlib.Core.Path.{_≡_, refl, ap, _∙_, sym}
 use mathlib.Core.List.{List, [], _∷_, _++_}
@@ -7,21 +7,33 @@ use native.Mathlib.Omega.{arith}
 use lib.ListN.{length, take, drop, getD, length-append, take-append-drop, drop-of-length-le}
 use lib.Seq.{take-at, drop-at, drop-cons, getD-append-add}
 use Rattle.board_builder.specs.declared.BoardBuilder.{BoardBuilder}
-use Rattle.board_builder.specs.BoardBuilder.{board, numbers, squares}
-use Rattle.board_builder.specs.Promises.{SixtyEightNumbers, NumbersAreTheRecord, RecordOfNumbers, NumbersOfRecord}
+use Rattle.board_builder.specs.BoardBuilder.{board, withCounters, numbers, squares, recordSize, inRange}
+use Rattle.board_builder.specs.Promises.{SixtyEightNumbers, SeventyNumbers, NumbersAreTheRecord, NumbersAreThePosition, RecordOfNumbers}
+use Rattle.board_builder.specs.Promises.{NumbersOfRecord, NoneIsOutOfRange}
 use Rattle.board_builder.proofs.Ranges.{in-range}
 
 pub sixty-eight-numbers : SixtyEightNumbers
 unfolding numbers
 sixty-eight-numbers b r = simp length-append (omega (arith, in-range b r .long))
 
+-- the two counters
+abbrev counters : BoardBuilder → List ℕ
+counters b = b .«half_moves» ∷ b .«full_moves» ∷ []
+
+pub seventy-numbers : SeventyNumbers
+seventy-numbers b r = length-append (numbers b) (counters b) ∙ ap (λ (n : ℕ). n + 2) (sixty-eight-numbers b r)
+
+pub none-is-out-of-range : NoneIsOutOfRange
+unfolding inRange
+none-is-out-of-range = refl
+
 -- the four numbers after the squares
 abbrev rest : BoardBuilder → List ℕ
 rest b = b .«side_to_move» ∷ b .«white_castle_rights» ∷ b .«black_castle_rights» ∷ b .«en_passant» ∷ []
 
-pub numbers-are-the-record : NumbersAreTheRecord
+pub numbers-are-the-position : NumbersAreThePosition
 unfolding numbers
-numbers-are-the-record a b r s e =
+numbers-are-the-position a b r s e =
     let long : length (a .pieces) ≡ length (b .pieces) = in-range a r .long ∙ sym (in-range b s .long) in
     let n = length (b .pieces) in
     let front : a .pieces ≡ b .pieces = sym (take-at (a .pieces) (rest a) n long) ∙ ap (take n) e ∙ take-at (b .pieces) (rest b) n refl in
@@ -33,6 +45,19 @@ numbers-are-the-record a b r s e =
     let same : board (a .pieces) (a .«side_to_move») (a .«white_castle_rights») (a .«black_castle_rights») (a .«en_passant»)
     ≡ board (b .pieces) (b .«side_to_move») (b .«white_castle_rights») (b .«black_castle_rights») (b .«en_passant») = cc in
     same
+
+pub numbers-are-the-record : NumbersAreTheRecord
+numbers-are-the-record a b r s e =
+    let n : length (numbers a) ≡ recordSize = sixty-eight-numbers a r in
+    let m : length (numbers b) ≡ recordSize = sixty-eight-numbers b s in
+    let front : numbers a ≡ numbers b =
+    sym (take-at (numbers a) (counters a) recordSize n) ∙ ap (take recordSize) e ∙ take-at (numbers b) (counters b) recordSize m in
+    let back : counters a ≡ counters b =
+    sym (drop-at (numbers a) (counters a) recordSize n) ∙ ap (drop recordSize) e ∙ drop-at (numbers b) (counters b) recordSize m in
+    let half : a .«half_moves» ≡ b .«half_moves» = cc in
+    let full : a .«full_moves» ≡ b .«full_moves» = cc in
+    let position = numbers-are-the-position a b r s front in
+    λ i. withCounters (position i) (half i) (full i)
 
 pub record-of-numbers : RecordOfNumbers
 unfolding numbers

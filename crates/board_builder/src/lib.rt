@@ -1,4 +1,5 @@
-// The board record and its builder, after board_builder.rs: 64 piece codes, the side to move, each side's castling rights, the en passant file.
+// The board record and its builder, after board_builder.rs: 64 piece codes, the side to move, each side's castling rights, the en passant file; and the
+// two counters of a FEN, half-moves without a pawn's move or a capture, and the number of the move.
 // A step given a number out of range, its record's too, hands its record back with 5.
 mod initial;
 
@@ -11,14 +12,17 @@ ghost use Prim.Native.Nat.{_*_, _<_, max};
 ghost use lib.ListN.{length, take, drop};
 ghost use Rattle.answer.specs.Answer.{writeAnswer, writeBytes};
 ghost use Rattle.answer.specs.Numbers.{allAtMost, largest};
-ghost use Rattle.board_builder.specs.BoardBuilder.{numbers, inRange, numbersInRange, emptyBoard, initialBoard};
-ghost use Rattle.board_builder.specs.Steps.{stepped, setPiece, clearSquare, setSide, setRights, setEnPassant};
+ghost use Rattle.board_builder.specs.BoardBuilder.{numbers, countersInRange, inRange, numbersInRange, emptyBoard, noBoard, initialBoard};
+ghost use Rattle.board_builder.specs.Steps.{stepped, setPiece, clearSquare, setSide, setRights, setEnPassant, setHalfMoves, setFullMoves};
 ghost use Rattle.board_builder.specs.Getters.{pieceOn, sideAnswer, rightsAnswer, enPassantSquare};
 
-// How many numbers a record has.
+// How many numbers a record has beside its counters.
 pub const RECORD_SIZE: usize = 68;
 
 const SQUARES: usize = 64;
+
+// The largest that a counter may be.
+pub const LAST_COUNT: u64 = 9999;
 
 // Where the numbers behind the squares stand.
 
@@ -37,6 +41,8 @@ pub struct BoardBuilder {
     pub white_castle_rights: u8,
     pub black_castle_rights: u8,
     pub en_passant: u8,
+    pub half_moves: u16,
+    pub full_moves: u16,
 }
 
 // An answer number, and the record after the step.
@@ -80,7 +86,19 @@ fn codes_in_range(pieces: [u8; 64]) -> bool
     most <= 12
 }
 
-// Whether these are the numbers of a record in range.
+pub fn counters_in_range(half: u16, full: u16) -> bool
+    ensures { λ r. ⌜ r ≡ countersInRange half full ⌝ }
+{
+    if LAST_COUNT < half as u64 {
+        return false;
+    }
+    if full == 0 {
+        return false;
+    }
+    full as u64 <= LAST_COUNT
+}
+
+// Whether these are the numbers of a record in range, its counters left out.
 pub fn numbers_in_range(numbers: &[u8]) -> bool
     ensures { λ r. ⌜ r ≡ numbersInRange (now (numbers .entry)) ⌝ }
 {
@@ -112,6 +130,23 @@ impl BoardBuilder {
             white_castle_rights: 0,
             black_castle_rights: 0,
             en_passant: 0,
+            half_moves: 0,
+            full_moves: 1,
+        }
+    }
+
+    // All zeros, which a reader hands out beside a refusal. It is not in range: no move has the number 0.
+    pub fn none() -> Self
+        ensures { λ r. ⌜ r ≡ noBoard ⌝ }
+    {
+        BoardBuilder {
+            pieces: [0u8; 64],
+            side_to_move: 0,
+            white_castle_rights: 0,
+            black_castle_rights: 0,
+            en_passant: 0,
+            half_moves: 0,
+            full_moves: 0,
         }
     }
 
@@ -125,6 +160,8 @@ impl BoardBuilder {
             white_castle_rights: 3,
             black_castle_rights: 3,
             en_passant: 0,
+            half_moves: 0,
+            full_moves: 1,
         }
     }
 
@@ -132,6 +169,9 @@ impl BoardBuilder {
         ensures { λ r. ⌜ r ≡ inRange self ⌝ }
     {
         let pieces = self.pieces;
+        if !counters_in_range(self.half_moves, self.full_moves) {
+            return false;
+        }
         if 1 < self.side_to_move {
             return false;
         }
@@ -288,6 +328,37 @@ impl BoardBuilder {
         self.stepped(ACCEPTED)
     }
 
+    // Sets the half-moves since a pawn's move or a capture.
+    pub fn half_moves(mut self, count: u64) -> Stepped
+        ensures { λ r. ⌜ r ≡ setHalfMoves self count ⌝ }
+    {
+        if !self.in_range() {
+            return self.stepped(OUT_OF_RANGE);
+        }
+        if LAST_COUNT < count {
+            return self.stepped(OUT_OF_RANGE);
+        }
+        self.half_moves = count as u16;
+        self.stepped(ACCEPTED)
+    }
+
+    // Sets the number of the move, from 1.
+    pub fn full_moves(mut self, count: u64) -> Stepped
+        ensures { λ r. ⌜ r ≡ setFullMoves self count ⌝ }
+    {
+        if !self.in_range() {
+            return self.stepped(OUT_OF_RANGE);
+        }
+        if count == 0 {
+            return self.stepped(OUT_OF_RANGE);
+        }
+        if LAST_COUNT < count {
+            return self.stepped(OUT_OF_RANGE);
+        }
+        self.full_moves = count as u16;
+        self.stepped(ACCEPTED)
+    }
+
     fn bytes(self) -> [u8; 68]
         ensures { λ r. ⌜ r ≡ numbers self ⌝ }
     {
@@ -305,7 +376,7 @@ impl BoardBuilder {
         text
     }
 
-    // Writes the record's numbers to the front of `out`, one byte each, or answers 7 with their count.
+    // Writes the record's numbers, its counters left out, to the front of `out`, one byte each, or answers 7 with their count.
     pub fn to_bytes(self, out: &mut [u8]) -> Answer
         ensures answer { λ r. ⌜ r ≡ writeAnswer 0 (numbers self) (length (now (out .entry))) ⌝ }
         ensures bytes { λ r. ⌜ now (out .exit) ≡ writeBytes 0 (numbers self) (now (out .entry)) ⌝ }
