@@ -104,6 +104,10 @@ unknownToken = 23
 abbrev pub wrongRecord : ℕ
 wrongRecord = 24
 
+-- order 12: a counter of a FEN text that is missing, not one to four digits, or a move number of 0
+abbrev pub badCounter : ℕ
+badCounter = 25
+
 -- 0 and the answer
 abbrev pub accepted : ℕ → Answer
 accepted v = record { number = 0; value = v }

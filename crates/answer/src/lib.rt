@@ -69,6 +69,8 @@ pub const UNKNOWN_TOKEN: u64 = 23;
 
 pub const WRONG_RECORD: u64 = 24;
 
+pub const BAD_COUNTER: u64 = 25;
+
 pub fn accepted(value: u64) -> Answer
     ensures { λ r. ⌜ r ≡ accepted value ⌝ }
 {

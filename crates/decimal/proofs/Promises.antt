@@ -122,7 +122,7 @@ writes-back (b ∷ bs) d zero-alone = rw (zero-add (b - 48)) (go (eqb b 48) refl
 
 -- ---- how many digits
 
-digits-few : (k n : ℕ) → length (digits k n) ≤ k
+pub digits-few : (k n : ℕ) → length (digits k n) ≤ k
 unfolding digits
 digits-few zero n = omega arith
 digits-few (suc k) n = go (ltb n 10) (digits-few k (n / 10))

@@ -5,6 +5,8 @@ use denote.Ref.{now}
 use Rattle.answer.specs.Determined.{OneAnswer, OnePart}
 use Rattle.fen_reader.proofs.read_fen.Reads as read-fen
 use Rattle.fen_reader.proofs.read_fen.Kinds as read-fen·k
+use Rattle.fen_reader.proofs.full.read_full.Reads as read-full
+use Rattle.fen_reader.proofs.full.read_full.Kinds as read-full·k
 use Rattle.fen_reader.proofs.lines.line_count.Reads as line-count
 use Rattle.fen_reader.proofs.lines.line_count.Kinds as line-count·k
 use Rattle.fen_reader.proofs.lines.line_end.Reads as line-end
@@ -14,6 +16,9 @@ use Rattle.fen_reader.proofs.page.read_page.Kinds as read-page·k
 
 pub read-fen-answer : OneAnswer read-fen·k.ps read-fen·k.r read-fen.Learnt
 read-fen-answer κs a x y e f p q = p ∙ sym q
+
+pub read-full-answer : OneAnswer read-full·k.ps read-full·k.r read-full.Learnt
+read-full-answer κs a x y e f p q = p ∙ sym q
 
 pub line-count-answer : OneAnswer line-count·k.ps line-count·k.r line-count.Learnt
 line-count-answer κs a x y e f p q = p ∙ sym q

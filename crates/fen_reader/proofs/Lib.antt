@@ -1,7 +1,9 @@
 pub mod Blocks
 pub mod Classes
 pub mod Placing
+pub mod Counting
 pub mod Reading
+pub mod FullCuts
 pub mod Seen
 pub mod Determined
 pub mod Paging

@@ -24,10 +24,10 @@ pub record Cut (s : List ℕ) (a : ℕ) (t : List ℕ) : Type 0 where
   pub within : a < length s
   pub rest : t ≡ drop (a + 1) s
 
-last : {s : List ℕ} {a : ℕ} → Last s a → tokens s ≡ s ∷ []
+pub last : {s : List ℕ} {a : ℕ} → Last s a → tokens s ≡ s ∷ []
 last {s} {a} h = tokens-last s (subst (λ (n : ℕ). length s ≤ n) (h .place) (h .none))
 
-cut : {s : List ℕ} {a : ℕ} {t : List ℕ} → Cut s a t → tokens s ≡ take a s ∷ tokens t
+pub cut : {s : List ℕ} {a : ℕ} {t : List ℕ} → Cut s a t → tokens s ≡ take a s ∷ tokens t
 cut {s} {a} {t} h =
     tokens-next s (subst (λ (n : ℕ). n < length s) (h .place) (h .within))
     ∙ rw (← h .place, h .rest, add-one)

@@ -1,4 +1,5 @@
 // The FEN reader, after board_builder.rs: a text of four tokens or more is read into a record.
+pub mod full;
 pub mod lines;
 pub mod page;
 mod placement;
@@ -21,7 +22,7 @@ fn refused_at(number: u64, offset: usize) -> Fen
     Fen {
         number,
         offset: offset as u64,
-        board: BoardBuilder::new(),
+        board: BoardBuilder::none(),
     }
 }
 
@@ -41,6 +42,8 @@ fn assemble(at: usize, pieces: [u8; 64], side: &[u8], castling: &[u8], ep: &[u8]
         white_castle_rights: rights.white,
         black_castle_rights: rights.black,
         en_passant,
+        half_moves: 0,
+        full_moves: 1,
     };
     Fen {
         number: ACCEPTED,

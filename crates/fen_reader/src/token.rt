@@ -1,4 +1,4 @@
-// The tokens of a FEN text: where they end, and what the second, third and fourth say.
+// The tokens of a FEN text: where they end, and what the second to the sixth say.
 use square::Pair;
 ghost use mathlib.Core.Path.{_≡_};
 ghost use mathlib.Core.Bool.{cond};
@@ -7,6 +7,7 @@ ghost use lib.Dec.{eqb};
 ghost use lib.ListN.{length, take, drop};
 ghost use Rattle.fen_text.specs.Token.{placeOf, tokens};
 ghost use Rattle.fen_text.specs.Read.{sideOf, enPassantOf};
+ghost use Rattle.fen_text.specs.Full.{counterOf};
 ghost use Rattle.fen_reader.specs.CodeClass.{sidesOf};
 
 // The place of the first `b`, or the length where there is none.
@@ -123,4 +124,47 @@ pub(crate) fn en_passant(token: &[u8]) -> u8
         Pair::BadRank => 0,
         Pair::Missing => 0,
     }
+}
+
+// What is said for a token that is no counter.
+const NO_COUNT: u64 = 10000;
+
+// What one to four digits say.
+pub(crate) fn counter(token: &[u8]) -> u64
+    ensures { λ r. ⌜ r ≡ counterOf (now (token .entry)) ⌝ }
+{
+    if token.len() == 0 {
+        return NO_COUNT;
+    }
+    if 4 < token.len() {
+        return NO_COUNT;
+    }
+    let mut value: u64 = 0;
+    let mut i: usize = 0;
+    while i < token.len() {
+        let b = token[i];
+        if b < b'0' {
+            return NO_COUNT;
+        }
+        if b'9' < b {
+            return NO_COUNT;
+        }
+        value = value * 10 + (b - b'0') as u64;
+        i += 1;
+    }
+    value
+}
+
+// What stands after the first space; nothing where there is none.
+pub(crate) fn behind(s: &[u8]) -> &[u8]
+    ensures { λ r. ⌜ now r ≡ drop (placeOf 32 (now (s .entry)) + 1) (now (s .entry)) ⌝ }
+{
+    after(s, find(s, b' '))
+}
+
+// What stands before the first space.
+pub(crate) fn first(s: &[u8]) -> &[u8]
+    ensures { λ r. ⌜ now r ≡ take (placeOf 32 (now (s .entry))) (now (s .entry)) ⌝ }
+{
+    up_to(s, find(s, b' '))
 }

@@ -18,14 +18,15 @@ use Rattle.square.specs.Piece.{pieceOf}
 use Rattle.castle_rights.specs.CastleRights.{rights}
 use Rattle.board_builder.specs.declared.BoardBuilder.{BoardBuilder}
 use Rattle.answer.specs.Numbers.{allAtMost, among}
-use Rattle.board_builder.specs.BoardBuilder.{squares, inRange}
+use Rattle.board_builder.specs.BoardBuilder.{squares, uncounted, numbers, inRange}
 use Rattle.answer.proofs.Numbers.{most-set}
-use Rattle.board_builder.proofs.Ranges.{range-holds}
+use Rattle.board_builder.proofs.Ranges.{counters-begin, range-holds}
+use Rattle.board_builder.proofs.Numbers.{numbers-are-the-position}
 use Rattle.fen_text.specs.declared.Fen.{Fen}
 use Rattle.fen_text.specs.Token.{tokens}
 use Rattle.fen_text.specs.Placement.{Placement, start, down, skip, fill, spoil, placeCode, placeByte, placeAll, firstBad}
 use Rattle.fen_text.specs.Read.{sideOf, rightsOf, fileRead, refusedAt, fenOf, sided, assembled, ofTokens, readFen}
-use Rattle.fen_text.specs.Write.{fenText}
+use Rattle.fen_text.specs.Write.{tailText, fenText}
 use Rattle.fen_text.specs.Promises.{OneKey, ReadsInRange, RefusedIsZero, KeysTellRecords, KeyOfKey}
 use Rattle.fen_text.proofs.Cases.{cond-both}
 use Rattle.fen_text.proofs.ReadBack.{read-back}
@@ -33,8 +34,20 @@ use Rattle.fen_text.proofs.ReadBack.{read-back}
 board-of : (a b : BoardBuilder) → fenOf a ≡ fenOf b → a ≡ b
 board-of a b e = ap (λ (f : Fen). f .board) e
 
+-- a text has nothing of the counters, and says all else
+pub uncounted-text : (b : BoardBuilder) → fenText (uncounted b) ≡ fenText b
+unfolding fenText tailText
+uncounted-text b = refl
+
+same-position : (a b : BoardBuilder) → inRange a ≡ true → inRange b ≡ true → fenText a ≡ fenText b → uncounted a ≡ uncounted b
+same-position a b r s e = board-of (uncounted a) (uncounted b) (sym (read-back a r) ∙ ap readFen e ∙ read-back b s)
+
 pub one-key : OneKey
-one-key a b r s e = board-of a b (sym (read-back a r) ∙ ap readFen e ∙ read-back b s)
+unfolding numbers
+one-key a b r s = record {
+  same-numbers = λ e. ap numbers (same-position a b r s e);
+  same-text = λ e. sym (uncounted-text a) ∙ ap fenText (numbers-are-the-position a b r s e) ∙ uncounted-text b;
+}
 
 -- ---- what is read is in range: 64 squares, each with a code of at most 12
 record Sound (p : Placement) : Type 0 where
@@ -103,13 +116,14 @@ file-most BadFile = omega arith
 file-most BadRank = omega arith
 file-most Missing = omega arith
 
--- an answer of 0 is a record in range, any other is a refusal with its number and offset
+-- an answer of 0 is a record in range with the counters 0 and 1, any other is a refusal with its number and offset
 record Told (f : Fen) : Type 0 where
   given : f .number ≡ 0 → inRange (f .board) ≡ true
+  begun : f .number ≡ 0 → uncounted (f .board) ≡ f .board
   taken : (f .number ≡ 0 → ⊥) → f ≡ refusedAt (f .number) (f .offset)
 
 told-none : (number offset : ℕ) → (number ≡ 0 → ⊥) → Told (refusedAt number offset)
-told-none number offset n = record { given = λ e. absurd (n e); taken = λ m. refl }
+told-none number offset n = record { given = λ e. absurd (n e); begun = λ e. absurd (n e); taken = λ m. refl }
 
 sided-told : (at : ℕ) (p : Placement) (side : ℕ) (castling ep : List ℕ) → Sound p → Told (sided at (p .pieces) side castling ep)
 unfolding sided
@@ -127,7 +141,9 @@ sided-told at p side castling ep s = go (ltb side 2) refl
             black = rights-most 107 113 castling;
             file = file-most (readSquare ep);
             codes = s .codes;
+            counters = counters-begin;
           });
+          begun = λ z. refl;
           taken = λ n. absurd (n refl);
         })
 
@@ -155,17 +171,24 @@ read-told s = tokens-told (length s) (tokens s)
 pub reads-in-range : ReadsInRange
 reads-in-range s e = read-told s .given e
 
+pub reads-uncounted : (s : List ℕ) → readFen s .number ≡ 0 → uncounted (readFen s .board) ≡ readFen s .board
+reads-uncounted s e = read-told s .begun e
+
 pub refused-is-zero : RefusedIsZero
 refused-is-zero s n = read-told s .taken n
 
 -- ---- keys
 pub keys-tell-records : KeysTellRecords
 keys-tell-records s t e f = record {
-  one-record = λ k. one-key (readFen s .board) (readFen t .board) (reads-in-range s e) (reads-in-range t f) k;
+  one-record = λ k.
+      sym (reads-uncounted s e)
+      ∙ same-position (readFen s .board) (readFen t .board) (reads-in-range s e) (reads-in-range t f) k
+      ∙ reads-uncounted t f;
   one-key = λ k. ap fenText k;
 }
 
 pub key-of-key : KeyOfKey
 key-of-key s e =
-    let back : readFen (fenText (readFen s .board)) ≡ fenOf (readFen s .board) = read-back (readFen s .board) (reads-in-range s e) in
-    (ap (λ (f : Fen). f .number) back, ap (λ (f : Fen). fenText (f .board)) back)
+    let b : BoardBuilder = readFen s .board in
+    let back : readFen (fenText b) ≡ fenOf (uncounted b) = read-back b (reads-in-range s e) in
+    (ap (λ (f : Fen). f .number) back, ap (λ (f : Fen). fenText (f .board)) back ∙ uncounted-text b)

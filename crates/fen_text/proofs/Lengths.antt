@@ -1,7 +1,8 @@
--- How long a FEN is: 25 bytes at least and 85 at most, for each record in range.
+-- How long a FEN is: 25 bytes at least and 85 at most, 91 with the record's counters, for each record in range.
 -- Assumes nothing.
 use mathlib.Core.Path.{_≡_, refl, _∙_}
-use mathlib.Core.List.{List, [], _∷_}
+use mathlib.Core.Bool.{true}
+use mathlib.Core.List.{List, [], _∷_, _++_}
 use Prim.Native.Nat.{ℕ, zero, suc, _+_, _*_, _≤_, _<_}
 use native.Mathlib.Nat.{add-zero}
 use native.Mathlib.Omega.{arith}
@@ -10,10 +11,13 @@ use lib.ListN.{length, length-append, length-take, length-drop}
 use Rattle.answer.proofs.Below.{belows}
 use Rattle.castle_rights.specs.CastleRights.{lettersOf, lettersText}
 use Rattle.board_builder.specs.declared.BoardBuilder.{BoardBuilder}
-use Rattle.board_builder.proofs.Ranges.{InRange, in-range}
-use Rattle.fen_text.specs.Write.{digitText, runText, rowOf, slashText, ranksText, rightsText, enPassantText, tailText, fenText}
-use Rattle.fen_text.specs.Promises.{TwentyFiveToEightyFive}
+use Rattle.board_builder.specs.BoardBuilder.{inRange}
+use Rattle.board_builder.proofs.Ranges.{CountersIn, InRange, in-range}
+use Rattle.fen_text.specs.Write.{digitText, runText, rowOf, slashText, ranksText, rightsText, enPassantText}
+use Rattle.fen_text.specs.Write.{countersText, tailWith, tailText, fullTail, fenText, fullText}
+use Rattle.fen_text.specs.Promises.{TwentyFiveToEightyFive, TwentyFiveToNinetyOne}
 use Rattle.fen_text.proofs.Cases.{cond-both}
+use Rattle.fen_text.proofs.Counters.{count-few, count-some}
 
 -- a number of bytes from low to high
 pub record Long (lo hi : ℕ) (s : List ℕ) : Type 0 where
@@ -91,16 +95,36 @@ en-passant-long side file = cond-both (Long 1 2) (eqb file 0) (record { low = li
 s≤ : {m n : ℕ} → m ≤ n → m < suc n
 s≤ h = omega arith
 
-tail-long : (b : BoardBuilder) → InRange b → Long 10 14 (tailText b)
-unfolding tailText
-tail-long b r =
+-- whatever counters end it
+tail-long : (b : BoardBuilder) (end : List ℕ) (lo hi : ℕ) → InRange b → Long lo hi end → Long (6 + lo) (10 + hi) (tailWith b end)
+tail-long b end lo hi r k =
     let e = en-passant-long (b .«side_to_move») (b .«en_passant») in
     let s = rights-long (b .«white_castle_rights») (b .«black_castle_rights») (s≤ (r .white)) (s≤ (r .black)) in
     record { low = simp length-append (omega arith); high = simp length-append (omega arith) }
 
-pub fen-long : TwentyFiveToEightyFive
-unfolding fenText
-fen-long b r =
+counters-long : (half full : ℕ) → CountersIn half full → Long 4 10 (countersText half full)
+counters-long half full r =
+    let a = count-some half in
+    let b = count-few half (r .half-most) in
+    let c = count-some full in
+    let d = count-few full (r .full-most) in
+    record { low = simp length-append (omega arith); high = simp length-append (omega arith) }
+
+text-long : (b : BoardBuilder) (end : List ℕ) (lo hi : ℕ) → inRange b ≡ true → Long lo hi end
+    → (21 + lo ≤ length (ranksText 8 (b .pieces) ++ tailWith b end)) × (length (ranksText 8 (b .pieces) ++ tailWith b end) ≤ 81 + hi)
+text-long b end lo hi r k =
     let p = ranks-long 7 (b .pieces) (in-range b r .long) (lit≤ tt) in
-    let t = tail-long b (in-range b r) in
-    (simp length-append (omega arith), simp length-append (omega arith))
+    let t = tail-long b end lo hi (in-range b r) k in
+    let sum = length-append (ranksText 8 (b .pieces)) (tailWith b end) in
+    (omega arith, omega arith)
+
+pub fen-long : TwentyFiveToEightyFive
+unfolding fenText tailText
+fen-long b r = text-long b (32 ∷ 48 ∷ 32 ∷ 49 ∷ []) 4 4 r (record { low = lit≤ tt; high = lit≤ tt })
+
+pub full-long : TwentyFiveToNinetyOne
+unfolding fullText fullTail
+full-long b r =
+    let half = b .«half_moves» in
+    let full = b .«full_moves» in
+    text-long b (countersText half full) 4 10 r (counters-long half full (in-range b r .counters))

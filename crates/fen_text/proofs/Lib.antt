@@ -1,12 +1,15 @@
 pub mod AtSmallest
+pub mod AtSmallestFull
 pub mod AtSmallestPages
 pub mod Cases
 pub mod Tokens
 pub mod Lengths
 pub mod Placed
 pub mod ReadBack
+pub mod Counters
 pub mod Keys
 pub mod Hollow
+pub mod Full
 pub mod Faults
 pub mod Rows
 pub mod Lines

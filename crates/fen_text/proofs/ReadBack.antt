@@ -1,6 +1,6 @@
--- The read-back: for each record in range, its FEN is read as that record.
+-- The read-back: for each record in range, its FEN is read as that record with the counters 0 and 1.
 -- Assumes nothing.
-use mathlib.Core.Path.{_≡_, refl, ap, _∙_}
+use mathlib.Core.Path.{_≡_, refl, ap, sym, _∙_}
 use mathlib.Core.Bool.{Bool, true, false, not}
 use mathlib.Core.List.{List, [], _∷_, _++_}
 use Prim.Native.Nat.{ℕ, zero, suc, _+_, _≤_, _<_}
@@ -13,20 +13,21 @@ use Rattle.square.specs.Square.{readSquare}
 use Rattle.castle_rights.specs.CastleRights.{lettersOf, lettersText}
 use Rattle.answer.proofs.Below.{fails, every, below, belows, same}
 use Rattle.board_builder.specs.declared.BoardBuilder.{BoardBuilder}
+use Rattle.board_builder.specs.BoardBuilder.{withCounters, uncounted}
 use Rattle.answer.specs.Numbers.{allAtMost, among}
 use Rattle.answer.proofs.Numbers.{most-head, most-tail, or-left, or-right}
 use Rattle.board_builder.proofs.Ranges.{InRange, in-range}
 use Rattle.fen_text.specs.Token.{onto, joined, tokens}
 use Rattle.fen_text.specs.Read.{sideOf, rightsOf, enPassantOf, fenOf, sided, assembled, ofTokens, readFen}
-use Rattle.fen_text.specs.Write.{digitText, runText, rowOf, slashText, ranksText, sideLetter, rightsText, enPassantText, tailText, fenText}
-use Rattle.fen_text.specs.Promises.{TextReadsBack}
+use Rattle.fen_text.specs.Write.{digitText, runText, rowOf, slashText, ranksText, sideLetter, rightsText, enPassantText, tailWith, tailText, fenText}
+use Rattle.fen_text.specs.Promises.{TextReadsBack, BeginningReadsBack}
 use Rattle.fen_text.proofs.Placed.{row-codes, placed-back}
 
 -- ---- no part of a FEN has a space in it
-abbrev Free : List ℕ → Type 0
+abbrev pub Free : List ℕ → Type 0
 Free xs = among 32 xs ≡ false
 
-free-cons : (x : ℕ) (xs : List ℕ) → eqb x 32 ≡ false → Free xs → Free (x ∷ xs)
+pub free-cons : (x : ℕ) (xs : List ℕ) → eqb x 32 ≡ false → Free xs → Free (x ∷ xs)
 unfolding among
 free-cons x xs e f = rw (e, f)
 
@@ -91,16 +92,11 @@ token-step : (x : ℕ) (xs ys : List ℕ) (t : Bool) → t ≡ false → tokens 
 unfolding joined onto
 token-step x xs ys t e f = rw (e, f)
 
-token : (xs ys : List ℕ) → Free xs → tokens (xs ++ (32 ∷ ys)) ≡ xs ∷ tokens ys
+pub token : (xs ys : List ℕ) → Free xs → tokens (xs ++ (32 ∷ ys)) ≡ xs ∷ tokens ys
 unfolding tokens among joined
 token [] ys f = refl
 token (x ∷ xs) ys f =
     token-step x xs ys (eqb x 32) (or-left (eqb x 32) (among 32 xs) f) (token xs ys (or-right (eqb x 32) (among 32 xs) f))
-
--- the two counts that end each FEN
-counts : tokens (48 ∷ 32 ∷ 49 ∷ []) ≡ (48 ∷ []) ∷ (49 ∷ []) ∷ []
-unfolding tokens joined onto
-counts = refl
 
 -- ---- what the tokens say
 side-back : (side : ℕ) → side < 2 → sideOf (sideLetter side ∷ []) ≡ side
@@ -121,33 +117,29 @@ en-passant-back = same (λ (s f : ℕ). enPassantOf (enPassantText s f)) (λ (s 
 
 -- ---- the whole
 module _ (b : BoardBuilder) (r : InRange b) where
-  four : tokens (fenText b)
+  -- the four tokens of a text, whatever counters end it
+  pub four : (end : List ℕ) → tokens (ranksText 8 (b .pieces) ++ tailWith b (32 ∷ end))
       ≡ ranksText 8 (b .pieces)
       ∷ (sideLetter (b .«side_to_move») ∷ [])
       ∷ rightsText (b .«white_castle_rights») (b .«black_castle_rights»)
       ∷ enPassantText (b .«side_to_move») (b .«en_passant»)
-      ∷ (48 ∷ [])
-      ∷ (49 ∷ [])
-      ∷ []
-  unfolding fenText tailText
-  four =
+      ∷ tokens end
+  four end =
       let side : List ℕ = sideLetter (b .«side_to_move») ∷ [] in
       let rights : List ℕ = rightsText (b .«white_castle_rights») (b .«black_castle_rights») in
       let ep : List ℕ = enPassantText (b .«side_to_move») (b .«en_passant») in
-      let end : List ℕ = 48 ∷ 32 ∷ 49 ∷ [] in
       token (ranksText 8 (b .pieces)) (side ++ (32 ∷ (rights ++ (32 ∷ (ep ++ (32 ∷ end)))))) (free-ranks 8 (b .pieces) (r .codes))
       ∙ ap (λ (ts : List (List ℕ)). ranksText 8 (b .pieces) ∷ ts)
       (token side (rights ++ (32 ∷ (ep ++ (32 ∷ end)))) (free-side (b .«side_to_move») (lt-suc (r .side)))
       ∙ ap (λ (ts : List (List ℕ)). side ∷ ts)
       (token rights (ep ++ (32 ∷ end)) (free-rights (b .«white_castle_rights») (b .«black_castle_rights») (lt-suc (r .white)) (lt-suc (r .black)))
       ∙ ap (λ (ts : List (List ℕ)). rights ∷ ts)
-      (token ep end (free-en-passant (b .«side_to_move») (b .«en_passant») (lt-suc (r .side)) (lt-suc (r .file)))
-      ∙ ap (λ (ts : List (List ℕ)). ep ∷ ts) counts)))
+      (token ep end (free-en-passant (b .«side_to_move») (b .«en_passant») (lt-suc (r .side)) (lt-suc (r .file))))))
 
-  back : readFen (fenText b) ≡ fenOf b
+  pub back : (end : List ℕ) → readFen (ranksText 8 (b .pieces) ++ tailWith b (32 ∷ end)) ≡ fenOf (uncounted b)
   unfolding readFen ofTokens assembled sided
-  back =
-      ap (ofTokens (length (fenText b))) four
+  back end =
+      ap (ofTokens (length (ranksText 8 (b .pieces) ++ tailWith b (32 ∷ end)))) (four end)
       ∙ rw (
         placed-back (b .pieces) (r .long) (r .codes),
         side-back (b .«side_to_move») (lt-suc (r .side)),
@@ -158,4 +150,10 @@ module _ (b : BoardBuilder) (r : InRange b) where
       )
 
 pub read-back : TextReadsBack
-read-back b good = back b (in-range b good)
+unfolding fenText tailText
+read-back b good = back b (in-range b good) (48 ∷ 32 ∷ 49 ∷ [])
+
+pub beginning-reads-back : BeginningReadsBack
+beginning-reads-back b good half full =
+    let same : b ≡ uncounted b = λ i. withCounters b (half i) (full i) in
+    read-back b good ∙ ap fenOf (sym same)

@@ -3,10 +3,12 @@ pub mod Placement
 pub mod Read
 pub mod Base
 pub mod Write
+pub mod Full
 pub mod Promises
 pub mod Faults
 pub mod Rows
 pub mod AtSmallest
+pub mod FullAtSmallest
 pub mod Lines
 pub mod Page
 pub mod PagePromises

@@ -1,5 +1,6 @@
 -- The FEN reader (document 01, "FEN, read and written"): fewer than four tokens are refused, tokens after the fourth are ignored. A refusal says which
--- part is wrong, and where (document 02, order 2): too few tokens, a bad placement byte, a bad side token, tested in that order.
+-- part is wrong, and where (document 02, order 2): too few tokens, a bad placement byte, a bad side token, tested in that order. It sets the counters to
+-- 0 and 1 (order 12), which `board` does.
 -- Assumes nothing.
 use Prim.Native.Nat.{ℕ, _+_, _%_}
 use mathlib.Core.Bool.{cond, _||_}
@@ -13,7 +14,7 @@ use Rattle.square.specs.Square.{readSquare}
 use Rattle.answer.specs.Numbers.{among}
 use Rattle.castle_rights.specs.CastleRights.{rights}
 use Rattle.board_builder.specs.declared.BoardBuilder.{BoardBuilder}
-use Rattle.board_builder.specs.BoardBuilder.{board, emptyBoard}
+use Rattle.board_builder.specs.BoardBuilder.{board, noBoard}
 use Rattle.fen_text.specs.declared.Fen.{Fen}
 use Rattle.fen_text.specs.Token.{tokens}
 use Rattle.fen_text.specs.Placement.{start, placeAll, firstBad}
@@ -45,7 +46,7 @@ enPassantOf t = fileRead (readSquare t)
 
 -- a refused text: what is wrong, where that is in the text, and an all-zero record
 abbrev pub refusedAt : ℕ → ℕ → Fen
-refusedAt number offset = record { number = number; offset = offset; board = emptyBoard }
+refusedAt number offset = record { number = number; offset = offset; board = noBoard }
 
 -- an accepted text
 abbrev pub fenOf : BoardBuilder → Fen

@@ -1,5 +1,5 @@
 -- The FEN text of a record (document 01, "FEN, read and written"): ranks 8 to 1, empty runs as one digit, the side, the rights' letters, the en
--- passant square, ` 0 1`.
+-- passant square, ` 0 1`. And the full text (document 02, order 12), which ends with the record's own counters.
 -- Assumes nothing.
 use Prim.Native.Nat.{ℕ, zero, suc, _+_, _*_}
 use mathlib.Core.Bool.{cond, _&&_}
@@ -8,6 +8,7 @@ use lib.Dec.{eqb}
 use lib.ListN.{take, drop}
 use Rattle.answer.specs.Answer.{outOfRange}
 use Rattle.square.specs.Square.{squareText}
+use Rattle.decimal.specs.Decimal.{decimal}
 use Rattle.square.specs.Piece.{letterOf}
 use Rattle.castle_rights.specs.CastleRights.{lettersText}
 use Rattle.board_builder.specs.declared.BoardBuilder.{BoardBuilder}
@@ -49,15 +50,28 @@ rightsText white black = cond (eqb white 0 && eqb black 0) (45 ∷ []) (lettersT
 unfoldable pub enPassantText : ℕ → ℕ → List ℕ
 enPassantText side file = cond (eqb file 0) (45 ∷ []) (squareText (enPassantAt side file))
 
--- what follows the placement
-unfoldable pub tailText : BoardBuilder → List ℕ
-tailText b =
+-- two counters, each behind a space
+abbrev pub countersText : ℕ → ℕ → List ℕ
+countersText half full = 32 ∷ (decimal half ++ (32 ∷ decimal full))
+
+-- what follows the placement, up to the counters and what is put there
+abbrev pub tailWith : BoardBuilder → List ℕ → List ℕ
+tailWith b end =
     32 ∷ sideLetter (b .«side_to_move») ∷ 32 ∷ (rightsText (b .«white_castle_rights») (b .«black_castle_rights»)
-    ++ (32 ∷ (enPassantText (b .«side_to_move») (b .«en_passant») ++ (32 ∷ 48 ∷ 32 ∷ 49 ∷ []))))
+    ++ (32 ∷ (enPassantText (b .«side_to_move») (b .«en_passant») ++ end)))
+
+unfoldable pub tailText : BoardBuilder → List ℕ
+tailText b = tailWith b (32 ∷ 48 ∷ 32 ∷ 49 ∷ [])
+
+unfoldable pub fullTail : BoardBuilder → List ℕ
+fullTail b = tailWith b (countersText (b .«half_moves») (b .«full_moves»))
 
 unfoldable pub fenText : BoardBuilder → List ℕ
 fenText b = ranksText 8 (b .pieces) ++ tailText b
 
--- what the writer checks before 7: each number of the record
+unfoldable pub fullText : BoardBuilder → List ℕ
+fullText b = ranksText 8 (b .pieces) ++ fullTail b
+
+-- what either writer checks before 7: each number of the record
 abbrev pub fenCheck : BoardBuilder → ℕ
 fenCheck b = cond (inRange b) 0 outOfRange
