@@ -118,6 +118,9 @@ text-long b end lo hi r k =
     let sum = length-append (ranksText 8 (b .pieces)) (tailWith b end) in
     (omega arith, omega arith)
 
+pub place-long : (b : BoardBuilder) → inRange b ≡ true → length (ranksText 8 (b .pieces) ++ tailWith b []) ≤ 81
+place-long b r = text-long b [] 0 0 r (record { low = lit≤ tt; high = lit≤ tt }) .1
+
 pub fen-long : TwentyFiveToEightyFive
 unfolding fenText tailText
 fen-long b r = text-long b (32 ∷ 48 ∷ 32 ∷ 49 ∷ []) 4 4 r (record { low = lit≤ tt; high = lit≤ tt })

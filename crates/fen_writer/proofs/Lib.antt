@@ -2,4 +2,5 @@ pub mod Letters
 pub mod Rows
 pub mod Ranks
 pub mod Parts
+pub mod Counters
 pub mod Determined

@@ -28,7 +28,7 @@ abbrev pub letterIf : Bool → ℕ → List ℕ
 letterIf there b = cond there (b ∷ []) []
 
 -- which is at most one byte
-pub letter-most : (there : Bool) (b : ℕ) {old new : List ℕ} {n r : ℕ} → Put 85 old n (letterIf there b) new r → r ≤ n + 1
+pub letter-most : (there : Bool) (b : ℕ) {old new : List ℕ} {n r : ℕ} → Put 91 old n (letterIf there b) new r → r ≤ n + 1
 letter-most there b p =
     let one = cond-both (λ (s : List ℕ). length s ≤ 1) there {x = b ∷ []} {y = []} (lit≤ tt) (lit≤ tt) in
     omega (arith, p .pushed .count)
@@ -48,12 +48,12 @@ added n zero = eq-eqb (n + 0) n (omega arith)
 added n (suc m) = ne-eqb (n + suc m) n (λ e. omega arith) ∙ sym (eqb·suc-zero m)
 
 pub rights-put : {s0 s1 s2 s3 s4 s5 : List ℕ} {at a b c d r : ℕ} (white black : ℕ) → white < 4 → black < 4
-    → Put 85 s0 at (letterIf (eqb (white % 2) 1) 75) s1 a
-    → Put 85 s1 a (letterIf (eqb (white / 2) 1) 81) s2 b
-    → Put 85 s2 b (letterIf (eqb (black % 2) 1) 107) s3 c
-    → Put 85 s3 c (letterIf (eqb (black / 2) 1) 113) s4 d
-    → Put 85 s4 d (letterIf (eqb d at) 45) s5 r
-    → Put 85 s0 at (rightsText white black) s5 r
+    → Put 91 s0 at (letterIf (eqb (white % 2) 1) 75) s1 a
+    → Put 91 s1 a (letterIf (eqb (white / 2) 1) 81) s2 b
+    → Put 91 s2 b (letterIf (eqb (black % 2) 1) 107) s3 c
+    → Put 91 s3 c (letterIf (eqb (black / 2) 1) 113) s4 d
+    → Put 91 s4 d (letterIf (eqb d at) 45) s5 r
+    → Put 91 s0 at (rightsText white black) s5 r
 rights-put {at = at} {d = d} white black h k p q s t u =
     let four = put-both p (put-both q (put-both s t)) in
     let none : eqb d at ≡ eqb (length (fourText white black)) 0 = rw (four .pushed .count) (added at (length (fourText white black))) in

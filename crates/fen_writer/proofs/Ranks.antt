@@ -19,9 +19,9 @@ use Rattle.fen_writer.proofs.Letters.{rank-run}
 pub record Ranks (pieces new : List ℕ) (n left : ℕ) : Type 0 where
   pub count : n + length (ranksText left pieces) ≡ length (ranksText 8 pieces)
   pub bytes : take n new ++ ranksText left pieces ≡ ranksText 8 pieces
-  pub long : length new ≡ 85
+  pub long : length new ≡ 91
 
-pub ranks-start : (pieces old : List ℕ) → length old ≡ 85 → Ranks pieces old 0 8
+pub ranks-start : (pieces old : List ℕ) → length old ≡ 91 → Ranks pieces old 0 8
 ranks-start pieces old e = record { count = omega arith; bytes = refl; long = e }
 
 slash : (k : ℕ) → slashText k ≡ cond (ltb 0 k) (47 ∷ []) []
@@ -42,13 +42,13 @@ next left pieces h =
 
 -- a rank's row, by the letters
 rank-as : (pieces letters : List ℕ) (from : ℕ) {old mid : List ℕ} {n m : ℕ} → letters ≡ lettersOn pieces → allAtMost 12 pieces ≡ true
-    → Put 85 old n (rowText 0 (take 8 (drop from letters))) mid m → Put 85 old n (runText 0 (take 8 (drop from pieces))) mid m
+    → Put 91 old n (rowText 0 (take 8 (drop from letters))) mid m → Put 91 old n (runText 0 (take 8 (drop from pieces))) mid m
 rank-as pieces letters from e ok p = put-as (ap (λ (l : List ℕ). rowText 0 (take 8 (drop from l))) e ∙ rank-run from pieces ok) p
 
 -- behind a rank there is room for what is left
 pub ranks-room : {pieces old mid : List ℕ} {n m left : ℕ} (letters : List ℕ)
     → Ranks pieces old n left → 0 < left → letters ≡ lettersOn pieces → allAtMost 12 pieces ≡ true
-    → Put 85 old n (rowText 0 (take 8 (drop ((left - 1) * 8) letters))) mid m → m ≤ length (ranksText 8 pieces)
+    → Put 91 old n (rowText 0 (take 8 (drop ((left - 1) * 8) letters))) mid m → m ≤ length (ranksText 8 pieces)
 ranks-room {pieces} {left = left} letters r h e ok p =
     let q = rank-as pieces letters ((left - 1) * 8) e ok p in
     omega (arith, r .count, q .pushed .count, simp length-append at (ap length (next left pieces h)))
@@ -56,13 +56,13 @@ ranks-room {pieces} {left = left} letters r h e ok p =
 -- one rank, and a slash where there are ranks below it
 pub ranks-turn : {pieces old mid new : List ℕ} {n m r left : ℕ} (letters : List ℕ)
     → Ranks pieces old n left → 0 < left → letters ≡ lettersOn pieces → allAtMost 12 pieces ≡ true
-    → Put 85 old n (rowText 0 (take 8 (drop ((left - 1) * 8) letters))) mid m → Put 85 mid m (cond (ltb 0 (left - 1)) (47 ∷ []) []) new r
+    → Put 91 old n (rowText 0 (take 8 (drop ((left - 1) * 8) letters))) mid m → Put 91 mid m (cond (ltb 0 (left - 1)) (47 ∷ []) []) new r
     → Ranks pieces new r (left - 1)
 ranks-turn {pieces} {old} {new = new} {n} {r = r} {left} letters a h e ok p q =
     let row = runText 0 (rowOf (left - 1) pieces) in
     let part : List ℕ = cond (ltb 0 (left - 1)) (47 ∷ []) [] in
     let below = ranksText (left - 1) pieces in
-    let both : Put 85 old n (row ++ part) new r = put-both (rank-as pieces letters ((left - 1) * 8) e ok p) q in
+    let both : Put 91 old n (row ++ part) new r = put-both (rank-as pieces letters ((left - 1) * 8) e ok p) q in
     record {
       count =
           omega (
@@ -82,7 +82,7 @@ ranks-turn {pieces} {old} {new = new} {n} {r = r} {left} letters a h e ok p q =
       long = q .long;
     }
 
-pub ranks-end : {pieces new : List ℕ} {n left : ℕ} → Ranks pieces new n left → left ≤ 0 → (old : List ℕ) → Put 85 old 0 (ranksText 8 pieces) new n
+pub ranks-end : {pieces new : List ℕ} {n left : ℕ} → Ranks pieces new n left → left ≤ 0 → (old : List ℕ) → Put 91 old 0 (ranksText 8 pieces) new n
 unfolding ranksText
 ranks-end {pieces} {new} {n} {left = zero} a h old =
     record { pushed = record { count = omega (arith, a .count); bytes = sym (append-nil (take n new)) ∙ a .bytes }; long = a .long }

@@ -20,8 +20,8 @@ use Rattle.fen_writer.proofs.Letters.{row-empty, row-letter}
 -- make the whole
 pub record Row (old : List ℕ) (at : ℕ) (row new : List ℕ) (n run i : ℕ) : Type 0 where
   pub done : List ℕ
-  pub long : length new ≡ 85
-  pub fits : n ≤ 85
+  pub long : length new ≡ 91
+  pub fits : n ≤ 91
   pub bytes : take n new ≡ done ++ digitText run
   pub rest : done ++ rowText run (drop i row) ≡ take at old ++ rowText 0 row
 
@@ -33,7 +33,7 @@ one-digit : (n : ℕ) → (n ≡ 0 → ⊥) → digitText n ≡ (48 + n) ∷ []
 unfolding digitText
 one-digit n h = simp (ne-eqb _ _ h)
 
-pub row-start : (old : List ℕ) (at : ℕ) (row : List ℕ) → length old ≡ 85 → at ≤ 85 → Row old at row old at 0 0
+pub row-start : (old : List ℕ) (at : ℕ) (row : List ℕ) → length old ≡ 91 → at ≤ 91 → Row old at row old at 0 0
 row-start old at row e h = record {
   done = take at old;
   long = e;
@@ -46,8 +46,8 @@ row-over : (n i : ℕ) (row : List ℕ) → length row ≤ i → rowText n (drop
 unfolding rowText
 row-over n i row h = rw (drop-of-length-le row h)
 
-pub row-end : {old row new : List ℕ} {at n run i : ℕ} → Row old at row new n run i → length old ≡ 85 → at ≤ 85 → length row ≤ i
-    → Put 85 old at (rowText 0 row) new n
+pub row-end : {old row new : List ℕ} {at n run i : ℕ} → Row old at row new n run i → length old ≡ 91 → at ≤ 91 → length row ≤ i
+    → Put 91 old at (rowText 0 row) new n
 row-end {old} {row} {new} {at} {n} {run} {i} r e h k =
     let whole : take n new ≡ take at old ++ rowText 0 row = r .bytes ∙ ap (λ (l : List ℕ). r .done ++ l) (sym (row-over run i row k)) ∙ r .rest in
     let count : n ≡ at + length (rowText 0 row) = omega (arith, simp (length-append, length-take) at (ap length whole)) in
@@ -80,7 +80,7 @@ row-piece : (run i : ℕ) (row : List ℕ) → i < length row → (getD row i 0 
 row-piece run i row k e = rw (add-one i, drop-cons row i 0 k) (sym (row-letter run (getD row i 0) (drop (suc i) row) e))
 
 -- an iteration at an empty square, with no run open and with one, and an iteration at a letter
-turn-first : {old row new : List ℕ} {at n run i : ℕ} → Row old at row new n run i → n < 85 → i < length row → getD row i 0 ≡ 0 → run ≡ 0
+turn-first : {old row new : List ℕ} {at n run i : ℕ} → Row old at row new n run i → n < 91 → i < length row → getD row i 0 ≡ 0 → run ≡ 0
     → Row old at row (set new (n + 1 - 1) (48 + (run + 1))) (n + 1) (run + 1) (i + 1)
 turn-first {old} {row} {new} {at} {n} {run} {i} r h k e z =
     let some : run + 1 ≡ 0 → ⊥ = λ q. omega arith in
@@ -92,7 +92,7 @@ turn-first {old} {row} {new} {at} {n} {run} {i} r h k e z =
       rest = ap (λ (l : List ℕ). r .done ++ l) (row-next run i row k e) ∙ r .rest;
     }
 
-turn-more : {old row new : List ℕ} {at n run i : ℕ} → Row old at row new n run i → n < 85 → i < length row → getD row i 0 ≡ 0 → (run ≡ 0 → ⊥)
+turn-more : {old row new : List ℕ} {at n run i : ℕ} → Row old at row new n run i → n < 91 → i < length row → getD row i 0 ≡ 0 → (run ≡ 0 → ⊥)
     → Row old at row (set new (n - 1) (48 + (run + 1))) n (run + 1) (i + 1)
 turn-more {old} {row} {new} {at} {n} {run} {i} r h k e z =
     let some : run + 1 ≡ 0 → ⊥ = λ q. omega arith in
@@ -105,7 +105,7 @@ turn-more {old} {row} {new} {at} {n} {run} {i} r h k e z =
       rest = ap (λ (l : List ℕ). r .done ++ l) (row-next run i row k e) ∙ r .rest;
     }
 
-turn-letter : {old row new : List ℕ} {at n run i : ℕ} → Row old at row new n run i → n < 85 → i < length row → (getD row i 0 ≡ 0 → ⊥)
+turn-letter : {old row new : List ℕ} {at n run i : ℕ} → Row old at row new n run i → n < 91 → i < length row → (getD row i 0 ≡ 0 → ⊥)
     → Row old at row (set new (n + 1 - 1) (getD row i 0)) (n + 1) 0 (i + 1)
 turn-letter {old} {row} {new} {at} {n} {run} {i} r h k e =
     let l = getD row i 0 in
@@ -146,7 +146,7 @@ count-least {n = n} {run = run} r l next m e f = go (eqb run 0) refl
         rw f (cond-both (λ (k : ℕ). 1 ≤ k) (ltb 1 next) {x = n} {y = n + 1} some (omega arith))
 
 -- the iteration, by what the three small functions give
-pub row-turn : {old row new : List ℕ} {at n run i : ℕ} → Row old at row new n run i → n < 85 → i < length row → (l next m b : ℕ) → l ≡ getD row i 0
+pub row-turn : {old row new : List ℕ} {at n run i : ℕ} → Row old at row new n run i → n < 91 → i < length row → (l next m b : ℕ) → l ≡ getD row i 0
     → next ≡ cond (eqb l 0) (run + 1) 0 → m ≡ cond (ltb 1 next) n (n + 1) → b ≡ cond (eqb l 0) (48 + next) l
     → Row old at row (set new (m - 1) b) m next (i + 1)
 row-turn {old} {row} {new} {at} {n} {run} {i} r h k l next m b s e f g = go (eqb l 0) (eqb run 0) refl refl

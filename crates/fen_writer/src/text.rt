@@ -1,31 +1,32 @@
-// The FEN text of a record in range, put together in one array of 85 bytes, the longest FEN. The inner loop has no branch: the digit of an empty run
+// The FEN text of a record in range, put together in one array of 91 bytes, the longest full FEN. The inner loop has no branch: the digit of an empty run
 // stands from its first square on and is written over as the run grows.
 use board_builder::BoardBuilder;
 ghost use mathlib.Core.Path.{_≡_};
 ghost use mathlib.Core.Bool.{true, cond};
-ghost use mathlib.Core.List.{[], _∷_};
-ghost use Prim.Native.Nat.{_+_, _<_};
+ghost use mathlib.Core.List.{[], _∷_, _++_};
+ghost use Prim.Native.Nat.{_+_, _≤_, _<_};
 ghost use lib.Dec.{eqb, ltb};
 ghost use lib.ListN.{length, take, drop};
 ghost use Rattle.answer.specs.Numbers.{allAtMost};
-ghost use Rattle.board_builder.specs.BoardBuilder.{inRange};
-ghost use Rattle.fen_text.specs.Write.{sideLetter, rightsText, enPassantText, ranksText, tailText, fenText};
+ghost use Rattle.decimal.specs.Decimal.{decimal};
+ghost use Rattle.board_builder.specs.BoardBuilder.{lastCount, inRange};
+ghost use Rattle.fen_text.specs.Write.{sideLetter, rightsText, enPassantText, ranksText, tailWith, fenText, fullText};
 ghost use Rattle.fen_writer.specs.CodeLetters.{lettersOn, rowText};
 ghost use Rattle.answer.specs.CodePushed.{Put};
 
-fn push(bytes: &mut [u8; 85], n: usize, b: u8) -> usize
-    requires { ⌜ length (now bytes) ≡ 85 ⌝ }
-    requires { ⌜ n < 85 ⌝ }
-    ensures { λ r. ⌜ Put 85 (now (bytes .entry)) n (b ∷ []) (now (bytes .exit)) r ⌝ }
+fn push(bytes: &mut [u8; 91], n: usize, b: u8) -> usize
+    requires { ⌜ length (now bytes) ≡ 91 ⌝ }
+    requires { ⌜ n < 91 ⌝ }
+    ensures { λ r. ⌜ Put 91 (now (bytes .entry)) n (b ∷ []) (now (bytes .exit)) r ⌝ }
 {
     bytes[n] = b;
     n + 1
 }
 
-fn push_if(bytes: &mut [u8; 85], n: usize, there: bool, b: u8) -> usize
-    requires { ⌜ length (now bytes) ≡ 85 ⌝ }
-    requires { ⌜ n < 85 ⌝ }
-    ensures { λ r. ⌜ Put 85 (now (bytes .entry)) n (cond there (b ∷ []) []) (now (bytes .exit)) r ⌝ }
+fn push_if(bytes: &mut [u8; 91], n: usize, there: bool, b: u8) -> usize
+    requires { ⌜ length (now bytes) ≡ 91 ⌝ }
+    requires { ⌜ n < 91 ⌝ }
+    ensures { λ r. ⌜ Put 91 (now (bytes .entry)) n (cond there (b ∷ []) []) (now (bytes .exit)) r ⌝ }
 {
     if there {
         return push(bytes, n, b);
@@ -61,19 +62,19 @@ fn byte_of(run: u8, letter: u8) -> u8
 }
 
 fn length_after(n: usize, run: u8) -> usize
-    requires { ⌜ n < 85 ⌝ }
+    requires { ⌜ n < 91 ⌝ }
     ensures { λ r. ⌜ r ≡ cond (ltb 1 run) n (n + 1) ⌝ }
 {
     if 1 < run { n } else { n + 1 }
 }
 
 // One rank: the eight squares from `from` on.
-fn rank(bytes: &mut [u8; 85], at: usize, letters: &[u8; 64], from: usize) -> usize
-    requires { ⌜ length (now bytes) ≡ 85 ⌝ }
+fn rank(bytes: &mut [u8; 91], at: usize, letters: &[u8; 64], from: usize) -> usize
+    requires { ⌜ length (now bytes) ≡ 91 ⌝ }
     requires { ⌜ at < 77 ⌝ }
     requires { ⌜ length (now letters) ≡ 64 ⌝ }
     requires { ⌜ from < 57 ⌝ }
-    ensures { λ r. ⌜ Put 85 (now (bytes .entry)) at (rowText 0 (take 8 (drop from (now (letters .entry))))) (now (bytes .exit)) r ⌝ }
+    ensures { λ r. ⌜ Put 91 (now (bytes .entry)) at (rowText 0 (take 8 (drop from (now (letters .entry))))) (now (bytes .exit)) r ⌝ }
 {
     let mut n = at;
     let mut run: u8 = 0;
@@ -89,10 +90,10 @@ fn rank(bytes: &mut [u8; 85], at: usize, letters: &[u8; 64], from: usize) -> usi
 }
 
 // The ranks from the eighth down.
-fn ranks(bytes: &mut [u8; 85], pieces: [u8; 64]) -> usize
-    requires { ⌜ length (now bytes) ≡ 85 ⌝ }
+fn ranks(bytes: &mut [u8; 91], pieces: [u8; 64]) -> usize
+    requires { ⌜ length (now bytes) ≡ 91 ⌝ }
     requires { ⌜ allAtMost 12 pieces ≡ true ⌝ }
-    ensures { λ r. ⌜ Put 85 (now (bytes .entry)) 0 (ranksText 8 pieces) (now (bytes .exit)) r ⌝ }
+    ensures { λ r. ⌜ Put 91 (now (bytes .entry)) 0 (ranksText 8 pieces) (now (bytes .exit)) r ⌝ }
 {
     let mut letters = [0u8; 64];
     letters_of(&pieces, &mut letters);
@@ -106,10 +107,10 @@ fn ranks(bytes: &mut [u8; 85], pieces: [u8; 64]) -> usize
     n
 }
 
-fn side(bytes: &mut [u8; 85], n: usize, side: u8) -> usize
-    requires { ⌜ length (now bytes) ≡ 85 ⌝ }
-    requires { ⌜ n < 85 ⌝ }
-    ensures { λ r. ⌜ Put 85 (now (bytes .entry)) n (sideLetter side ∷ []) (now (bytes .exit)) r ⌝ }
+fn side(bytes: &mut [u8; 91], n: usize, side: u8) -> usize
+    requires { ⌜ length (now bytes) ≡ 91 ⌝ }
+    requires { ⌜ n < 91 ⌝ }
+    ensures { λ r. ⌜ Put 91 (now (bytes .entry)) n (sideLetter side ∷ []) (now (bytes .exit)) r ⌝ }
 {
     if side == 0 {
         return push(bytes, n, b'w');
@@ -118,12 +119,12 @@ fn side(bytes: &mut [u8; 85], n: usize, side: u8) -> usize
 }
 
 // White's letters then black's, or one `-` if none was pushed.
-fn rights(bytes: &mut [u8; 85], at: usize, white: u8, black: u8) -> usize
-    requires { ⌜ length (now bytes) ≡ 85 ⌝ }
+fn rights(bytes: &mut [u8; 91], at: usize, white: u8, black: u8) -> usize
+    requires { ⌜ length (now bytes) ≡ 91 ⌝ }
     requires { ⌜ at < 81 ⌝ }
     requires { ⌜ white < 4 ⌝ }
     requires { ⌜ black < 4 ⌝ }
-    ensures { λ r. ⌜ Put 85 (now (bytes .entry)) at (rightsText white black) (now (bytes .exit)) r ⌝ }
+    ensures { λ r. ⌜ Put 91 (now (bytes .entry)) at (rightsText white black) (now (bytes .exit)) r ⌝ }
 {
     let a = push_if(bytes, at, white % 2 == 1, b'K');
     let b = push_if(bytes, a, white / 2 == 1, b'Q');
@@ -133,11 +134,11 @@ fn rights(bytes: &mut [u8; 85], at: usize, white: u8, black: u8) -> usize
 }
 
 // The en passant square, on rank 6 with white to move and rank 3 with black, or `-`.
-fn en_passant(bytes: &mut [u8; 85], n: usize, side: u8, file: u8) -> usize
-    requires { ⌜ length (now bytes) ≡ 85 ⌝ }
+fn en_passant(bytes: &mut [u8; 91], n: usize, side: u8, file: u8) -> usize
+    requires { ⌜ length (now bytes) ≡ 91 ⌝ }
     requires { ⌜ n < 84 ⌝ }
     requires { ⌜ file < 9 ⌝ }
-    ensures { λ r. ⌜ Put 85 (now (bytes .entry)) n (enPassantText side file) (now (bytes .exit)) r ⌝ }
+    ensures { λ r. ⌜ Put 91 (now (bytes .entry)) n (enPassantText side file) (now (bytes .exit)) r ⌝ }
 {
     if file == 0 {
         return push(bytes, n, b'-');
@@ -149,12 +150,12 @@ fn en_passant(bytes: &mut [u8; 85], n: usize, side: u8, file: u8) -> usize
     push(bytes, m, b'3')
 }
 
-// What follows the placement.
-fn tail(bytes: &mut [u8; 85], at: usize, board: BoardBuilder) -> usize
-    requires { ⌜ length (now bytes) ≡ 85 ⌝ }
+// What follows the placement, up to the counters.
+fn tail(bytes: &mut [u8; 91], at: usize, board: BoardBuilder) -> usize
+    requires { ⌜ length (now bytes) ≡ 91 ⌝ }
     requires { ⌜ at < 72 ⌝ }
     requires { ⌜ inRange board ≡ true ⌝ }
-    ensures { λ r. ⌜ Put 85 (now (bytes .entry)) at (tailText board) (now (bytes .exit)) r ⌝ }
+    ensures { λ r. ⌜ Put 91 (now (bytes .entry)) at (tailWith board []) (now (bytes .exit)) r ⌝ }
 {
     let a = push(bytes, at, b' ');
     let b = side(bytes, a, board.side_to_move);
@@ -166,20 +167,55 @@ fn tail(bytes: &mut [u8; 85], at: usize, board: BoardBuilder) -> usize
         board.black_castle_rights,
     );
     let e = push(bytes, d, b' ');
-    let f = en_passant(bytes, e, board.side_to_move, board.en_passant);
-    let g = push(bytes, f, b' ');
-    let h = push(bytes, g, b'0');
-    let i = push(bytes, h, b' ');
-    push(bytes, i, b'1')
+    en_passant(bytes, e, board.side_to_move, board.en_passant)
 }
 
-// The record's text, at the start of the bytes.
-pub(crate) fn fen_text(bytes: &mut [u8; 85], board: BoardBuilder) -> usize
-    requires { ⌜ length (now bytes) ≡ 85 ⌝ }
+// All but the counters.
+fn place(bytes: &mut [u8; 91], board: BoardBuilder) -> usize
+    requires { ⌜ length (now bytes) ≡ 91 ⌝ }
     requires { ⌜ inRange board ≡ true ⌝ }
-    ensures { λ r. ⌜ Put 85 (now (bytes .entry)) 0 (fenText board) (now (bytes .exit)) r ⌝ }
+    ensures { λ r. ⌜ Put 91 (now (bytes .entry)) 0 (ranksText 8 (board .pieces) ++ tailWith board []) (now (bytes .exit)) r × (r ≤ 81) ⌝ }
 {
     let pieces = board.pieces;
     let n = ranks(bytes, pieces);
     tail(bytes, n, board)
+}
+
+// A counter in decimal.
+fn counter(bytes: &mut [u8; 91], at: usize, n: u16) -> usize
+    requires { ⌜ length (now bytes) ≡ 91 ⌝ }
+    requires { ⌜ at < 88 ⌝ }
+    requires { ⌜ n ≤ lastCount ⌝ }
+    ensures { λ r. ⌜ Put 91 (now (bytes .entry)) at (decimal n) (now (bytes .exit)) r ⌝ }
+{
+    let a = push_if(bytes, at, 999 < n, b'0' + (n / 1000) as u8);
+    let b = push_if(bytes, a, 99 < n, b'0' + (n / 100 % 10) as u8);
+    let c = push_if(bytes, b, 9 < n, b'0' + (n / 10 % 10) as u8);
+    push(bytes, c, b'0' + (n % 10) as u8)
+}
+
+// The record's text, at the start of the bytes.
+pub(crate) fn fen_text(bytes: &mut [u8; 91], board: BoardBuilder) -> usize
+    requires { ⌜ length (now bytes) ≡ 91 ⌝ }
+    requires { ⌜ inRange board ≡ true ⌝ }
+    ensures { λ r. ⌜ Put 91 (now (bytes .entry)) 0 (fenText board) (now (bytes .exit)) r ⌝ }
+{
+    let a = place(bytes, board);
+    let b = push(bytes, a, b' ');
+    let c = push(bytes, b, b'0');
+    let d = push(bytes, c, b' ');
+    push(bytes, d, b'1')
+}
+
+// The same with its own counters.
+pub(crate) fn full_text(bytes: &mut [u8; 91], board: BoardBuilder) -> usize
+    requires { ⌜ length (now bytes) ≡ 91 ⌝ }
+    requires { ⌜ inRange board ≡ true ⌝ }
+    ensures { λ r. ⌜ Put 91 (now (bytes .entry)) 0 (fullText board) (now (bytes .exit)) r ⌝ }
+{
+    let a = place(bytes, board);
+    let b = push(bytes, a, b' ');
+    let c = counter(bytes, b, board.half_moves);
+    let d = push(bytes, c, b' ');
+    counter(bytes, d, board.full_moves)
 }

@@ -1,4 +1,4 @@
--- `en_passant` of text.rt meets its contract: Put 85 (now (bytes .entry)) n (enPassantText side file) (now (bytes .exit)) r.
+-- `en_passant` of text.rt meets its contract: Put 91 (now (bytes .entry)) n (enPassantText side file) (now (bytes .exit)) r.
 use borrow.Author.Needs.{needs}
 use Rattle.answer.proofs.Pushes.{put-both, put-as}
 use Rattle.fen_writer.proofs.Parts.{no-file, white-file, black-file}

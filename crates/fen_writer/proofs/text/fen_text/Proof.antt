@@ -1,26 +1,38 @@
--- `fen_text` of text.rt meets its contract: Put 85 (now (bytes .entry)) 0 (fenText board) (now (bytes .exit)) r.
-use native.Mathlib.Omega.{arith}
-use lib.Dec.{lit<}
-use Rattle.fen_text.specs.Write.{fenText}
-use Rattle.board_builder.proofs.Ranges.{in-range}
-use Rattle.fen_text.proofs.Lengths.{ranks-long}
-use Rattle.answer.proofs.Pushes.{put-both}
+-- `fen_text` of text.rt meets its contract: Put 91 (now (bytes .entry)) 0 (fenText board) (now (bytes .exit)) r.
+use borrow.Author.Needs.{needs}
+use Rattle.fen_text.specs.Write.{tailText, fenText}
+use Rattle.answer.proofs.Pushes.{put-both, put-as}
+use Rattle.fen_writer.proofs.Counters.{text-ends}
 use Rattle.fen_writer.proofs.text.fen_text.Statement.{statement}
 use Rattle.fen_writer.proofs.text.fen_text.Tie as tie
 
-ranks-requires : tie.Need-ranks-requires
-ranks-requires c κs = (c .before .before .pre .0, in-range (c .before .before .args .board) (c .before .before .pre .1) .codes)
+place-requires : tie.Need-place-requires
+place-requires c κs = search needs
 
-tail-requires : tie.Need-tail-requires
-tail-requires c κs =
-    let at-pre = c .before .before .before .before .pre in
-    let b = c .before .before .before .before .args .board in
-    let r = ranks-long 7 (b .pieces) (in-range b (at-pre .1) .long) (lit< tt) in
-    (c .before .ranks .ensures .long, (omega (arith, c .before .ranks .ensures .pushed .count, r .high), at-pre .1))
+push-requires : tie.Need-push-requires
+push-requires c κs = search needs
+
+push-requires-2 : tie.Need-push-requires-2
+push-requires-2 c κs = search needs
+
+push-requires-3 : tie.Need-push-requires-3
+push-requires-3 c κs = search needs
+
+push-requires-4 : tie.Need-push-requires-4
+push-requires-4 c κs = search needs
 
 returns : tie.Need-returns
-unfolding fenText
-returns c = put-both (c .before .before .ranks .ensures) (c .tail .ensures)
+unfolding fenText tailText
+returns c =
+    let a = c .before .before .before .before .before .before .before .before .before .before .args in
+    let at-place = c .before .before .before .before .before .before .before .before .place in
+    let at-push = c .before .before .before .before .before .before .push in
+    let at-push2 = c .before .before .before .before .push2 in
+    let at-push3 = c .before .before .push3 in
+    put-as (text-ends (a .board) _)
+    (put-both (at-place .ensures .0) (put-both (at-push .ensures) (put-both (at-push2 .ensures) (put-both (at-push3 .ensures) (c .push4 .ensures)))))
 
 pub fen-text-spec : {M : Type 1} → statement M
-fen-text-spec = tie.close (tie.spec ranks-requires tail-requires returns)
+fen-text-spec =
+    tie.close
+    (tie.spec place-requires push-requires push-requires-2 push-requires-3 push-requires-4 returns)

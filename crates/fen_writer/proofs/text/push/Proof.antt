@@ -1,4 +1,4 @@
--- `push` of text.rt meets its contract: Put 85 (now (bytes .entry)) n (b ∷ []) (now (bytes .exit)) r.
+-- `push` of text.rt meets its contract: Put 91 (now (bytes .entry)) n (b ∷ []) (now (bytes .exit)) r.
 use borrow.Author.Needs.{needs}
 use Rattle.answer.proofs.Pushes.{put-one}
 use Rattle.fen_writer.proofs.text.push.Statement.{statement}

@@ -1,4 +1,4 @@
--- `push_if` of text.rt meets its contract: Put 85 (now (bytes .entry)) n (cond there (b ∷ []) []) (now (bytes .exit)) r.
+-- `push_if` of text.rt meets its contract: Put 91 (now (bytes .entry)) n (cond there (b ∷ []) []) (now (bytes .exit)) r.
 use borrow.Author.Needs.{needs}
 use Rattle.answer.proofs.Pushes.{put-none}
 use Rattle.fen_writer.proofs.text.push_if.Statement.{statement}

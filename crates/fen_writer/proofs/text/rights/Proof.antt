@@ -1,4 +1,4 @@
--- `rights` of text.rt meets its contract: Put 85 (now (bytes .entry)) at (rightsText white black) (now (bytes .exit)) r.
+-- `rights` of text.rt meets its contract: Put 91 (now (bytes .entry)) at (rightsText white black) (now (bytes .exit)) r.
 use borrow.Author.Needs.{needs}
 use Prim.Native.Nat.{_%_, _/_}
 use lib.Dec.{eqb}

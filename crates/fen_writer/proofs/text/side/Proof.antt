@@ -1,4 +1,4 @@
--- `side` of text.rt meets its contract: Put 85 (now (bytes .entry)) n (sideLetter side ∷ []) (now (bytes .exit)) r.
+-- `side` of text.rt meets its contract: Put 91 (now (bytes .entry)) n (sideLetter side ∷ []) (now (bytes .exit)) r.
 use borrow.Author.Needs.{needs}
 use borrow.Author.Tests.{eq-eqb, ne-eqb}
 use Rattle.fen_writer.proofs.text.side.Statement.{statement}
