@@ -4,7 +4,8 @@ use mathlib.Core.Path.{refl}
 use Rattle.square.specs.Piece.{kindOf}
 use Rattle.move_rules.specs.After.{colourStep, enemyPawn, twoApart, castles, corner, rookMoved, takesInPassing, pawnRemoved, setDown}
 use Rattle.move_rules.specs.After.{squaresAfter, rightsWithout, rightsAfter, stepsTwice, stoodBefore, stoodBehind, fileAfter, afterParts}
-use Rattle.move_rules.specs.AtSmallest.{Rows}
+use Rattle.move_rules.specs.After.{restarts, oneMore, halfAfter, fullAfter}
+use Rattle.move_rules.specs.AtSmallest.{Rows, CounterRows}
 
 pub rows : Rows
 unfolding kindOf colourStep enemyPawn twoApart castles corner rookMoved takesInPassing pawnRemoved setDown squaresAfter rightsWithout rightsAfter
@@ -34,3 +35,7 @@ rows = record {
   last = refl;
   empty = refl;
 }
+
+pub counter-rows : CounterRows
+unfolding kindOf restarts oneMore halfAfter fullAfter
+counter-rows = record { quiet = (refl, refl); by-black = (refl, refl); capture = (refl, refl); pawn-moves = (refl, refl); stops = (refl, refl) }

@@ -1,4 +1,4 @@
--- The board after a move (document 02, order 9), rule by rule. A move is a number of document 01; each rule holds for any move, legal or not.
+-- The board after a move (document 02, order 9; its counters, order 12), rule by rule. A move is a number of document 01; each rule holds for any move, legal or not.
 -- Assumes nothing.
 use mathlib.Core.Bool.{Bool, cond, not, _&&_, _||_}
 use mathlib.Core.List.{List}
@@ -11,7 +11,7 @@ use Rattle.square.specs.Square.{squareOf}
 use Rattle.castle_rights.specs.CastleRights.{castlesAt, removed}
 use Rattle.board_builder.specs.declared.BoardBuilder.{BoardBuilder}
 use Rattle.board_builder.specs.declared.Stepped.{Stepped}
-use Rattle.board_builder.specs.BoardBuilder.{board, boardOf, numbers, inRange}
+use Rattle.board_builder.specs.BoardBuilder.{board, withCounters, boardOf, numbers, lastCount, inRange}
 use Rattle.board_builder.specs.Steps.{stepped}
 use Rattle.chess_move.specs.Number.{lastMove, sourceOf, destOf, promotionOf}
 
@@ -105,7 +105,7 @@ unfoldable pub fileAfter : List ℕ → ℕ → ℕ → ℕ → ℕ
 fileAfter squares man source dest =
     cond (stepsTwice man source dest) (cond (stoodBeside squares dest (enemyPawn man)) (file dest + 1) 0) 0
 
--- the record after a move from a source to a destination, with a promotion or 0
+-- the 68 numbers after a move from a source to a destination, with a promotion or 0
 unfoldable pub afterParts : BoardBuilder → ℕ → ℕ → ℕ → BoardBuilder
 afterParts b source dest promotion =
     board
@@ -115,10 +115,28 @@ afterParts b source dest promotion =
     (rightsAfter 1 (b .«black_castle_rights») source dest)
     (fileAfter (b .pieces) (manOn (b .pieces) source) source dest)
 
-abbrev pub boardAfter : BoardBuilder → ℕ → BoardBuilder
-boardAfter b m = afterParts b (sourceOf m) (destOf m) (promotionOf m)
+-- "by the PGN rule": half-moves are counted from the last one with a pawn on its source or a man on its destination, and a move's number rises after
+-- black's; both "stop at 9,999"
+unfoldable pub restarts : List ℕ → ℕ → ℕ → Bool
+restarts squares source dest = eqb (kindOf (manOn squares source)) pawn || not (eqb (manOn squares dest) 0)
 
--- the same for the 68 numbers of a record
+unfoldable pub oneMore : ℕ → ℕ
+oneMore n = cond (ltb n lastCount) (n + 1) lastCount
+
+unfoldable pub halfAfter : List ℕ → ℕ → ℕ → ℕ → ℕ
+halfAfter squares half source dest = cond (restarts squares source dest) 0 (oneMore half)
+
+unfoldable pub fullAfter : ℕ → ℕ → ℕ
+fullAfter side full = cond (eqb side 0) full (oneMore full)
+
+-- the record after a move
+abbrev pub boardAfter : BoardBuilder → ℕ → BoardBuilder
+boardAfter b m =
+    withCounters (afterParts b (sourceOf m) (destOf m) (promotionOf m))
+    (halfAfter (b .pieces) (b .«half_moves») (sourceOf m) (destOf m))
+    (fullAfter (b .«side_to_move») (b .«full_moves»))
+
+-- its 68 numbers, from those of a record
 unfoldable pub recordAfter : List ℕ → ℕ → List ℕ
 recordAfter l m = numbers (boardAfter (boardOf l) m)
 

@@ -5,7 +5,8 @@ use mathlib.Core.Path.{_≡_}
 use mathlib.Core.List.{List}
 use Prim.Native.Nat.{ℕ, _+_, _*_}
 use lib.ListN.{set, replicate}
-use Rattle.board_builder.specs.BoardBuilder.{board}
+use Rattle.board_builder.specs.declared.BoardBuilder.{BoardBuilder}
+use Rattle.board_builder.specs.BoardBuilder.{board, boardCounted, uncounted}
 use Rattle.move_rules.specs.After.{boardAfter}
 
 -- a board with two men, or one
@@ -18,41 +19,58 @@ oneMan a man = set (replicate 64 0) a man
 abbrev pub move : ℕ → ℕ → ℕ
 move source dest = source + 64 * dest
 
+-- the record after a move, but for its counters
+abbrev pub placedAfter : BoardBuilder → ℕ → BoardBuilder
+placedAfter b m = uncounted (boardAfter b m)
+
 pub record Rows : Type 0 where
   -- "piece moved": a white knight b1c3, and it takes what stands there
-  pub moved : boardAfter (board (oneMan 1 2) 0 0 0 0) (move 1 18) ≡ board (oneMan 18 2) 1 0 0 0
-  pub takes : boardAfter (board (twoMen 1 2 18 7) 0 0 0 0) (move 1 18) ≡ board (oneMan 18 2) 1 0 0 0
+  pub moved : placedAfter (board (oneMan 1 2) 0 0 0 0) (move 1 18) ≡ board (oneMan 18 2) 1 0 0 0
+  pub takes : placedAfter (board (twoMen 1 2 18 7) 0 0 0 0) (move 1 18) ≡ board (oneMan 18 2) 1 0 0 0
   -- "or promoted": a7a8=Q; whatever man moves: a black knight b1c3 with a promotion to a queen
-  pub promoted : boardAfter (board (oneMan 48 1) 0 0 0 0) (move 48 56 + 4096 * 5) ≡ board (oneMan 56 5) 1 0 0 0
-  pub any-promoted : boardAfter (board (oneMan 1 8) 1 0 0 0) (move 1 18 + 4096 * 5) ≡ board (oneMan 18 11) 0 0 0 0
+  pub promoted : placedAfter (board (oneMan 48 1) 0 0 0 0) (move 48 56 + 4096 * 5) ≡ board (oneMan 56 5) 1 0 0 0
+  pub any-promoted : placedAfter (board (oneMan 1 8) 1 0 0 0) (move 1 18 + 4096 * 5) ≡ board (oneMan 18 11) 0 0 0 0
   -- "rook in castling": e1g1 with the rook on h1, and e8c8 with the rook on a8
-  pub castling : boardAfter (board (twoMen 4 6 7 4) 0 3 3 0) (move 4 6) ≡ board (twoMen 6 6 5 4) 1 0 3 0
-  pub queen-side : boardAfter (board (twoMen 60 12 56 10) 1 3 3 0) (move 60 58) ≡ board (twoMen 58 12 59 10) 0 3 0 0
+  pub castling : placedAfter (board (twoMen 4 6 7 4) 0 3 3 0) (move 4 6) ≡ board (twoMen 6 6 5 4) 1 0 3 0
+  pub queen-side : placedAfter (board (twoMen 60 12 56 10) 1 3 3 0) (move 60 58) ≡ board (twoMen 58 12 59 10) 0 3 0 0
   -- "castling is a king going two files along its rank", any rank; "what stood in that side's corner of the rank goes to the square passed over": a
   -- knight of the other side from h4; an empty corner empties the square passed over
-  pub anywhere : boardAfter (board (twoMen 28 6 31 8) 0 0 0 0) (move 28 30) ≡ board (twoMen 30 6 29 8) 1 0 0 0
-  pub no-rook : boardAfter (board (twoMen 60 12 59 8) 1 3 3 0) (move 60 58) ≡ board (oneMan 58 12) 0 3 0 0
+  pub anywhere : placedAfter (board (twoMen 28 6 31 8) 0 0 0 0) (move 28 30) ≡ board (twoMen 30 6 29 8) 1 0 0 0
+  pub no-rook : placedAfter (board (twoMen 60 12 59 8) 1 3 3 0) (move 60 58) ≡ board (oneMan 58 12) 0 3 0 0
   -- a king one file along its rank does not castle, nor does another man two files
-  pub one-file : boardAfter (board (twoMen 4 6 7 4) 0 0 0 0) (move 4 5) ≡ board (twoMen 5 6 7 4) 1 0 0 0
-  pub no-king : boardAfter (board (twoMen 4 5 7 4) 0 0 0 0) (move 4 6) ≡ board (twoMen 6 5 7 4) 1 0 0 0
+  pub one-file : placedAfter (board (twoMen 4 6 7 4) 0 0 0 0) (move 4 5) ≡ board (twoMen 5 6 7 4) 1 0 0 0
+  pub no-king : placedAfter (board (twoMen 4 5 7 4) 0 0 0 0) (move 4 6) ≡ board (twoMen 6 5 7 4) 1 0 0 0
   -- "pawn removed in en passant": e5d6 with a pawn on d5; "a pawn changing files to an empty square, and clears the square on its old rank and new
   -- file", whatever stands there; where the new square is not empty nothing is cleared
-  pub passing : boardAfter (board (twoMen 36 1 35 7) 0 0 0 4) (move 36 43) ≡ board (oneMan 43 1) 1 0 0 0
-  pub clears-any : boardAfter (board (twoMen 36 7 35 11) 1 0 0 0) (move 36 27) ≡ board (oneMan 27 7) 0 0 0 0
-  pub not-empty : boardAfter (board (set (twoMen 36 1 35 7) 43 8) 0 0 0 0) (move 36 43) ≡ board (twoMen 43 1 35 7) 1 0 0 0
+  pub passing : placedAfter (board (twoMen 36 1 35 7) 0 0 0 4) (move 36 43) ≡ board (oneMan 43 1) 1 0 0 0
+  pub clears-any : placedAfter (board (twoMen 36 7 35 11) 1 0 0 0) (move 36 27) ≡ board (oneMan 27 7) 0 0 0 0
+  pub not-empty : placedAfter (board (set (twoMen 36 1 35 7) 43 8) 0 0 0 0) (move 36 43) ≡ board (twoMen 43 1 35 7) 1 0 0 0
   -- "rights of both sides removed by source and by destination square": the rook of a1 takes that of a8
-  pub rights : boardAfter (board (twoMen 0 4 56 10) 0 3 3 0) (move 0 56) ≡ board (oneMan 56 4) 1 1 1 0
+  pub rights : placedAfter (board (twoMen 0 4 56 10) 0 3 3 0) (move 0 56) ≡ board (oneMan 56 4) 1 1 1 0
   -- "en passant file set only when a double pawn step (two ranks on one file) arrives beside an enemy pawn": e2e4 with a black pawn on d4 or f4, with
   -- none beside, with a white one; e2e3; a knight
-  pub double : boardAfter (board (twoMen 12 1 27 7) 0 0 0 0) (move 12 28) ≡ board (twoMen 28 1 27 7) 1 0 0 5
-  pub double-behind : boardAfter (board (twoMen 12 1 29 7) 0 0 0 0) (move 12 28) ≡ board (twoMen 28 1 29 7) 1 0 0 5
-  pub alone : boardAfter (board (twoMen 12 1 26 7) 0 0 0 0) (move 12 28) ≡ board (twoMen 28 1 26 7) 1 0 0 0
-  pub own-pawn : boardAfter (board (twoMen 12 1 27 1) 0 0 0 0) (move 12 28) ≡ board (twoMen 28 1 27 1) 1 0 0 0
-  pub single : boardAfter (board (twoMen 12 1 19 7) 0 0 0 0) (move 12 20) ≡ board (twoMen 20 1 19 7) 1 0 0 0
-  pub no-pawn : boardAfter (board (twoMen 12 4 27 7) 0 0 0 0) (move 12 28) ≡ board (twoMen 28 4 27 7) 1 0 0 0
+  pub double : placedAfter (board (twoMen 12 1 27 7) 0 0 0 0) (move 12 28) ≡ board (twoMen 28 1 27 7) 1 0 0 5
+  pub double-behind : placedAfter (board (twoMen 12 1 29 7) 0 0 0 0) (move 12 28) ≡ board (twoMen 28 1 29 7) 1 0 0 5
+  pub alone : placedAfter (board (twoMen 12 1 26 7) 0 0 0 0) (move 12 28) ≡ board (twoMen 28 1 26 7) 1 0 0 0
+  pub own-pawn : placedAfter (board (twoMen 12 1 27 1) 0 0 0 0) (move 12 28) ≡ board (twoMen 28 1 27 1) 1 0 0 0
+  pub single : placedAfter (board (twoMen 12 1 19 7) 0 0 0 0) (move 12 20) ≡ board (twoMen 20 1 19 7) 1 0 0 0
+  pub no-pawn : placedAfter (board (twoMen 12 4 27 7) 0 0 0 0) (move 12 28) ≡ board (twoMen 28 4 27 7) 1 0 0 0
   -- beside is on the same rank: a4 is not beside h3
-  pub edge : boardAfter (board (twoMen 8 1 23 7) 0 0 0 0) (move 8 24) ≡ board (twoMen 24 1 23 7) 1 0 0 0
+  pub edge : placedAfter (board (twoMen 8 1 23 7) 0 0 0 0) (move 8 24) ≡ board (twoMen 24 1 23 7) 1 0 0 0
   -- "who is set down last": a pawn that goes sideways clears its own new square first
-  pub last : boardAfter (board (oneMan 28 1) 0 0 0 0) (move 28 29) ≡ board (oneMan 29 1) 1 0 0 0
+  pub last : placedAfter (board (oneMan 28 1) 0 0 0 0) (move 28 29) ≡ board (oneMan 29 1) 1 0 0 0
   -- "an empty source leaves both squares empty"; the side changes and rights go all the same
-  pub empty : boardAfter (board (oneMan 18 8) 1 3 0 0) (move 0 18) ≡ board (replicate 64 0) 0 1 0 0
+  pub empty : placedAfter (board (oneMan 18 8) 1 3 0 0) (move 0 18) ≡ board (replicate 64 0) 0 1 0 0
+
+-- the counters of order 12: a knight b1c3, by white and by black, onto an empty square and onto a man; a pawn e2e3; and both at their last
+abbrev pub countersAfter : ℕ → ℕ → List ℕ → ℕ → ℕ → ℕ → (half full : ℕ) → Type 0
+countersAfter half full squares side source dest half' full' =
+    (boardAfter (boardCounted squares side 0 0 0 half full) (move source dest) .«half_moves» ≡ half')
+    × (boardAfter (boardCounted squares side 0 0 0 half full) (move source dest) .«full_moves» ≡ full')
+
+pub record CounterRows : Type 0 where
+  pub quiet : countersAfter 3 7 (oneMan 1 2) 0 1 18 4 7
+  pub by-black : countersAfter 3 7 (oneMan 1 8) 1 1 18 4 8
+  pub capture : countersAfter 3 7 (twoMen 1 2 18 7) 0 1 18 0 7
+  pub pawn-moves : countersAfter 3 7 (oneMan 12 1) 0 12 20 0 7
+  pub stops : countersAfter 9999 9999 (oneMan 1 8) 1 1 18 9999 9999

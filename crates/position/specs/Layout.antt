@@ -1,5 +1,5 @@
 -- Positions in the log (document 01, "Numbers of the record, the move and the log"): the record, an in-check byte, a list length, 255 moves of two
--- bytes low first.
+-- bytes low first. The record's counters stand behind its 68 other numbers, "each as two bytes, low first" (document 02, order 12).
 -- Assumes nothing.
 use mathlib.Core.Path.{_≡_}
 use mathlib.Core.List.{List, [], _∷_}
@@ -10,14 +10,20 @@ use Rattle.board_builder.specs.BoardBuilder.{recordSize, sideAt}
 use Rattle.chess_move.specs.Number.{ofBytes}
 use Rattle.move_list.specs.MoveList.{longestList}
 
+abbrev pub halfAt : ℕ
+halfAt = recordSize
+
+abbrev pub fullAt : ℕ
+fullAt = recordSize + 2
+
 abbrev pub checkAt : ℕ
-checkAt = recordSize
+checkAt = recordSize + 4
 
 abbrev pub lengthAt : ℕ
-lengthAt = recordSize + 1
+lengthAt = recordSize + 5
 
 abbrev pub movesAt : ℕ
-movesAt = recordSize + 2
+movesAt = recordSize + 6
 
 abbrev pub positionSize : ℕ
 positionSize = movesAt + 2 * longestList
@@ -27,13 +33,20 @@ pub record IsItem (size : ℕ) (bs : List ℕ) (k : ℕ) (part : List ℕ) : Typ
   pub is : part ≡ item size bs k
   pub whole : length part ≡ size
 
+-- a number of two bytes, at a place
+abbrev pub pairAt : List ℕ → ℕ → ℕ
+pairAt p at = ofBytes (getD p at 0) (getD p (at + 1) 0)
+
 -- a number of moves of two bytes each, from a place on
 unfoldable pub movesFrom : List ℕ → ℕ → ℕ → List ℕ
 movesFrom p at zero = []
-movesFrom p at (suc k) = ofBytes (getD p at 0) (getD p (at + 1) 0) ∷ movesFrom p (at + 2) k
+movesFrom p at (suc k) = pairAt p at ∷ movesFrom p (at + 2) k
 
+-- the record's 68 other numbers, its counters, whether the side to move is in check, and its moves
 pub record Position : Type 0 where
   pub board : List ℕ
+  pub half : ℕ
+  pub full : ℕ
   pub check : ℕ
   pub moves : List ℕ
 
@@ -41,10 +54,16 @@ pub record Position : Type 0 where
 abbrev pub side : Position → ℕ
 side p = getD (p .board) sideAt 0
 
--- the position that 580 bytes stand for
+-- the position that 584 bytes stand for
 unfoldable pub positionOf : List ℕ → Position
 positionOf p =
-    record { board = take recordSize p; check = getD p checkAt 0; moves = movesFrom p movesAt (getD p lengthAt 0) }
+    record {
+      board = take recordSize p;
+      half = pairAt p halfAt;
+      full = pairAt p fullAt;
+      check = getD p checkAt 0;
+      moves = movesFrom p movesAt (getD p lengthAt 0);
+    }
 
 -- position k of the part; and a number of positions from one on, newest first
 abbrev pub positionAt : List ℕ → ℕ → Position

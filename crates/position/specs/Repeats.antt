@@ -1,4 +1,5 @@
--- Repeated positions (document 01, "Draws and endings"): equal is the same record and the same list in order.
+-- Repeated positions (document 01, "Draws and endings"): equal is the same record and the same list in order. "Equality of positions for repetition
+-- ignores both" counters (document 02, order 12).
 -- Assumes nothing.
 use mathlib.Core.Bool.{Bool, cond, _&&_}
 use mathlib.Core.List.{List, [], _∷_}

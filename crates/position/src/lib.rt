@@ -13,13 +13,17 @@ ghost use Rattle.position.specs.Layout.{IsItem, positionSize, positionOf
 ghost use Rattle.position.specs.Repeats.{equal, times, equalsTwoEarlier};
 ghost use Rattle.position.specs.Places.{placesOf, placesTold, equalPlaces};
 
-// A record, the in-check byte, the list's length, and two bytes for each move that a list may have.
+// A record, its counters in two bytes each, the in-check byte, the list's length, and two bytes for each move that a list may have.
 
-pub const CHECK_AT: usize = RECORD_SIZE;
+pub const HALF_AT: usize = RECORD_SIZE;
 
-pub const LENGTH_AT: usize = RECORD_SIZE + 1;
+pub const FULL_AT: usize = RECORD_SIZE + 2;
 
-pub const MOVES_AT: usize = RECORD_SIZE + 2;
+pub const CHECK_AT: usize = RECORD_SIZE + 4;
+
+pub const LENGTH_AT: usize = RECORD_SIZE + 5;
+
+pub const MOVES_AT: usize = RECORD_SIZE + 6;
 
 pub const POSITION_SIZE: usize = MOVES_AT + 2 * LONGEST_LIST;
 
@@ -45,7 +49,7 @@ pub fn at(ps: &[u8], k: usize) -> &[u8]
     position(ps, k)
 }
 
-// In place: the record, then the list with its length in front. The in-check byte between them is not looked at. The side comes first, since in a game
+// In place: the record, then the list with its length in front. The counters and the in-check byte between them are not looked at. The side comes first, since in a game
 // every other position has the other one, and one byte tells those apart.
 fn same_position(p: &[u8], q: &[u8]) -> bool
     requires { ⌜ (length (now p) ≡ positionSize) × (length (now q) ≡ positionSize) ⌝ }
