@@ -1,4 +1,5 @@
--- The board after a move (document 02, order 9; its counters, order 12), rule by rule. A move is a number of document 01; each rule holds for any move, legal or not.
+-- The board after a move (document 02, order 9; its counters, order 12), rule by rule. A move is a number of document 01; each rule holds for any move, legal
+-- or not.
 -- Assumes nothing.
 use mathlib.Core.Bool.{Bool, cond, not, _&&_, _||_}
 use mathlib.Core.List.{List}

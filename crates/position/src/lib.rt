@@ -49,8 +49,8 @@ pub fn at(ps: &[u8], k: usize) -> &[u8]
     position(ps, k)
 }
 
-// In place: the record, then the list with its length in front. The counters and the in-check byte between them are not looked at. The side comes first, since in a game
-// every other position has the other one, and one byte tells those apart.
+// In place: the record, then the list with its length in front. The counters and the in-check byte between them are not looked at. The side comes first, since
+// in a game every other position has the other one, and one byte tells those apart.
 fn same_position(p: &[u8], q: &[u8]) -> bool
     requires { ⌜ (length (now p) ≡ positionSize) × (length (now q) ≡ positionSize) ⌝ }
     ensures { λ r. ⌜ r ≡ equal (positionOf (now (p .entry))) (positionOf (now (q .entry))) ⌝ }

@@ -10,14 +10,14 @@ use lib.ListN.{length, getD, length-append}
 use lib.Seq.{take-at, getD-append-add}
 use borrow.Author.Tests.{eq-eqb, le-leb, lt-leb, eqb-true, leb-true}
 use Rattle.answer.specs.Answer.{outOfRange, badList}
-use Rattle.answer.proofs.Numbers.{both-left}
+use Rattle.answer.proofs.Numbers.{both-left, both-right}
 use Rattle.answer.specs.Numbers.{allAtMost}
 use Rattle.board_builder.specs.declared.BoardBuilder.{BoardBuilder}
-use Rattle.board_builder.specs.BoardBuilder.{squares, recordSize, numbers, boardOf, inRange, numbersInRange}
+use Rattle.board_builder.specs.BoardBuilder.{squares, recordSize, numbers, boardOf, countersInRange, inRange, numbersInRange}
 use Rattle.chess_move.specs.Number.{lastMove}
 use Rattle.move_list.specs.MoveList.{longestList, listInRange}
 use Rattle.position.specs.Layout.{Position}
-use Rattle.stored_position.specs.Bytes.{positionCheck}
+use Rattle.stored_position.specs.Bytes.{recordGood, positionCheck}
 
 -- a record's numbers are in range exactly if the record is
 module _ (b : BoardBuilder) (long : length (b .pieces) ≡ squares) where
@@ -31,7 +31,7 @@ module _ (b : BoardBuilder) (long : length (b .pieces) ≡ squares) where
   unfolding numbers
   length-numbers = length-append (b .pieces) four ∙ omega arith
 
-  pub numbers-range : numbersInRange (numbers b) ≡ inRange b
+  pub numbers-range : countersInRange (b .«half_moves») (b .«full_moves») && numbersInRange (numbers b) ≡ inRange b
   unfolding numbers numbersInRange inRange
   numbers-range =
       rw (
@@ -44,24 +44,24 @@ module _ (b : BoardBuilder) (long : length (b .pieces) ≡ squares) where
       )
 
 module _ (p : Position) where
-  pub bad-board : numbersInRange (p .board) ≡ false → positionCheck p ≡ outOfRange
+  pub bad-board : recordGood p ≡ false → positionCheck p ≡ outOfRange
   unfolding positionCheck
   bad-board e = rw e
 
-  pub bad-check : numbersInRange (p .board) ≡ true → 1 < p .check → positionCheck p ≡ outOfRange
+  pub bad-check : recordGood p ≡ true → 1 < p .check → positionCheck p ≡ outOfRange
   unfolding positionCheck
   bad-check e h = rw (e, lt-leb (p .check) 1 h)
 
-  pub bad-list : numbersInRange (p .board) ≡ true → p .check ≤ 1 → listInRange (p .moves) ≡ false → positionCheck p ≡ badList
+  pub bad-list : recordGood p ≡ true → p .check ≤ 1 → listInRange (p .moves) ≡ false → positionCheck p ≡ badList
   unfolding positionCheck
   bad-list e h f = rw (e, le-leb (p .check) 1 h, f)
 
-  pub no-fault : numbersInRange (p .board) ≡ true → p .check ≤ 1 → listInRange (p .moves) ≡ true → positionCheck p ≡ 0
+  pub no-fault : recordGood p ≡ true → p .check ≤ 1 → listInRange (p .moves) ≡ true → positionCheck p ≡ 0
   unfolding positionCheck
   no-fault e h f = rw (e, le-leb (p .check) 1 h, f)
 
 -- with the rest in range, a position is in range exactly if its list is
-pub by-list : (p : Position) → numbersInRange (p .board) ≡ true → p .check ≤ 1 → eqb (positionCheck p) 0 ≡ listInRange (p .moves)
+pub by-list : (p : Position) → recordGood p ≡ true → p .check ≤ 1 → eqb (positionCheck p) 0 ≡ listInRange (p .moves)
 by-list p e h = go (listInRange (p .moves)) refl
   where
     go : (t : Bool) → listInRange (p .moves) ≡ t → eqb (positionCheck p) 0 ≡ t
@@ -76,12 +76,13 @@ pub record Fits (p : Position) : Type 0 where
 
 pub position-fits : (p : Position) → positionCheck p ≡ 0 → Fits p
 unfolding positionCheck numbersInRange listInRange
-position-fits p h = go (numbersInRange (p .board) && leb (p .check) 1) (listInRange (p .moves)) refl refl
+position-fits p h = go (recordGood p && leb (p .check) 1) (listInRange (p .moves)) refl refl
   where
-    go : (a b : Bool) → (numbersInRange (p .board) && leb (p .check) 1) ≡ a → listInRange (p .moves) ≡ b → Fits p
+    go : (a b : Bool) → (recordGood p && leb (p .check) 1) ≡ a → listInRange (p .moves) ≡ b → Fits p
     go true true e f = record {
       wide = eqb-true _ _
-          (both-left (eqb (length (p .board)) recordSize) (inRange (boardOf (p .board))) (both-left (numbersInRange (p .board)) (leb (p .check) 1) e));
+          (both-left (eqb (length (p .board)) recordSize) (inRange (boardOf (p .board)))
+          (both-right (countersInRange (p .half) (p .full)) (numbersInRange (p .board)) (both-left (recordGood p) (leb (p .check) 1) e)));
       short = leb-true _ _ (both-left (leb (length (p .moves)) longestList) (allAtMost lastMove (p .moves)) f);
       list = f;
     }

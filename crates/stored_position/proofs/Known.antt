@@ -6,19 +6,19 @@ use mathlib.Core.List.{List, [], _∷_, _++_}
 use Prim.Native.Nat.{ℕ, zero, suc, _+_, _*_, _-_, _≤_, _<_}
 use native.Mathlib.Omega.{arith}
 use lib.Dec.{eqb, leb, eqb·suc-zero, leb·suc-zero}
-use lib.ListN.{length, take, drop, getD, replicate, length-take, length-drop, take-append-drop}
+use lib.ListN.{length, take, drop, getD, replicate, length-drop, take-append-drop}
 use lib.Seq.{drop-cons, drop-drop}
-use borrow.Author.Tests.{eq-eqb, ne-eqb, eqb-true, eqb-false, le-leb, leb-true, leb-false}
+use borrow.Author.Tests.{eq-eqb, eqb-true, eqb-false, le-leb, lt-leb, leb-true, leb-false}
 use Rattle.answer.specs.Numbers.{allAtMost, same, among}
 use Rattle.answer.proofs.Numbers.{both-left, both-right}
 use Rattle.answer.proofs.Same.{same-lengths}
-use Rattle.board_builder.specs.BoardBuilder.{recordSize, numbersInRange}
-use Rattle.chess_move.specs.Number.{lastMove}
+use Rattle.board_builder.specs.BoardBuilder.{recordSize}
+use Rattle.chess_move.specs.Number.{lastMove, lowByte, highByte}
 use Rattle.move_list.specs.MoveList.{longestList, listInRange}
-use Rattle.position.specs.Layout.{checkAt, lengthAt, movesAt, positionSize, movesFrom, positionOf}
+use Rattle.position.specs.Layout.{halfAt, fullAt, checkAt, lengthAt, movesAt, positionSize, pairAt, movesFrom, positionOf}
 use Rattle.position.proofs.Moves.{AllBytes, length-moves, take-two}
-use Rattle.stored_position.specs.Bytes.{moveBytes, positionBytes, positionCheck, isPosition, listsMove, isPositionWith}
-use Rattle.stored_position.specs.CodeParts.{frontFits, listFits, listFitsWith, recordFits, restFits, restFitsWith}
+use Rattle.stored_position.specs.Bytes.{moveBytes, counterBytes, positionBytes, positionCheck, isPosition, listsMove, isPositionWith}
+use Rattle.stored_position.specs.CodeParts.{recordIn, frontFits, listFits, listFitsWith, recordFits, restFits, restFitsWith}
 use Rattle.stored_position.proofs.Bytes.{length-position}
 use Rattle.stored_position.proofs.Checks.{position-fits, bad-board, bad-check, by-list}
 
@@ -62,21 +62,45 @@ module _ (s : List ℕ) (b : AllBytes s) (whole : length s ≡ positionSize) whe
   abbrev pub past : List ℕ
   past = drop (movesAt + 2 * getD s lengthAt 0) s
 
-  in-pieces : s ≡ take recordSize s ++ (getD s checkAt 0 ∷ k ∷ (list ++ past))
+  -- the four bytes of the counters, as they stand
+  abbrev counters : List ℕ
+  counters = getD s halfAt 0 ∷ getD s (halfAt + 1) 0 ∷ getD s fullAt 0 ∷ getD s (fullAt + 1) 0 ∷ []
+
+  in-pieces : s ≡ take recordSize s ++ (counters ++ (getD s checkAt 0 ∷ k ∷ (list ++ past)))
   in-pieces =
+      let one : drop 68 s ≡ getD s 68 0 ∷ drop 69 s = drop-cons s 68 0 (omega arith) in
+      let two : drop 69 s ≡ getD s 69 0 ∷ drop 70 s = drop-cons s 69 0 (omega arith) in
+      let three : drop 70 s ≡ getD s 70 0 ∷ drop 71 s = drop-cons s 70 0 (omega arith) in
+      let four : drop 71 s ≡ getD s 71 0 ∷ drop 72 s = drop-cons s 71 0 (omega arith) in
+      let behind : drop 68 s ≡ counters ++ drop checkAt s = rw (one, two, three, four) refl in
       sym (take-append-drop recordSize s)
       ∙ ap (λ (x : List ℕ). take recordSize s ++ x)
+      (behind
+      ∙ ap (λ (x : List ℕ). counters ++ x)
       (drop-cons s checkAt 0 (omega arith)
       ∙ ap (λ (x : List ℕ). getD s checkAt 0 ∷ x)
       (drop-cons s lengthAt 0 (omega arith)
       ∙ ap (λ (x : List ℕ). k ∷ x)
-      (sym (take-append-drop (2 * k) (drop movesAt s)) ∙ ap (λ (x : List ℕ). list ++ x) (drop-drop (2 * k) movesAt s))))
+      (sym (take-append-drop (2 * k) (drop movesAt s)) ∙ ap (λ (x : List ℕ). list ++ x) (drop-drop (2 * k) movesAt s)))))
 
-  written-back : positionBytes (positionOf s) ≡ take recordSize s ++ (getD s checkAt 0 ∷ k ∷ (list ++ replicate (length past) 0))
+  -- counters that are read are written as they stand
+  same-counters : counterBytes (pairAt s halfAt) (pairAt s fullAt) ≡ counters
+  same-counters =
+      let a : lowByte (pairAt s halfAt) ≡ getD s halfAt 0 = omega (arith, b halfAt) in
+      let c : highByte (pairAt s halfAt) ≡ getD s (halfAt + 1) 0 = omega (arith, b halfAt) in
+      let d : lowByte (pairAt s fullAt) ≡ getD s fullAt 0 = omega (arith, b fullAt) in
+      let e : highByte (pairAt s fullAt) ≡ getD s (fullAt + 1) 0 = omega (arith, b fullAt) in
+      λ i. a i ∷ c i ∷ d i ∷ e i ∷ []
+
+  written-back : positionBytes (positionOf s)
+      ≡ take recordSize s ++ (counters ++ (getD s checkAt 0 ∷ k ∷ (list ++ replicate (length past) 0)))
   unfolding positionBytes positionOf
   written-back =
       let e : length past ≡ 2 * (longestList - k) = length-drop (movesAt + 2 * k) s ∙ omega (arith, b lengthAt) in
-      rw (e, length-moves s movesAt k, read-bytes s b k movesAt (omega (arith, b lengthAt)))
+      let tail : List ℕ = getD s checkAt 0 ∷ k ∷ (list ++ replicate (length past) 0) in
+      let read : positionBytes (positionOf s) ≡ take recordSize s ++ (counterBytes (pairAt s halfAt) (pairAt s fullAt) ++ tail) =
+      rw (e, length-moves s movesAt k, read-bytes s b k movesAt (omega (arith, b lengthAt))) in
+      read ∙ ap (λ (x : List ℕ). take recordSize s ++ (x ++ tail)) same-counters
 
   same-past : same (getD s checkAt 0 ∷ k ∷ (list ++ past)) (getD s checkAt 0 ∷ k ∷ (list ++ replicate (length past) 0)) ≡ allAtMost 0 past
   unfolding same
@@ -86,10 +110,10 @@ module _ (s : List ℕ) (b : AllBytes s) (whole : length s ≡ positionSize) whe
   unfolding isPosition
   known =
       ap (λ (t : Bool). eqb (positionCheck (positionOf s)) 0 && t)
-      (ap₂ same in-pieces written-back ∙ same-front (take recordSize s) _ _ ∙ same-past)
+      (ap₂ same in-pieces written-back ∙ same-front (take recordSize s) _ _ ∙ same-front counters _ _ ∙ same-past)
 
   -- with the record and the in-check byte in range, only the list is left to look at
-  pub by-its-list : numbersInRange (take recordSize s) ≡ true → getD s checkAt 0 ≤ 1 → isPosition s ≡ listFits s (getD s lengthAt 0)
+  pub by-its-list : recordIn s ≡ true → getD s checkAt 0 ≤ 1 → isPosition s ≡ listFits s (getD s lengthAt 0)
   unfolding positionOf listFits
   by-its-list board check =
       known
@@ -117,19 +141,19 @@ module _ (s : List ℕ) where
   unfolding frontFits
   front-whole e = eqb-true _ _ (both-left (eqb (length s) positionSize) _ e)
 
-  front-board : frontFits s ≡ true → numbersInRange (take recordSize s) ≡ true
+  front-board : frontFits s ≡ true → recordIn s ≡ true
   unfolding frontFits
-  front-board e = both-left (numbersInRange (take recordSize s)) _ (both-right (eqb (length s) positionSize) _ e)
+  front-board e = both-left (recordIn s) _ (both-right (eqb (length s) positionSize) _ e)
 
   front-check : frontFits s ≡ true → getD s checkAt 0 ≤ 1
   unfolding frontFits
-  front-check e = leb-true _ _ (both-right (numbersInRange (take recordSize s)) _ (both-right (eqb (length s) positionSize) _ e))
+  front-check e = leb-true _ _ (both-right (recordIn s) _ (both-right (eqb (length s) positionSize) _ e))
 
   pub not-front : frontFits s ≡ false → isPosition s ≡ false
   unfolding frontFits positionOf
-  not-front = go (eqb (length s) positionSize) refl (numbersInRange (take recordSize s)) refl (leb (getD s checkAt 0) 1) refl
+  not-front = go (eqb (length s) positionSize) refl (recordIn s) refl (leb (getD s checkAt 0) 1) refl
     where
-      go : (a : Bool) → eqb (length s) positionSize ≡ a → (b : Bool) → numbersInRange (take recordSize s) ≡ b → (t : Bool) → leb (getD s checkAt 0) 1 ≡ t
+      go : (a : Bool) → eqb (length s) positionSize ≡ a → (b : Bool) → recordIn s ≡ b → (t : Bool) → leb (getD s checkAt 0) 1 ≡ t
           → a && (b && t) ≡ false → isPosition s ≡ false
       go false e b f t g h = other-size s (eqb-false _ _ e)
       go true e false f t g h = not-in-range s 4 (bad-board (positionOf s) f)
@@ -154,12 +178,12 @@ module _ (s : List ℕ) where
   unfolding restFitsWith
   rest-so m e = rw e
 
-  pub short-record : length s < recordSize → false ≡ recordFits s
-  unfolding recordFits numbersInRange
-  short-record h = rw (ne-eqb (length (take recordSize s)) recordSize (λ e. omega (arith, length-take recordSize s, e)))
+  pub short-record : length s < checkAt → false ≡ recordFits s
+  unfolding recordFits
+  short-record h = rw (lt-leb checkAt (length s) h)
 
   -- with a record in range, the rest decides whether the bytes are a position that lists a move
-  pub by-rest-with : (m : ℕ) → AllBytes s → numbersInRange (take recordSize s) ≡ true → isPositionWith s m ≡ restFitsWith s m
+  pub by-rest-with : (m : ℕ) → AllBytes s → recordIn s ≡ true → isPositionWith s m ≡ restFitsWith s m
   unfolding restFitsWith frontFits
   by-rest-with m b r = go (eqb (length s) positionSize) refl (leb (getD s checkAt 0) 1) refl
     where
@@ -169,6 +193,10 @@ module _ (s : List ℕ) where
       go true e false f = not-front-with m (rw (e, f, r))
       go false e t f = not-front-with m (rw e)
 
-  pub no-record : numbersInRange (take recordSize s) ≡ false → isPosition s ≡ false
-  unfolding positionOf
-  no-record e = not-in-range s 4 (bad-board (positionOf s) e)
+  pub no-record : recordFits s ≡ false → isPosition s ≡ false
+  unfolding recordFits positionOf
+  no-record = go (leb checkAt (length s)) refl
+    where
+      go : (t : Bool) → leb checkAt (length s) ≡ t → t && recordIn s ≡ false → isPosition s ≡ false
+      go true e f = not-in-range s 4 (bad-board (positionOf s) f)
+      go false e f = other-size s (λ h. omega (arith, leb-false checkAt (length s) e))

@@ -1,4 +1,4 @@
--- A position in range has 580 bytes, which read back to it, and no other bytes stand for it.
+-- A position in range has 584 bytes, which read back to it, and no other bytes stand for it.
 -- Assumes nothing.
 use mathlib.Core.Path.{_≡_, refl, ap, ap₂, sym, _∙_}
 use mathlib.Core.List.{List, [], _∷_, _++_}
@@ -15,8 +15,8 @@ use Rattle.answer.proofs.Writes.{accepted-writes-its-text, check-passed}
 use Rattle.board_builder.specs.BoardBuilder.{recordSize}
 use Rattle.chess_move.specs.Number.{lowByte, highByte, ofBytes}
 use Rattle.move_list.specs.MoveList.{longestList}
-use Rattle.position.specs.Layout.{Position, checkAt, lengthAt, movesAt, movesFrom, positionOf}
-use Rattle.stored_position.specs.Bytes.{moveBytes, positionBytes, positionCheck, isPosition}
+use Rattle.position.specs.Layout.{Position, halfAt, fullAt, checkAt, lengthAt, movesAt, pairAt, movesFrom, positionOf}
+use Rattle.stored_position.specs.Bytes.{moveBytes, counterBytes, positionBytes, positionCheck, isPosition}
 use Rattle.stored_position.proofs.Bytes.{length-position}
 use Rattle.stored_position.proofs.Checks.{Fits, position-fits}
 use Rattle.stored_position.specs.Promises.{OneSize, PositionsReadBack, WrittenIsPosition, OnePositionForm}
@@ -44,21 +44,25 @@ module _ (p : Position) (wide : length (p .board) ≡ recordSize) where
   unfolding positionBytes
   read-board = take-at (p .board) _ recordSize wide
 
-  from-check : drop checkAt (positionBytes p) ≡ p .check ∷ length (p .moves) ∷ behind
+  from-counters : drop recordSize (positionBytes p) ≡ counterBytes (p .half) (p .full) ++ (p .check ∷ length (p .moves) ∷ behind)
   unfolding positionBytes behind
-  from-check = drop-at (p .board) _ checkAt wide
+  from-counters = drop-at (p .board) _ recordSize wide
+
+  -- the byte so far behind the 68
+  at-counters : (k : ℕ) → getD (positionBytes p) (recordSize + k) 0 ≡ getD (counterBytes (p .half) (p .full) ++ (p .check ∷ length (p .moves) ∷ behind)) k 0
+  at-counters k = sym (getD-drop recordSize (positionBytes p) k 0) ∙ ap (λ (d : List ℕ). getD d k 0) from-counters
 
   wide-round : positionOf (positionBytes p) ≡ p
   unfolding positionOf behind
   wide-round =
-      let a : getD (positionBytes p) checkAt 0 ≡ p .check =
-      sym (getD-drop checkAt (positionBytes p) 0 0) ∙ ap (λ (d : List ℕ). getD d 0 0) from-check in
-      let b : getD (positionBytes p) lengthAt 0 ≡ length (p .moves) =
-      sym (getD-drop checkAt (positionBytes p) 1 0) ∙ ap (λ (d : List ℕ). getD d 1 0) from-check in
-      let d : drop movesAt (positionBytes p) ≡ behind = sym (drop-drop 2 checkAt (positionBytes p)) ∙ ap (drop 2) from-check in
+      let h : pairAt (positionBytes p) halfAt ≡ p .half = ap₂ ofBytes (at-counters 0) (at-counters 1) ∙ split (p .half) in
+      let f : pairAt (positionBytes p) fullAt ≡ p .full = ap₂ ofBytes (at-counters 2) (at-counters 3) ∙ split (p .full) in
+      let a : getD (positionBytes p) checkAt 0 ≡ p .check = at-counters 4 in
+      let b : getD (positionBytes p) lengthAt 0 ≡ length (p .moves) = at-counters 5 in
+      let d : drop movesAt (positionBytes p) ≡ behind = sym (drop-drop 6 recordSize (positionBytes p)) ∙ ap (drop 6) from-counters in
       let m : movesFrom (positionBytes p) movesAt (getD (positionBytes p) lengthAt 0) ≡ p .moves =
       rw b (moves-round (p .moves) _ (positionBytes p) movesAt d) in
-      λ i. record { board = read-board i; check = a i; moves = m i }
+      λ i. record { board = read-board i; half = h i; full = f i; check = a i; moves = m i }
 
 -- a position in range reads back from its bytes
 pub position-round : (p : Position) → positionCheck p ≡ 0 → positionOf (positionBytes p) ≡ p

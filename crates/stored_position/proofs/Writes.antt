@@ -13,22 +13,36 @@ use Rattle.board_builder.specs.declared.BoardBuilder.{BoardBuilder}
 use Rattle.board_builder.specs.BoardBuilder.{squares, sideAt, recordSize, numbers}
 use Rattle.move_list.specs.MoveList.{longestList}
 use Rattle.position.specs.Layout.{Position, checkAt, movesAt, positionSize}
-use Rattle.stored_position.specs.Bytes.{moveBytes, positionBytes, positionCheck}
+use Rattle.stored_position.specs.Bytes.{moveBytes, counterBytes, positionBytes, positionCheck}
 use Rattle.stored_position.proofs.Bytes.{length-moveBytes, length-position}
 use Rattle.stored_position.proofs.Checks.{position-fits}
 
--- the squares, and the four numbers behind them
-pub record-written : (b : BoardBuilder) (l m n : List ℕ) → length (b .pieces) ≡ squares → recordSize ≤ length l
+-- the squares, and the four numbers and the counters behind them
+abbrev pub restOf : BoardBuilder → List ℕ
+restOf b =
+    b .«side_to_move» ∷ b .«white_castle_rights» ∷ b .«black_castle_rights» ∷ b .«en_passant» ∷ counterBytes (b .«half_moves») (b .«full_moves»)
+
+pub record-written : (b : BoardBuilder) (l m n : List ℕ) → length (b .pieces) ≡ squares → checkAt ≤ length l
     → m ≡ written l 0 (b .pieces)
-    → n ≡ written m sideAt (b .«side_to_move» ∷ b .«white_castle_rights» ∷ b .«black_castle_rights» ∷ b .«en_passant» ∷ [])
-    → n ≡ written l 0 (numbers b)
+    → n ≡ written m sideAt (restOf b)
+    → n ≡ written l 0 (numbers b ++ counterBytes (b .«half_moves») (b .«full_moves»))
 unfolding numbers
 record-written b l m n long h e f =
     let four : List ℕ = b .«side_to_move» ∷ b .«white_castle_rights» ∷ b .«black_castle_rights» ∷ b .«en_passant» ∷ [] in
-    f ∙ ap (λ (w : List ℕ). written w sideAt four) e ∙ written-behind l 0 (b .pieces) (omega arith) sideAt four (omega arith) (omega arith)
+    f
+    ∙ ap (λ (w : List ℕ). written w sideAt (restOf b)) e
+    ∙ written-behind l 0 (b .pieces) (omega arith) sideAt (restOf b) (omega arith) (omega arith)
+    ∙ ap (written l 0) (sym (append-assoc (b .pieces) four (counterBytes (b .«half_moves») (b .«full_moves»))))
 
 -- the record, the two bytes behind it, the moves, and zeros to the end
-module _ (l b : List ℕ) (check : ℕ) (list : List ℕ) (wide : length b ≡ recordSize) (short : length list ≤ longestList) (room : positionSize ≤ length l) where
+module _ (l numbers : List ℕ) (half full check : ℕ) (list : List ℕ) (wide : length numbers ≡ recordSize) (short : length list ≤ longestList)
+    (room : positionSize ≤ length l) where
+  abbrev b : List ℕ
+  b = numbers ++ counterBytes half full
+
+  long : length b ≡ checkAt
+  long = length-append numbers (counterBytes half full) ∙ omega arith
+
   abbrev two : List ℕ
   two = check ∷ length list ∷ []
 
@@ -41,6 +55,7 @@ module _ (l b : List ℕ) (check : ℕ) (list : List ℕ) (wide : length b ≡ r
   in-one : written (written (written (written l 0 b) checkAt two) movesAt (moveBytes list)) to zeros ≡ written l 0 (b ++ two ++ moveBytes list ++ zeros)
   in-one =
       let mb : List ℕ = moveBytes list in
+      let lb : length b ≡ checkAt = long in
       let lm : length mb ≡ 2 * length list = length-moveBytes list in
       let lz : length zeros ≡ positionSize - to = length-replicate (positionSize - to) 0 in
       let l₂ : length (b ++ two) ≡ movesAt = length-append b two ∙ omega arith in
@@ -49,7 +64,7 @@ module _ (l b : List ℕ) (check : ℕ) (list : List ℕ) (wide : length b ≡ r
       ∙ ap (λ (x : List ℕ). written x to zeros) (written-behind l 0 (b ++ two) (omega arith) movesAt mb (omega arith) (omega arith))
       ∙ written-behind l 0 (b ++ two ++ mb) (omega arith) to zeros (omega arith) (omega arith)
 
-  whole : b ++ two ++ moveBytes list ++ zeros ≡ positionBytes (record { board = b; check = check; moves = list })
+  whole : b ++ two ++ moveBytes list ++ zeros ≡ positionBytes (record { board = numbers; half = half; full = full; check = check; moves = list })
   unfolding positionBytes
   whole =
       let mb : List ℕ = moveBytes list in
@@ -57,9 +72,10 @@ module _ (l b : List ℕ) (check : ℕ) (list : List ℕ) (wide : length b ≡ r
       append-assoc (b ++ two) mb zeros
       ∙ append-assoc b two (mb ++ zeros)
       ∙ ap (λ (k : ℕ). b ++ (check ∷ length list ∷ (mb ++ replicate k 0))) as-many
+      ∙ append-assoc numbers (counterBytes half full) (check ∷ length list ∷ (mb ++ replicate (2 * (longestList - length list)) 0))
 
   pub position-written : (l₁ l₂ l₃ l₄ : List ℕ) → l₁ ≡ written l 0 b → l₂ ≡ written l₁ checkAt two → l₃ ≡ written l₂ movesAt (moveBytes list)
-      → l₄ ≡ written l₃ to zeros → l₄ ≡ written l 0 (positionBytes (record { board = b; check = check; moves = list }))
+      → l₄ ≡ written l₃ to zeros → l₄ ≡ written l 0 (positionBytes (record { board = numbers; half = half; full = full; check = check; moves = list }))
   position-written l₁ l₂ l₃ l₄ e₁ e₂ e₃ e₄ =
       e₄
       ∙ ap (λ (x : List ℕ). written x to zeros)

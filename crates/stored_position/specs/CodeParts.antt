@@ -6,13 +6,17 @@ use Prim.Native.Nat.{ℕ, _+_, _*_}
 use lib.Dec.{eqb, leb}
 use lib.ListN.{length, take, drop, getD}
 use Rattle.answer.specs.Numbers.{allAtMost, among}
-use Rattle.board_builder.specs.BoardBuilder.{recordSize, numbersInRange}
+use Rattle.board_builder.specs.BoardBuilder.{recordSize, countersInRange, numbersInRange}
 use Rattle.chess_move.specs.Number.{lastMove}
-use Rattle.position.specs.Layout.{checkAt, lengthAt, movesAt, positionSize, movesFrom}
+use Rattle.position.specs.Layout.{halfAt, fullAt, checkAt, lengthAt, movesAt, positionSize, pairAt, movesFrom}
+
+-- the record in front, its counters first
+abbrev pub recordIn : List ℕ → Bool
+recordIn s = countersInRange (pairAt s halfAt) (pairAt s fullAt) && numbersInRange (take recordSize s)
 
 -- all but the list: as many bytes as a position has, the record, the in-check byte
 unfoldable pub frontFits : List ℕ → Bool
-frontFits s = eqb (length s) positionSize && (numbersInRange (take recordSize s) && leb (getD s checkAt 0) 1)
+frontFits s = eqb (length s) positionSize && (recordIn s && leb (getD s checkAt 0) 1)
 
 -- this many entries of a position are moves, and what is past them is 0
 unfoldable pub listFits : List ℕ → ℕ → Bool
@@ -22,9 +26,9 @@ listFits s entries = allAtMost 0 (drop (movesAt + 2 * entries) s) && allAtMost l
 unfoldable pub listFitsWith : List ℕ → ℕ → ℕ → Bool
 listFitsWith s entries m = listFits s entries && among m (movesFrom s movesAt entries)
 
--- the record in front
+-- there is a record in front
 unfoldable pub recordFits : List ℕ → Bool
-recordFits s = numbersInRange (take recordSize s)
+recordFits s = leb checkAt (length s) && recordIn s
 
 -- all but the record, and the list has the move
 abbrev pub restFits : List ℕ → Bool

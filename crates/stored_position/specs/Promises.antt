@@ -9,7 +9,7 @@ use Rattle.answer.specs.Answer.{writeAnswer, writeBytes}
 use Rattle.position.specs.Layout.{Position, positionSize, positionOf}
 use Rattle.stored_position.specs.Bytes.{positionBytes, positionCheck, isPosition}
 
--- a position in range has 580 bytes
+-- a position in range has 584 bytes
 abbrev pub OneSize : Type 0
 OneSize = (p : Position) → positionCheck p ≡ 0 → length (positionBytes p) ≡ positionSize
 

@@ -9,21 +9,24 @@ use board_builder::RECORD_SIZE;
 use board_builder::SIDE_AT;
 use chess_move::LAST_MOVE;
 use position::CHECK_AT;
+use position::FULL_AT;
+use position::HALF_AT;
 use position::LENGTH_AT;
 use position::MOVES_AT;
 use position::POSITION_SIZE;
 ghost use mathlib.Core.Path.{_≡_};
+ghost use mathlib.Core.List.{_++_};
 ghost use Prim.Native.Nat.{_+_, _*_, _-_, _≤_, _<_};
 ghost use lib.ListN.{length, replicate};
 ghost use Rattle.answer.specs.Answer.{writeAnswer, writeBytes};
 ghost use Rattle.answer.specs.Numbers.{allAtMost, among};
 ghost use Rattle.answer.specs.Parts.{written};
-ghost use Rattle.board_builder.specs.BoardBuilder.{recordSize, numbers};
+ghost use Rattle.board_builder.specs.BoardBuilder.{numbers};
 ghost use Rattle.move_list.specs.MoveList.{longestList};
 ghost use Rattle.chess_move.specs.Number.{lastMove, ofBytes};
-ghost use Rattle.position.specs.Layout.{movesAt, positionSize, movesFrom};
-ghost use Rattle.stored_position.specs.Bytes.{moveBytes, positionBytes, positionCheck, positionGiven, isPosition, listsMove};
-ghost use Rattle.stored_position.specs.CodeParts.{frontFits, listFits, listFitsWith, recordFits, restFits, restFitsWith};
+ghost use Rattle.position.specs.Layout.{checkAt, movesAt, positionSize, pairAt, movesFrom};
+ghost use Rattle.stored_position.specs.Bytes.{moveBytes, counterBytes, positionBytes, positionCheck, positionGiven, isPosition, listsMove};
+ghost use Rattle.stored_position.specs.CodeParts.{recordIn, frontFits, listFits, listFitsWith, recordFits, restFits, restFitsWith};
 
 // Entries that are looked at together, whether used or not, where the list is shorter, as nearly every list is: a length that is known to the compiler
 // turns the loops into straight code, and no branch depends on the list's length. The large block is for the few lists that the small one does not hold.
@@ -59,9 +62,10 @@ fn write_bytes(bytes: &[u8], at: usize, out: &mut [u8])
     }
 }
 
+// The 68 numbers, and the counters in two bytes each, low first.
 fn write_record(b: BoardBuilder, out: &mut [u8])
-    requires { ⌜ recordSize ≤ length (now out) ⌝ }
-    ensures { λ r. ⌜ now (out .exit) ≡ written (now (out .entry)) 0 (numbers b) ⌝ }
+    requires { ⌜ checkAt ≤ length (now out) ⌝ }
+    ensures { λ r. ⌜ now (out .exit) ≡ written (now (out .entry)) 0 (numbers b ++ counterBytes (b .«half_moves») (b .«full_moves»)) ⌝ }
 {
     let pieces = b.pieces;
     write_bytes(&pieces, 0, out);
@@ -70,6 +74,10 @@ fn write_record(b: BoardBuilder, out: &mut [u8])
         b.white_castle_rights,
         b.black_castle_rights,
         b.en_passant,
+        (b.half_moves % 256) as u8,
+        (b.half_moves / 256) as u8,
+        (b.full_moves % 256) as u8,
+        (b.full_moves / 256) as u8,
     ];
     write_bytes(&rest, SIDE_AT, out);
 }
@@ -212,6 +220,31 @@ fn is_list_with(s: &[u8], entries: usize, m: u16) -> bool
     has_move(s, entries, m)
 }
 
+fn pair_of(low: u8, high: u8) -> u16
+    ensures { λ r. ⌜ r ≡ ofBytes low high ⌝ }
+{
+    low as u16 + 256 * (high as u16)
+}
+
+// The counter of two bytes at a place.
+fn counter_at(s: &[u8], at: usize) -> u16
+    requires { ⌜ at + 2 ≤ length (now s) ⌝ }
+    ensures { λ r. ⌜ r ≡ pairAt (now (s .entry)) at ⌝ }
+{
+    pair_of(s[at], s[at + 1])
+}
+
+// The record in front, the counters first: two tests, and the numbers need 68.
+fn is_record(s: &[u8]) -> bool
+    requires { ⌜ checkAt ≤ length (now s) ⌝ }
+    ensures { λ r. ⌜ r ≡ recordIn (now (s .entry)) ⌝ }
+{
+    if !board_builder::counters_in_range(counter_at(s, HALF_AT), counter_at(s, FULL_AT)) {
+        return false;
+    }
+    board_builder::numbers_in_range(&s[..RECORD_SIZE])
+}
+
 // All but the list.
 fn is_front(s: &[u8]) -> bool
     ensures { λ r. ⌜ r ≡ frontFits (now (s .entry)) ⌝ }
@@ -219,7 +252,7 @@ fn is_front(s: &[u8]) -> bool
     if s.len() != POSITION_SIZE {
         return false;
     }
-    if !board_builder::numbers_in_range(&s[..RECORD_SIZE]) {
+    if !is_record(s) {
         return false;
     }
     s[CHECK_AT] <= 1
@@ -239,10 +272,10 @@ pub fn is_position(s: &[u8]) -> bool
 pub fn has_record(s: &[u8]) -> bool
     ensures { λ r. ⌜ r ≡ recordFits (now (s .entry)) ⌝ }
 {
-    if s.len() < RECORD_SIZE {
+    if s.len() < CHECK_AT {
         return false;
     }
-    board_builder::numbers_in_range(&s[..RECORD_SIZE])
+    is_record(s)
 }
 
 fn is_rest(s: &[u8]) -> bool

@@ -3,18 +3,13 @@ use borrow.Author.Needs.{needs}
 use borrow.Author.Tests.{eq-eqb, ne-eqb}
 use Rattle.stored_position.proofs.is_rest.Statement.{statement}
 use Rattle.stored_position.proofs.is_rest.Tie as tie
-use Rattle.stored_position.proofs.is_rest.Reads as reads
-use Rattle.stored_position.proofs.is_rest.Lts as lts
 
--- src/lib.rt:250:9
 returns : tie.Need-returns
 returns c = rw (ne-eqb _ _ (c .if1 .taken))
 
--- src/lib.rt:252:5
 shared-slice-read-result : tie.Need-shared-slice-read-result
 shared-slice-read-result c = search needs
 
--- src/lib.rt:246:1
 returns-2 : tie.Need-returns-2
 returns-2 c = rw (eq-eqb _ _ (c .before .if1 .left))
 

@@ -9,22 +9,14 @@ use Rattle.stored_position.specs.CodeParts.{restFits, restFitsWith}
 use Rattle.stored_position.proofs.Known.{rest-whole, rest-so}
 use Rattle.stored_position.proofs.is_rest_with.Statement.{statement}
 use Rattle.stored_position.proofs.is_rest_with.Tie as tie
-use Rattle.stored_position.proofs.is_rest_with.Reads as reads
-use Rattle.stored_position.proofs.is_rest_with.Lts as lts
-use Rattle.stored_position.proofs.is_list_with.Reads as is-list-with-reads
-use Rattle.stored_position.proofs.is_rest.Reads as is-rest-reads
-use Rattle.stored_position.proofs.is_short_list_with.Reads as is-short-list-with-reads
 
--- src/lib.rt:259:9
 is-rest-requires : tie.Need-is-rest-requires
 is-rest-requires c κs = search needs
 
--- src/lib.rt:260:9
 returns : tie.Need-returns
 unfolding restFitsWith
 returns c = rw (sym (c .before .is-rest .ensures) ∙ not-true (c .before .is-rest .result) (c .if1 .taken))
 
--- src/lib.rt:262:19
 shared-slice-read-entries : tie.Need-shared-slice-read-entries
 shared-slice-read-entries c =
     let a = c .before .before .before .before .args in
@@ -33,11 +25,9 @@ shared-slice-read-entries c =
     let rest : restFits s ≡ true = sym (at-is-rest .ensures) ∙ not-false (at-is-rest .result) (c .before .if1 .left) in
     omega (arith, rest-whole s rest)
 
--- src/lib.rt:262:19
 cast-entries : tie.Need-cast-entries
 cast-entries c = omega (arith, c .shared-slice-known2 .given lengthAt)
 
--- src/lib.rt:264:9
 is-list-with-requires : tie.Need-is-list-with-requires
 is-list-with-requires c κs =
     let a = c .before .before .before .before .before .args in
@@ -47,7 +37,6 @@ is-list-with-requires c κs =
     let rest : restFits s ≡ true = sym (at-is-rest .ensures) ∙ not-false (at-is-rest .result) (at-if1 .left) in
     (rest-whole s rest, omega (arith, c .before .shared-slice-known2 .given lengthAt))
 
--- src/lib.rt:264:9
 returns-2 : tie.Need-returns-2
 returns-2 c =
     let a = c .before .before .before .before .before .before .args in
@@ -57,7 +46,6 @@ returns-2 c =
     let rest : restFits s ≡ true = sym (at-is-rest .ensures) ∙ not-false (at-is-rest .result) (at-if1 .left) in
     c .is-list-with .ensures ∙ rest-so s (a .m) rest
 
--- src/lib.rt:267:9
 is-short-list-with-requires : tie.Need-is-short-list-with-requires
 is-short-list-with-requires c κs =
     let a = c .before .before .before .before .before .before .args in
@@ -67,7 +55,6 @@ is-short-list-with-requires c κs =
     let rest : restFits s ≡ true = sym (at-is-rest .ensures) ∙ not-false (at-is-rest .result) (at-if1 .left) in
     (rest-whole s rest, omega (arith, c .if3 .taken), omega arith, c .before .if2 .left)
 
--- src/lib.rt:267:9
 returns-3 : tie.Need-returns-3
 returns-3 c =
     let a = c .before .before .before .before .before .before .before .args in
@@ -77,7 +64,6 @@ returns-3 c =
     let rest : restFits s ≡ true = sym (at-is-rest .ensures) ∙ not-false (at-is-rest .result) (at-if1 .left) in
     c .is-short-list-with .ensures ∙ rest-so s (a .m) rest
 
--- src/lib.rt:270:9
 is-short-list-with-requires-2 : tie.Need-is-short-list-with-requires-2
 is-short-list-with-requires-2 c κs =
     let a = c .before .before .before .before .before .before .before .args in
@@ -88,7 +74,6 @@ is-short-list-with-requires-2 c κs =
     let rest : restFits s ≡ true = sym (at-is-rest .ensures) ∙ not-false (at-is-rest .result) (at-if1 .left) in
     (rest-whole s rest, omega (arith, c .if4 .taken), omega arith, at-if2 .left)
 
--- src/lib.rt:270:9
 returns-4 : tie.Need-returns-4
 returns-4 c =
     let a = c .before .before .before .before .before .before .before .before .args in
@@ -98,7 +83,6 @@ returns-4 c =
     let rest : restFits s ≡ true = sym (at-is-rest .ensures) ∙ not-false (at-is-rest .result) (at-if1 .left) in
     c .is-short-list-with2 .ensures ∙ rest-so s (a .m) rest
 
--- src/lib.rt:272:5
 is-list-with-requires-2 : tie.Need-is-list-with-requires-2
 is-list-with-requires-2 c κs =
     let a = c .before .before .before .before .before .before .before .args in
@@ -109,7 +93,6 @@ is-list-with-requires-2 c κs =
     let rest : restFits s ≡ true = sym (at-is-rest .ensures) ∙ not-false (at-is-rest .result) (at-if1 .left) in
     (rest-whole s rest, omega (arith, at-shared-slice-known2 .given lengthAt))
 
--- src/lib.rt:256:1
 returns-5 : tie.Need-returns-5
 returns-5 c =
     let a = c .before .before .before .before .before .before .before .before .args in

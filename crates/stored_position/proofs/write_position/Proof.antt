@@ -48,7 +48,8 @@ returns c =
     let at-write-bytes = c .before .before .before .before .before .before .before .before .before .before .write-bytes in
     let at-write-moves = c .before .before .before .before .before .before .write-moves in
     let at-write-zeros = c .before .before .write-zeros in
-    position-written (a .out .now) (numbers (a .b)) (a .in-check) (a .list .now) (length-numbers (a .b) long) (at-pre .1) (at-pre .0) _ _ _ _
+    position-written (a .out .now) (numbers (a .b)) (a .b .«half_moves») (a .b .«full_moves») (a .in-check) (a .list .now) (length-numbers (a .b) long)
+    (at-pre .1) (at-pre .0) _ _ _ _
     (at-write-record .ensures) (at-write-bytes .ensures) (at-write-moves .ensures) (at-write-zeros .ensures)
 
 pub write-position-spec : {M : Type 1} → statement M

@@ -1,4 +1,5 @@
--- `write_record` of lib.rt meets its contract: now (out .exit) ≡ written (now (out .entry)) 0 (numbers b).
+-- `write_record` of lib.rt meets its contract: now (out .exit) ≡ written (now (out .entry)) 0 (numbers b ++ counterBytes (b .«half_moves») (b .«full_moves»)).
+use borrow.Author.Needs.{needs}
 use mathlib.Core.Path.{_≡_}
 use native.Mathlib.Omega.{arith}
 use lib.ListN.{length}
@@ -16,6 +17,18 @@ write-bytes-requires c κs =
     let long : length (c .before .before .before .before .args .b .pieces) ≡ squares = search length-unmapped in
     omega arith
 
+cast-t11 : tie.Need-cast-t11
+cast-t11 c = search needs
+
+cast-t13 : tie.Need-cast-t13
+cast-t13 c = search needs
+
+cast-t15 : tie.Need-cast-t15
+cast-t15 c = search needs
+
+cast-t17 : tie.Need-cast-t17
+cast-t17 c = search needs
+
 slice-aggregate-write-bytes-2 : tie.Need-slice-aggregate-write-bytes-2
 slice-aggregate-write-bytes-2 c = search needs
 
@@ -27,12 +40,13 @@ same-length c = search needs
 
 returns : tie.Need-returns
 returns c =
-    let at-write-bytes = c .before .before .before .before .before .before .before .write-bytes in
+    let early = c .before .before .before .before .before .before .before .before .before .before .before .before in
+    let a = early .before .before .before .before .args in
+    let at-pre = early .before .before .before .before .pre in
+    let at-write-bytes = c .before .before .before .before .before .before .before .before .before .before .before .write-bytes in
     let at-write-bytes2 = c .before .before .write-bytes2 in
-    let start = c .before .before .before .before .before .before .before .before .before .before .before .before in
-    let a = start .args in
     let long : length (a .b .pieces) ≡ squares = search length-unmapped in
-    record-written (a .b) (a .out .now) _ _ long (start .pre) (at-write-bytes .ensures) (at-write-bytes2 .ensures)
+    record-written (a .b) (a .out .now) _ _ long (at-pre) (at-write-bytes .ensures) (at-write-bytes2 .ensures)
 
 pub write-record-spec : {M : Type 1} → statement M
 write-record-spec =
@@ -40,6 +54,10 @@ write-record-spec =
     (tie.spec
     slice-aggregate-write-bytes
     write-bytes-requires
+    cast-t11
+    cast-t13
+    cast-t15
+    cast-t17
     slice-aggregate-write-bytes-2
     write-bytes-requires-2
     same-length
