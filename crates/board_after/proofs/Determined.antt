@@ -8,6 +8,8 @@ use Rattle.board_after.proofs.leads_to.Reads as leads-to
 use Rattle.board_after.proofs.leads_to.Kinds as leads-to·k
 use Rattle.board_after.proofs.leads_to_board.Reads as leads-to-board
 use Rattle.board_after.proofs.leads_to_board.Kinds as leads-to-board·k
+use Rattle.board_after.proofs.counters_lead.Reads as counters-lead
+use Rattle.board_after.proofs.counters_lead.Kinds as counters-lead·k
 
 pub board-after-answer : OneAnswer board-after·k.ps board-after·k.r board-after.Learnt
 board-after-answer κs a x y e f p q = p ∙ sym q
@@ -17,3 +19,6 @@ leads-to-answer κs a x y e f p q = p ∙ sym q
 
 pub leads-to-board-answer : OneAnswer leads-to-board·k.ps leads-to-board·k.r leads-to-board.Learnt
 leads-to-board-answer κs a x y e f p q = p ∙ sym q
+
+pub counters-lead-answer : OneAnswer counters-lead·k.ps counters-lead·k.r counters-lead.Learnt
+counters-lead-answer κs a x y e f p q = p ∙ sym q

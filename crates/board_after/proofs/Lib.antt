@@ -1,4 +1,5 @@
 pub mod Differ
 pub mod Touched
 pub mod Tests
+pub mod Counters
 pub mod Determined

@@ -2,9 +2,11 @@
 use answer::ACCEPTED;
 use answer::BAD_LIST;
 use answer::OUT_OF_RANGE;
+use answer::front;
 use board_builder::BLACK_RIGHTS_AT;
 use board_builder::BoardBuilder;
 use board_builder::EN_PASSANT_AT;
+use board_builder::LAST_COUNT;
 use board_builder::RECORD_SIZE;
 use board_builder::SIDE_AT;
 use board_builder::Stepped;
@@ -18,12 +20,12 @@ ghost use Prim.Native.Nat.{_-_, _≤_, _<_};
 ghost use lib.Dec.{eqb};
 ghost use lib.ListN.{length, take, set};
 ghost use Rattle.answer.specs.Numbers.{same};
-ghost use Rattle.board_builder.specs.BoardBuilder.{boardOf, numbers, recordSize};
+ghost use Rattle.board_builder.specs.BoardBuilder.{withCounters, boardOf, numbers, recordSize};
 ghost use Rattle.board_builder.specs.Steps.{stepped};
 ghost use Rattle.move_rules.specs.After.{colourStep, enemyPawn, twoApart, castles, corner, rookMoved, takesInPassing, pawnRemoved, setDown};
 ghost use Rattle.move_rules.specs.After.{squaresAfter, rightsWithout, rightsAfter, sideAfter, stepsTwice, stoodBefore, stoodBehind, fileAfter};
-ghost use Rattle.move_rules.specs.After.{afterParts, recordAfter, afterAnswer};
-ghost use Rattle.move_rules.specs.Leads.{leadsTo, leadsToBoard};
+ghost use Rattle.move_rules.specs.After.{afterParts, restarts, oneMore, halfAfter, fullAfter, recordAfter, afterAnswer};
+ghost use Rattle.move_rules.specs.Leads.{leadsTo, leadsToBoard, countersLead};
 ghost use Rattle.board_after.specs.CodeDiffer.{differs, differing, touchesMore};
 
 const SQUARES: usize = 64;
@@ -224,7 +226,73 @@ fn after(b: BoardBuilder, source: u8, dest: u8, promotion: u8) -> BoardBuilder
         white_castle_rights: rights_after(0, b.white_castle_rights, source, dest),
         black_castle_rights: rights_after(1, b.black_castle_rights, source, dest),
         en_passant: file,
+        half_moves: 0,
+        full_moves: 1,
     }
+}
+
+fn one_more(n: u16) -> u16
+    ensures { λ r. ⌜ r ≡ oneMore n ⌝ }
+{
+    if (n as u64) < LAST_COUNT {
+        n + 1
+    } else {
+        LAST_COUNT as u16
+    }
+}
+
+// Whether half-moves are counted anew: a pawn moves, or a man is taken.
+fn restarts(squares: &[u8], source: u8, dest: u8) -> bool
+    requires { ⌜ (64 ≤ length (now squares)) × (source < 64) × (dest < 64) ⌝ }
+    ensures { λ r. ⌜ r ≡ restarts (now (squares .entry)) source dest ⌝ }
+{
+    if square::kind_of(squares[source as usize]) == PAWN {
+        return true;
+    }
+    squares[dest as usize] != 0
+}
+
+fn half_after(squares: &[u8], half: u16, source: u8, dest: u8) -> u16
+    requires { ⌜ (64 ≤ length (now squares)) × (source < 64) × (dest < 64) ⌝ }
+    ensures { λ r. ⌜ r ≡ halfAfter (now (squares .entry)) half source dest ⌝ }
+{
+    if restarts(squares, source, dest) {
+        return 0;
+    }
+    one_more(half)
+}
+
+fn full_after(side: u8, full: u16) -> u16
+    ensures { λ r. ⌜ r ≡ fullAfter side full ⌝ }
+{
+    if side == 0 {
+        return full;
+    }
+    one_more(full)
+}
+
+fn with_counters(b: BoardBuilder, half: u16, full: u16) -> BoardBuilder
+    ensures { λ r. ⌜ r ≡ withCounters b half full ⌝ }
+{
+    let mut board = b;
+    board.half_moves = half;
+    board.full_moves = full;
+    board
+}
+
+// The record after a move, its counters too.
+fn counted_after(b: BoardBuilder, source: u8, dest: u8, promotion: u8) -> BoardBuilder
+    requires { ⌜ (source < 64) × (dest < 64) × (promotion < 16) ⌝ }
+    ensures { λ r. ⌜ r ≡ withCounters (afterParts b source dest promotion)
+        (halfAfter (b .pieces) (b .«half_moves») source dest) (fullAfter (b .«side_to_move») (b .«full_moves»)) ⌝ }
+{
+    let pieces = b.pieces;
+    let half = half_after(&pieces, b.half_moves, source, dest);
+    with_counters(
+        after(b, source, dest, promotion),
+        half,
+        full_after(b.side_to_move, b.full_moves),
+    )
 }
 
 fn stepped(number: u64, board: BoardBuilder) -> Stepped
@@ -245,7 +313,7 @@ pub fn board_after(b: BoardBuilder, m: u64) -> Stepped
     }
     stepped(
         ACCEPTED,
-        after(b, (m % 64) as u8, (m / 64 % 64) as u8, (m / 4096) as u8),
+        counted_after(b, (m % 64) as u8, (m / 64 % 64) as u8, (m / 4096) as u8),
     )
 }
 
@@ -397,6 +465,8 @@ fn record_at(p: &[u8]) -> BoardBuilder
         white_castle_rights: p[WHITE_RIGHTS_AT],
         black_castle_rights: p[BLACK_RIGHTS_AT],
         en_passant: p[EN_PASSANT_AT],
+        half_moves: 0,
+        full_moves: 1,
     }
 }
 
@@ -440,4 +510,18 @@ pub fn leads_to_board(p: &[u8], m: u16, next: BoardBuilder) -> bool
         (m / 4096) as u8,
     );
     same_record(next, computed)
+}
+
+// Whether two counters are those after move `m` from the record at the front of `p`, with its counters beside it.
+pub fn counters_lead(p: &[u8], m: u16, half: u16, full: u16, clock: u16, number: u16) -> bool
+    ensures { λ r. ⌜ r ≡ countersLead (now (p .entry)) m half full clock number ⌝ }
+{
+    if p.len() < RECORD_SIZE {
+        return false;
+    }
+    let numbers = front(p, RECORD_SIZE);
+    if clock != half_after(numbers, half, (m % 64) as u8, (m / 64 % 64) as u8) {
+        return false;
+    }
+    number == full_after(numbers[SIDE_AT], full)
 }

@@ -34,13 +34,13 @@ pub record IsItem (size : ℕ) (bs : List ℕ) (k : ℕ) (part : List ℕ) : Typ
   pub whole : length part ≡ size
 
 -- a number of two bytes, at a place
-abbrev pub pairAt : List ℕ → ℕ → ℕ
-pairAt p at = ofBytes (getD p at 0) (getD p (at + 1) 0)
+abbrev pub twoBytesAt : List ℕ → ℕ → ℕ
+twoBytesAt p at = ofBytes (getD p at 0) (getD p (at + 1) 0)
 
 -- a number of moves of two bytes each, from a place on
 unfoldable pub movesFrom : List ℕ → ℕ → ℕ → List ℕ
 movesFrom p at zero = []
-movesFrom p at (suc k) = pairAt p at ∷ movesFrom p (at + 2) k
+movesFrom p at (suc k) = twoBytesAt p at ∷ movesFrom p (at + 2) k
 
 -- the record's 68 other numbers, its counters, whether the side to move is in check, and its moves
 pub record Position : Type 0 where
@@ -59,8 +59,8 @@ unfoldable pub positionOf : List ℕ → Position
 positionOf p =
     record {
       board = take recordSize p;
-      half = pairAt p halfAt;
-      full = pairAt p fullAt;
+      half = twoBytesAt p halfAt;
+      full = twoBytesAt p fullAt;
       check = getD p checkAt 0;
       moves = movesFrom p movesAt (getD p lengthAt 0);
     }

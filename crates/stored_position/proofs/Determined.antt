@@ -9,6 +9,10 @@ use Rattle.stored_position.proofs.to_bytes.Reads as to-bytes
 use Rattle.stored_position.proofs.to_bytes.Kinds as to-bytes·k
 use Rattle.stored_position.proofs.is_position.Reads as is-position
 use Rattle.stored_position.proofs.is_position.Kinds as is-position·k
+use Rattle.stored_position.proofs.half_of.Reads as half-of
+use Rattle.stored_position.proofs.half_of.Kinds as half-of·k
+use Rattle.stored_position.proofs.full_of.Reads as full-of
+use Rattle.stored_position.proofs.full_of.Kinds as full-of·k
 use Rattle.stored_position.proofs.has_record.Reads as has-record
 use Rattle.stored_position.proofs.has_record.Kinds as has-record·k
 use Rattle.stored_position.proofs.is_rest_with.Reads as is-rest-with
@@ -27,6 +31,12 @@ to-bytes-out κs a x y e f p q = p .1 ∙ sym (q .1)
 
 pub is-position-answer : OneAnswer is-position·k.ps is-position·k.r is-position.Learnt
 is-position-answer κs a x y e f p q = p ∙ sym q
+
+pub half-of-answer : OneAnswer half-of·k.ps half-of·k.r half-of.Learnt
+half-of-answer κs a x y e f p q = p ∙ sym q
+
+pub full-of-answer : OneAnswer full-of·k.ps full-of·k.r full-of.Learnt
+full-of-answer κs a x y e f p q = p ∙ sym q
 
 pub has-record-answer : OneAnswer has-record·k.ps has-record·k.r has-record.Learnt
 has-record-answer κs a x y e f p q = p ∙ sym q

@@ -3,22 +3,22 @@
 use mathlib.Core.Path.{_≡_, refl, ap, ap₂, sym, _∙_}
 use mathlib.Core.Bool.{Bool, true, false, _&&_, and-comm, false≢true}
 use mathlib.Core.List.{List, [], _∷_, _++_}
-use Prim.Native.Nat.{ℕ, zero, suc, _+_, _*_, _-_, _≤_, _<_}
+use Prim.Native.Nat.{ℕ, zero, suc, _+_, _*_, _-_, _≤_}
 use native.Mathlib.Omega.{arith}
 use lib.Dec.{eqb, leb, eqb·suc-zero, leb·suc-zero}
 use lib.ListN.{length, take, drop, getD, replicate, length-drop, take-append-drop}
 use lib.Seq.{drop-cons, drop-drop}
-use borrow.Author.Tests.{eq-eqb, eqb-true, eqb-false, le-leb, lt-leb, leb-true, leb-false}
+use borrow.Author.Tests.{eq-eqb, eqb-true, eqb-false, le-leb, leb-true, leb-false}
 use Rattle.answer.specs.Numbers.{allAtMost, same, among}
 use Rattle.answer.proofs.Numbers.{both-left, both-right}
 use Rattle.answer.proofs.Same.{same-lengths}
 use Rattle.board_builder.specs.BoardBuilder.{recordSize}
 use Rattle.chess_move.specs.Number.{lastMove, lowByte, highByte}
 use Rattle.move_list.specs.MoveList.{longestList, listInRange}
-use Rattle.position.specs.Layout.{halfAt, fullAt, checkAt, lengthAt, movesAt, positionSize, pairAt, movesFrom, positionOf}
+use Rattle.position.specs.Layout.{halfAt, fullAt, checkAt, lengthAt, movesAt, positionSize, twoBytesAt, movesFrom, positionOf}
 use Rattle.position.proofs.Moves.{AllBytes, length-moves, take-two}
 use Rattle.stored_position.specs.Bytes.{moveBytes, counterBytes, positionBytes, positionCheck, isPosition, listsMove, isPositionWith}
-use Rattle.stored_position.specs.CodeParts.{recordIn, frontFits, listFits, listFitsWith, recordFits, restFits, restFitsWith}
+use Rattle.stored_position.specs.CodeParts.{recordFits, frontFits, listFits, listFitsWith, restFits, restFitsWith}
 use Rattle.stored_position.proofs.Bytes.{length-position}
 use Rattle.stored_position.proofs.Checks.{position-fits, bad-board, bad-check, by-list}
 
@@ -84,12 +84,12 @@ module _ (s : List ℕ) (b : AllBytes s) (whole : length s ≡ positionSize) whe
       (sym (take-append-drop (2 * k) (drop movesAt s)) ∙ ap (λ (x : List ℕ). list ++ x) (drop-drop (2 * k) movesAt s)))))
 
   -- counters that are read are written as they stand
-  same-counters : counterBytes (pairAt s halfAt) (pairAt s fullAt) ≡ counters
+  same-counters : counterBytes (twoBytesAt s halfAt) (twoBytesAt s fullAt) ≡ counters
   same-counters =
-      let a : lowByte (pairAt s halfAt) ≡ getD s halfAt 0 = omega (arith, b halfAt) in
-      let c : highByte (pairAt s halfAt) ≡ getD s (halfAt + 1) 0 = omega (arith, b halfAt) in
-      let d : lowByte (pairAt s fullAt) ≡ getD s fullAt 0 = omega (arith, b fullAt) in
-      let e : highByte (pairAt s fullAt) ≡ getD s (fullAt + 1) 0 = omega (arith, b fullAt) in
+      let a : lowByte (twoBytesAt s halfAt) ≡ getD s halfAt 0 = omega (arith, b halfAt) in
+      let c : highByte (twoBytesAt s halfAt) ≡ getD s (halfAt + 1) 0 = omega (arith, b halfAt) in
+      let d : lowByte (twoBytesAt s fullAt) ≡ getD s fullAt 0 = omega (arith, b fullAt) in
+      let e : highByte (twoBytesAt s fullAt) ≡ getD s (fullAt + 1) 0 = omega (arith, b fullAt) in
       λ i. a i ∷ c i ∷ d i ∷ e i ∷ []
 
   written-back : positionBytes (positionOf s)
@@ -98,7 +98,7 @@ module _ (s : List ℕ) (b : AllBytes s) (whole : length s ≡ positionSize) whe
   written-back =
       let e : length past ≡ 2 * (longestList - k) = length-drop (movesAt + 2 * k) s ∙ omega (arith, b lengthAt) in
       let tail : List ℕ = getD s checkAt 0 ∷ k ∷ (list ++ replicate (length past) 0) in
-      let read : positionBytes (positionOf s) ≡ take recordSize s ++ (counterBytes (pairAt s halfAt) (pairAt s fullAt) ++ tail) =
+      let read : positionBytes (positionOf s) ≡ take recordSize s ++ (counterBytes (twoBytesAt s halfAt) (twoBytesAt s fullAt) ++ tail) =
       rw (e, length-moves s movesAt k, read-bytes s b k movesAt (omega (arith, b lengthAt))) in
       read ∙ ap (λ (x : List ℕ). take recordSize s ++ (x ++ tail)) same-counters
 
@@ -113,7 +113,7 @@ module _ (s : List ℕ) (b : AllBytes s) (whole : length s ≡ positionSize) whe
       (ap₂ same in-pieces written-back ∙ same-front (take recordSize s) _ _ ∙ same-front counters _ _ ∙ same-past)
 
   -- with the record and the in-check byte in range, only the list is left to look at
-  pub by-its-list : recordIn s ≡ true → getD s checkAt 0 ≤ 1 → isPosition s ≡ listFits s (getD s lengthAt 0)
+  pub by-its-list : recordFits s ≡ true → getD s checkAt 0 ≤ 1 → isPosition s ≡ listFits s (getD s lengthAt 0)
   unfolding positionOf listFits
   by-its-list board check =
       known
@@ -141,19 +141,19 @@ module _ (s : List ℕ) where
   unfolding frontFits
   front-whole e = eqb-true _ _ (both-left (eqb (length s) positionSize) _ e)
 
-  front-board : frontFits s ≡ true → recordIn s ≡ true
+  front-board : frontFits s ≡ true → recordFits s ≡ true
   unfolding frontFits
-  front-board e = both-left (recordIn s) _ (both-right (eqb (length s) positionSize) _ e)
+  front-board e = both-left (recordFits s) _ (both-right (eqb (length s) positionSize) _ e)
 
   front-check : frontFits s ≡ true → getD s checkAt 0 ≤ 1
   unfolding frontFits
-  front-check e = leb-true _ _ (both-right (recordIn s) _ (both-right (eqb (length s) positionSize) _ e))
+  front-check e = leb-true _ _ (both-right (recordFits s) _ (both-right (eqb (length s) positionSize) _ e))
 
   pub not-front : frontFits s ≡ false → isPosition s ≡ false
   unfolding frontFits positionOf
-  not-front = go (eqb (length s) positionSize) refl (recordIn s) refl (leb (getD s checkAt 0) 1) refl
+  not-front = go (eqb (length s) positionSize) refl (recordFits s) refl (leb (getD s checkAt 0) 1) refl
     where
-      go : (a : Bool) → eqb (length s) positionSize ≡ a → (b : Bool) → recordIn s ≡ b → (t : Bool) → leb (getD s checkAt 0) 1 ≡ t
+      go : (a : Bool) → eqb (length s) positionSize ≡ a → (b : Bool) → recordFits s ≡ b → (t : Bool) → leb (getD s checkAt 0) 1 ≡ t
           → a && (b && t) ≡ false → isPosition s ≡ false
       go false e b f t g h = other-size s (eqb-false _ _ e)
       go true e false f t g h = not-in-range s 4 (bad-board (positionOf s) f)
@@ -178,12 +178,8 @@ module _ (s : List ℕ) where
   unfolding restFitsWith
   rest-so m e = rw e
 
-  pub short-record : length s < checkAt → false ≡ recordFits s
-  unfolding recordFits
-  short-record h = rw (lt-leb checkAt (length s) h)
-
   -- with a record in range, the rest decides whether the bytes are a position that lists a move
-  pub by-rest-with : (m : ℕ) → AllBytes s → recordIn s ≡ true → isPositionWith s m ≡ restFitsWith s m
+  pub by-rest-with : (m : ℕ) → AllBytes s → recordFits s ≡ true → isPositionWith s m ≡ restFitsWith s m
   unfolding restFitsWith frontFits
   by-rest-with m b r = go (eqb (length s) positionSize) refl (leb (getD s checkAt 0) 1) refl
     where
@@ -194,9 +190,5 @@ module _ (s : List ℕ) where
       go false e t f = not-front-with m (rw e)
 
   pub no-record : recordFits s ≡ false → isPosition s ≡ false
-  unfolding recordFits positionOf
-  no-record = go (leb checkAt (length s)) refl
-    where
-      go : (t : Bool) → leb checkAt (length s) ≡ t → t && recordIn s ≡ false → isPosition s ≡ false
-      go true e f = not-in-range s 4 (bad-board (positionOf s) f)
-      go false e f = other-size s (λ h. omega (arith, leb-false checkAt (length s) e))
+  unfolding positionOf
+  no-record e = not-in-range s 4 (bad-board (positionOf s) e)

@@ -15,7 +15,7 @@ use Rattle.answer.proofs.Writes.{accepted-writes-its-text, check-passed}
 use Rattle.board_builder.specs.BoardBuilder.{recordSize}
 use Rattle.chess_move.specs.Number.{lowByte, highByte, ofBytes}
 use Rattle.move_list.specs.MoveList.{longestList}
-use Rattle.position.specs.Layout.{Position, halfAt, fullAt, checkAt, lengthAt, movesAt, pairAt, movesFrom, positionOf}
+use Rattle.position.specs.Layout.{Position, halfAt, fullAt, checkAt, lengthAt, movesAt, twoBytesAt, movesFrom, positionOf}
 use Rattle.stored_position.specs.Bytes.{moveBytes, counterBytes, positionBytes, positionCheck, isPosition}
 use Rattle.stored_position.proofs.Bytes.{length-position}
 use Rattle.stored_position.proofs.Checks.{Fits, position-fits}
@@ -55,8 +55,8 @@ module _ (p : Position) (wide : length (p .board) ≡ recordSize) where
   wide-round : positionOf (positionBytes p) ≡ p
   unfolding positionOf behind
   wide-round =
-      let h : pairAt (positionBytes p) halfAt ≡ p .half = ap₂ ofBytes (at-counters 0) (at-counters 1) ∙ split (p .half) in
-      let f : pairAt (positionBytes p) fullAt ≡ p .full = ap₂ ofBytes (at-counters 2) (at-counters 3) ∙ split (p .full) in
+      let h : twoBytesAt (positionBytes p) halfAt ≡ p .half = ap₂ ofBytes (at-counters 0) (at-counters 1) ∙ split (p .half) in
+      let f : twoBytesAt (positionBytes p) fullAt ≡ p .full = ap₂ ofBytes (at-counters 2) (at-counters 3) ∙ split (p .full) in
       let a : getD (positionBytes p) checkAt 0 ≡ p .check = at-counters 4 in
       let b : getD (positionBytes p) lengthAt 0 ≡ length (p .moves) = at-counters 5 in
       let d : drop movesAt (positionBytes p) ≡ behind = sym (drop-drop 6 recordSize (positionBytes p)) ∙ ap (drop 6) from-counters in

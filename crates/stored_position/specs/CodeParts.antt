@@ -8,15 +8,15 @@ use lib.ListN.{length, take, drop, getD}
 use Rattle.answer.specs.Numbers.{allAtMost, among}
 use Rattle.board_builder.specs.BoardBuilder.{recordSize, countersInRange, numbersInRange}
 use Rattle.chess_move.specs.Number.{lastMove}
-use Rattle.position.specs.Layout.{halfAt, fullAt, checkAt, lengthAt, movesAt, positionSize, pairAt, movesFrom}
+use Rattle.position.specs.Layout.{halfAt, fullAt, checkAt, lengthAt, movesAt, positionSize, twoBytesAt, movesFrom}
 
--- the record in front, its counters first
-abbrev pub recordIn : List ℕ → Bool
-recordIn s = countersInRange (pairAt s halfAt) (pairAt s fullAt) && numbersInRange (take recordSize s)
+-- the record in front, its counters first; bytes that are not there count as 0
+abbrev pub recordFits : List ℕ → Bool
+recordFits s = countersInRange (twoBytesAt s halfAt) (twoBytesAt s fullAt) && numbersInRange (take recordSize s)
 
 -- all but the list: as many bytes as a position has, the record, the in-check byte
 unfoldable pub frontFits : List ℕ → Bool
-frontFits s = eqb (length s) positionSize && (recordIn s && leb (getD s checkAt 0) 1)
+frontFits s = eqb (length s) positionSize && (recordFits s && leb (getD s checkAt 0) 1)
 
 -- this many entries of a position are moves, and what is past them is 0
 unfoldable pub listFits : List ℕ → ℕ → Bool
@@ -25,10 +25,6 @@ listFits s entries = allAtMost 0 (drop (movesAt + 2 * entries) s) && allAtMost l
 -- and a move is one of them
 unfoldable pub listFitsWith : List ℕ → ℕ → ℕ → Bool
 listFitsWith s entries m = listFits s entries && among m (movesFrom s movesAt entries)
-
--- there is a record in front
-unfoldable pub recordFits : List ℕ → Bool
-recordFits s = leb checkAt (length s) && recordIn s
 
 -- all but the record, and the list has the move
 abbrev pub restFits : List ℕ → Bool

@@ -4,6 +4,8 @@ use answer::Answer;
 use answer::BAD_LIST;
 use answer::OUT_OF_RANGE;
 use answer::OUTPUT_TOO_SHORT;
+use answer::byte_at;
+use answer::front;
 use board_builder::BoardBuilder;
 use board_builder::RECORD_SIZE;
 use board_builder::SIDE_AT;
@@ -24,9 +26,9 @@ ghost use Rattle.answer.specs.Parts.{written};
 ghost use Rattle.board_builder.specs.BoardBuilder.{numbers};
 ghost use Rattle.move_list.specs.MoveList.{longestList};
 ghost use Rattle.chess_move.specs.Number.{lastMove, ofBytes};
-ghost use Rattle.position.specs.Layout.{checkAt, movesAt, positionSize, pairAt, movesFrom};
+ghost use Rattle.position.specs.Layout.{halfAt, fullAt, checkAt, movesAt, positionSize, twoBytesAt, movesFrom};
 ghost use Rattle.stored_position.specs.Bytes.{moveBytes, counterBytes, positionBytes, positionCheck, positionGiven, isPosition, listsMove};
-ghost use Rattle.stored_position.specs.CodeParts.{recordIn, frontFits, listFits, listFitsWith, recordFits, restFits, restFitsWith};
+ghost use Rattle.stored_position.specs.CodeParts.{recordFits, frontFits, listFits, listFitsWith, restFits, restFitsWith};
 
 // Entries that are looked at together, whether used or not, where the list is shorter, as nearly every list is: a length that is known to the compiler
 // turns the loops into straight code, and no branch depends on the list's length. The large block is for the few lists that the small one does not hold.
@@ -226,23 +228,28 @@ fn pair_of(low: u8, high: u8) -> u16
     low as u16 + 256 * (high as u16)
 }
 
-// The counter of two bytes at a place.
-fn counter_at(s: &[u8], at: usize) -> u16
-    requires { ⌜ at + 2 ≤ length (now s) ⌝ }
-    ensures { λ r. ⌜ r ≡ pairAt (now (s .entry)) at ⌝ }
+// The counters of the record in front; bytes that are not there count as 0.
+
+pub fn half_of(s: &[u8]) -> u16
+    ensures { λ r. ⌜ r ≡ twoBytesAt (now (s .entry)) halfAt ⌝ }
 {
-    pair_of(s[at], s[at + 1])
+    pair_of(byte_at(s, HALF_AT), byte_at(s, HALF_AT + 1))
 }
 
-// The record in front, the counters first: two tests, and the numbers need 68.
-fn is_record(s: &[u8]) -> bool
-    requires { ⌜ checkAt ≤ length (now s) ⌝ }
-    ensures { λ r. ⌜ r ≡ recordIn (now (s .entry)) ⌝ }
+pub fn full_of(s: &[u8]) -> u16
+    ensures { λ r. ⌜ r ≡ twoBytesAt (now (s .entry)) fullAt ⌝ }
 {
-    if !board_builder::counters_in_range(counter_at(s, HALF_AT), counter_at(s, FULL_AT)) {
+    pair_of(byte_at(s, FULL_AT), byte_at(s, FULL_AT + 1))
+}
+
+// Whether the record in front is in range.
+pub fn has_record(s: &[u8]) -> bool
+    ensures { λ r. ⌜ r ≡ recordFits (now (s .entry)) ⌝ }
+{
+    if !board_builder::counters_in_range(half_of(s), full_of(s)) {
         return false;
     }
-    board_builder::numbers_in_range(&s[..RECORD_SIZE])
+    board_builder::numbers_in_range(front(s, RECORD_SIZE))
 }
 
 // All but the list.
@@ -252,7 +259,7 @@ fn is_front(s: &[u8]) -> bool
     if s.len() != POSITION_SIZE {
         return false;
     }
-    if !is_record(s) {
+    if !has_record(s) {
         return false;
     }
     s[CHECK_AT] <= 1
@@ -266,16 +273,6 @@ pub fn is_position(s: &[u8]) -> bool
         return false;
     }
     is_list(s, s[LENGTH_AT] as usize)
-}
-
-// Whether the record in front is in range.
-pub fn has_record(s: &[u8]) -> bool
-    ensures { λ r. ⌜ r ≡ recordFits (now (s .entry)) ⌝ }
-{
-    if s.len() < CHECK_AT {
-        return false;
-    }
-    is_record(s)
 }
 
 fn is_rest(s: &[u8]) -> bool

@@ -27,17 +27,17 @@ returns-2 c =
     let at-if1 = c .before .before .if1 in
     c .stepped2 .ensures ∙ simp (sym (at-in-range .ensures) ∙ not-false (at-in-range .result) (at-if1 .left), lt-leb _ _ (c .before .if2 .taken))
 
-cast-after : tie.Need-cast-after
-cast-after c = search needs
+cast-counted-after : tie.Need-cast-counted-after
+cast-counted-after c = search needs
 
-cast-after-2 : tie.Need-cast-after-2
-cast-after-2 c = search needs
+cast-counted-after-2 : tie.Need-cast-counted-after-2
+cast-counted-after-2 c = search needs
 
-cast-after-3 : tie.Need-cast-after-3
-cast-after-3 c = search needs
+cast-counted-after-3 : tie.Need-cast-counted-after-3
+cast-counted-after-3 c = search needs
 
-after-requires : tie.Need-after-requires
-after-requires c κs = search needs
+counted-after-requires : tie.Need-counted-after-requires
+counted-after-requires c κs = search needs
 
 stepped-requires-3 : tie.Need-stepped-requires-3
 stepped-requires-3 c κs = search needs
@@ -50,7 +50,7 @@ returns-3 c =
     let at-if2 = c .before .before .if2 in
     c .stepped3 .ensures
     ∙ simp (sym (at-in-range .ensures) ∙ not-false (at-in-range .result) (at-if1 .left), le-leb _ _ (at-if2 .left))
-    (ap (stepped 0) (c .before .after .ensures))
+    (ap (stepped 0) (c .before .counted-after .ensures))
 
 pub board-after-spec : {M : Type 1} → statement M
 board-after-spec =
@@ -61,9 +61,9 @@ board-after-spec =
     returns
     stepped-requires-2
     returns-2
-    cast-after
-    cast-after-2
-    cast-after-3
-    after-requires
+    cast-counted-after
+    cast-counted-after-2
+    cast-counted-after-3
+    counted-after-requires
     stepped-requires-3
     returns-3)

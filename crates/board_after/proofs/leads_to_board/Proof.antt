@@ -32,7 +32,7 @@ same-record-requires : tie.Need-same-record-requires
 same-record-requires c κs = search needs
 
 returns-2 : tie.Need-returns-2
-unfolding recordAfter
+unfolding recordAfter numbers
 returns-2 c =
     let a = c .before .before .before .before .before .args in
     let at-if1 = c .before .before .before .if1 in
