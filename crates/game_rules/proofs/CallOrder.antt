@@ -6,6 +6,8 @@ use Rattle.square.specs.Piece.{kindOf}
 use Rattle.board_builder.specs.BoardBuilder.{numbers, inRange, numbersInRange}
 use Rattle.move_rules.specs.After.{castles, rookMoved, takesInPassing, pawnRemoved, setDown, squaresAfter, rightsWithout, rightsAfter}
 use Rattle.move_rules.specs.After.{twoApart, stepsTwice, fileAfter, afterParts, recordAfter}
+use Rattle.move_rules.specs.After.{restarts, oneMore, halfAfter, fullAfter}
+use Rattle.move_rules.specs.Leads.{countersFrom}
 use Rattle.move_list.specs.MoveList.{listInRange}
 use Rattle.actions.specs.Part.{movesIn}
 use Rattle.position.specs.Layout.{movesFrom, positionOf}
@@ -19,8 +21,8 @@ use Rattle.game_rules.specs.CallOrder.{ChecksInOrder}
 
 pub checks-in-order : ChecksInOrder
 unfolding same allAtMost among kindOf numbers inRange numbersInRange castles rookMoved takesInPassing pawnRemoved setDown squaresAfter rightsWithout
-    rightsAfter twoApart stepsTwice fileAfter afterParts recordAfter listInRange movesIn movesFrom positionOf times moveBytes positionBytes
-    positionCheck isPosition
+    rightsAfter twoApart stepsTwice fileAfter afterParts recordAfter restarts oneMore halfAfter fullAfter countersFrom
+    listInRange movesIn movesFrom positionOf times moveBytes positionBytes positionCheck isPosition
     resultOf offerIn current actions lastMade lastButOne result offerStands ruling claimStands firstRefusal answer historyOf sound isGood logCheck
     callAnswer
 checks-in-order = record {
@@ -32,6 +34,8 @@ checks-in-order = record {
   gives-6 = refl;
   gives-12 = refl;
   gives-24 = refl;
+  half-gives-24 = refl;
+  full-gives-24 = refl;
   gives-13 = refl;
   offer-gives-5 = refl;
   resignation-gives-5 = refl;

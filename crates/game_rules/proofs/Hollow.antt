@@ -37,7 +37,7 @@ abbrev few : Limits
 few = record { most-actions = 2; most-moves = 0 }
 
 abbrev bare : Position
-bare = record { board = replicate recordSize 0; check = 0; moves = 0 ∷ [] }
+bare = record { board = replicate recordSize 0; half = 0; full = 1; check = 0; moves = 0 ∷ [] }
 
 -- the log after the start, and after the first offer, which is stored
 abbrev atStart : Left

@@ -17,9 +17,10 @@ use Rattle.game_rules.specs.Calls.{callAnswer}
 abbrev pub noRoom : Limits
 noRoom = record { most-actions = 0; most-moves = 0 }
 
--- an empty board with a side to move, an in-check byte and a list
+-- an empty board with a side to move, an in-check byte and a list; in the first move, with no half-move made, or white's
 abbrev pub onEmpty : ℕ → ℕ → List ℕ → Position
-onEmpty side check moves = record { board = replicate 64 0 ++ (side ∷ 0 ∷ 0 ∷ 0 ∷ []); check = check; moves = moves }
+onEmpty side check moves =
+    record { board = replicate 64 0 ++ (side ∷ 0 ∷ 0 ∷ 0 ∷ []); half = side; full = 1; check = check; moves = moves }
 
 -- the bytes of a start with white to move and move 0 in its list
 abbrev pub startBytes : List ℕ
@@ -34,9 +35,15 @@ answered ps c = callAnswer noRoom [] ps 0 0 c
 abbrev pub allWrong : Position
 allWrong = onEmpty 0 2 (28672 ∷ [])
 
--- one that breaks 24: a pawn stands on a1
+-- those that break 24: a pawn stands on a1; no half-move is counted; the next move's number
 abbrev pub pawnMore : Position
-pawnMore = record { board = 1 ∷ replicate 63 0 ++ (1 ∷ 0 ∷ 0 ∷ 0 ∷ []); check = 0; moves = [] }
+pawnMore = record { board = 1 ∷ replicate 63 0 ++ (1 ∷ 0 ∷ 0 ∷ 0 ∷ []); half = 1; full = 1; check = 0; moves = [] }
+
+abbrev pub notCounted : Position
+notCounted = record { board = replicate 64 0 ++ (1 ∷ 0 ∷ 0 ∷ 0 ∷ []); half = 0; full = 1; check = 0; moves = [] }
+
+abbrev pub nextNumber : Position
+nextNumber = record { board = replicate 64 0 ++ (1 ∷ 0 ∷ 0 ∷ 0 ∷ []); half = 1; full = 2; check = 0; moves = [] }
 
 pub record ChecksInOrder : Type 0 where
   -- a part without a position: it is too short, is not a good log, and has no move to play
@@ -51,6 +58,8 @@ pub record ChecksInOrder : Type 0 where
   pub gives-6 : answered startBytes (makeMove 0 (onEmpty 0 0 (28672 ∷ []))) ≡ badList
   pub gives-12 : answered startBytes (makeMove 0 (onEmpty 0 0 [])) ≡ wrongSide
   pub gives-24 : answered startBytes (makeMove 0 pawnMore) ≡ wrongRecord
+  pub half-gives-24 : answered startBytes (makeMove 0 notCounted) ≡ wrongRecord
+  pub full-gives-24 : answered startBytes (makeMove 0 nextNumber) ≡ wrongRecord
   pub gives-13 : answered startBytes (makeMove 0 (onEmpty 1 0 [])) ≡ logFull
   -- for an offer or a resignation 5, 13; for the others 14 or 15, then 13
   pub offer-gives-5 : answered startBytes (offerDraw 2) ≡ outOfRange

@@ -8,9 +8,10 @@ use Prim.Native.Nat.{ℕ, suc, _+_, _*_}
 use lib.Dec.{eqb}
 use lib.ListN.{take}
 use Rattle.answer.specs.Answer.{accepted}
-use Rattle.move_rules.specs.After.{recordAfter}
+use Rattle.chess_move.specs.Number.{sourceOf, destOf}
+use Rattle.move_rules.specs.After.{recordAfter, halfAfter, fullAfter}
 use Rattle.action.specs.Layout.{actionSize}
-use Rattle.position.specs.Layout.{Position, positionSize}
+use Rattle.position.specs.Layout.{Position, side, positionSize}
 use Rattle.game_rules.specs.declared.Counts.{Counts}
 use Rattle.game_rules.specs.Limits.{Limits}
 use Rattle.game_rules.specs.Rules.{Call, makeMove, offerDraw, acceptDraw, declareDraw, resign}
@@ -95,10 +96,16 @@ AcceptedPlays = (L : Limits) (h : History) (acts ps : List ℕ) → longEnough L
     → AllAnswered0 L h acts ps
     × Holding (played L h acts ps .acts) (played L h acts ps .ps) (played L h acts ps .counts .actions) (played L h acts ps .counts .moves) h
 
--- order 9: "A logged move must then come with this record": so did each move of a history ..
+-- order 9: "A logged move must then come with this record"; order 12: and with its counters
+pub record WithItsRecord (p : Position) (m : ℕ) (q : Position) : Type 0 where
+  pub numbers : q .board ≡ recordAfter (p .board) m
+  pub half : q .half ≡ halfAfter (p .board) (p .half) (sourceOf m) (destOf m)
+  pub full : q .full ≡ fullAfter (side p) (p .full)
+
+-- so did each move of a history ..
 unfoldable pub Follows : History → Type 0
 Follows (begun p) = Unit {0}
-Follows (after h (makeMove m p)) = Follows h × (p .board ≡ recordAfter (current h .board) m)
+Follows (after h (makeMove m p)) = Follows h × WithItsRecord (current h) m p
 Follows (after h (offerDraw c)) = Follows h
 Follows (after h acceptDraw) = Follows h
 Follows (after h declareDraw) = Follows h
@@ -111,7 +118,7 @@ GoodLogsFollow = (L : Limits) (acts ps : List ℕ) (n m : ℕ) → Good L acts p
 -- .. and a move that is answered 0
 abbrev pub MovesComeWithTheirRecord : Type 0
 MovesComeWithTheirRecord = (L : Limits) (acts ps : List ℕ) (n m x : ℕ) (p : Position) → called L acts ps n m (makeMove x p) .counts .number ≡ 0
-    → p .board ≡ recordAfter (current (historyOf acts ps n) .board) x
+    → WithItsRecord (current (historyOf acts ps n)) x p
 
 -- two logs whose parts are long enough and agree on the used bytes
 pub record SameUsed (L : Limits) (acts bacts ps qs : List ℕ) (n m : ℕ) : Type 0 where

@@ -8,6 +8,7 @@ use Rattle.answer.specs.Answer.{notListed, gameOver, wrongSide, wrongRecord, lo
 use Rattle.answer.specs.Numbers.{same, among}
 use Rattle.chess_move.specs.Number.{moveOf}
 use Rattle.move_rules.specs.After.{recordAfter}
+use Rattle.move_rules.specs.Leads.{countersFrom}
 use Rattle.action.specs.declared.Action.{Action}
 use Rattle.action.specs.declared.Action.the-variants.{MakeMove, OfferDraw, AcceptDraw, DeclareDraw, Resign}
 use Rattle.action.specs.declared.Stored.{Stored}
@@ -128,9 +129,9 @@ unfoldable pub firstRefusal : List ℕ → ℕ
 firstRefusal [] = 0
 firstRefusal (a ∷ rest) = cond (eqb a 0) (firstRefusal rest) a
 
--- the record of a position is the one after a move from another
+-- the record of a position is the one after a move from another, its counters too
 abbrev pub comesAfter : Position → ℕ → Position → Bool
-comesAfter p m q = same (q .board) (recordAfter (p .board) m)
+comesAfter p m q = same (q .board) (recordAfter (p .board) m) && countersFrom (p .board) m (p .half) (p .full) (q .half) (q .full)
 
 -- a call's own checks: for a move 11, 5, 6, 12, 24; for an offer or a resignation 5; for the others 14 or 15
 abbrev pub ownChecks : History → Call → List ℕ

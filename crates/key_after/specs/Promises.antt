@@ -6,10 +6,9 @@ use Prim.Native.Nat.{ℕ, _≤_}
 use lib.ListN.{length}
 use Rattle.answer.specs.Answer.{outOfRange}
 use Rattle.board_builder.specs.declared.BoardBuilder.{BoardBuilder}
-use Rattle.fen_text.specs.Read.{readFen}
-use Rattle.fen_text.specs.Promises.{fenWriter, BackAgain}
+use Rattle.fen_text.specs.Promises.{cratePair, BackAgain}
 use Rattle.move_rules.specs.After.{afterAnswer}
 
 abbrev pub NextIsAKey : Type 0
 NextIsAKey = (b : BoardBuilder) (m : ℕ) (out : List ℕ) → (afterAnswer b m .number ≡ outOfRange → ⊥) → 85 ≤ length out
-    → BackAgain fenWriter readFen (afterAnswer b m .board) out
+    → BackAgain cratePair (afterAnswer b m .board) out
