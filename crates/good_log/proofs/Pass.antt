@@ -250,7 +250,7 @@ pass-end acts ps n m i k over r =
 
 -- a start whose record is out of range
 pub no-start : (acts ps : List ℕ) (n m : ℕ) → recordFits (item positionSize ps 0) ≡ false → isGood limits acts ps n m ≡ false
-unfolding sound recordFits
+unfolding sound
 no-start acts ps n m e = spoiled acts ps n m 0 zero-le (no-record (item positionSize ps 0) e)
 
 -- a move that may stand leads to a record in range

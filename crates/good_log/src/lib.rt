@@ -64,8 +64,8 @@ fn other_fits(acts: &[u8], ps: &[u8], i: usize, k: usize, stored: Stored) -> boo
     }
 }
 
-// Whether a position whose record is in range lists a move, and what stands after it has the record after the move, whose side is the other one. That
-// what stands there is a position is tested when a move leaves it.
+// Whether a position whose record is in range lists a move, and what stands after it has the record after the move, whose side is the other one,
+// and its counters. That what stands there is a position is tested when a move leaves it.
 fn move_leads(p: &[u8], m: u64, q: &[u8]) -> bool
     requires { ⌜ (m ≤ lastMove) × (recordFits (now p) ≡ true) ⌝ }
     ensures { λ r. ⌜ r ≡ moveLeads (now (p .entry)) m (now (q .entry)) ⌝ }
@@ -73,7 +73,17 @@ fn move_leads(p: &[u8], m: u64, q: &[u8]) -> bool
     if !stored_position::is_rest_with(p, m as u16) {
         return false;
     }
-    board_after::leads_to(p, m as u16, q)
+    if !board_after::leads_to(p, m as u16, q) {
+        return false;
+    }
+    board_after::counters_lead(
+        p,
+        m as u16,
+        stored_position::half_of(p),
+        stored_position::full_of(p),
+        stored_position::half_of(q),
+        stored_position::full_of(q),
+    )
 }
 
 // Whether move `x` was accepted as the next one, with `k` made before it and `m` in all. Whether the list before it was empty is not tested: no such list

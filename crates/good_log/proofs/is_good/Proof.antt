@@ -13,14 +13,6 @@ use Rattle.stored_position.specs.CodeParts.{recordFits}
 use Rattle.good_log.proofs.Pass.{Given, Reaching, pass-start, pass-end, leave-out, leave-on, leads-on, stay-out, stay-on, no-start}
 use Rattle.good_log.proofs.is_good.Statement.{statement}
 use Rattle.good_log.proofs.is_good.Tie as tie
-use Rattle.good_log.proofs.is_good.Reads as reads
-use Rattle.good_log.proofs.is_good.Lts as lts
-use Rattle.actions.proofs.move_at.Reads as move-at-reads
-use Rattle.good_log.proofs.move_may_stand.Reads as move-may-stand-reads
-use Rattle.good_log.proofs.other_may_stand.Reads as other-may-stand-reads
-use Rattle.position.proofs.at.Reads as at-reads
-use Rattle.stored_position.proofs.has_record.Reads as has-record-reads
-use Rattle.stored_position.proofs.is_position.Reads as is-position-reads
 
 abbrev Inv-loop : tie.InvT-loop
 Inv-loop acts ps n m k₀ i₀ k i = Reaching acts ps n m i k × (recordFits (item positionSize ps k) ≡ true)

@@ -2,13 +2,10 @@
 use borrow.Author.Needs.{needs}
 use mathlib.Core.Path.{sym, _∙_}
 use borrow.Author.Tests.{not-true, not-false}
-use Rattle.good_log.proofs.Turns.{no-lead, by-lead}
+use Rattle.move_rules.specs.Leads.{countersLead}
+use Rattle.good_log.proofs.Turns.{no-lead, other-record, by-counters}
 use Rattle.good_log.proofs.move_leads.Statement.{statement}
 use Rattle.good_log.proofs.move_leads.Tie as tie
-use Rattle.good_log.proofs.move_leads.Reads as reads
-use Rattle.good_log.proofs.move_leads.Lts as lts
-use Rattle.board_after.proofs.leads_to.Reads as leads-to-reads
-use Rattle.stored_position.proofs.is_rest_with.Reads as is-rest-with-reads
 
 cast-is-rest-with : tie.Need-cast-is-rest-with
 cast-is-rest-with c = search needs
@@ -33,13 +30,53 @@ leads-to-requires c κs = search needs
 
 returns-2 : tie.Need-returns-2
 returns-2 c =
-    let a = c .before .before .before .before .before .args in
-    let at-pre = c .before .before .before .before .before .pre in
-    let at-shared-slice-known = c .before .before .before .before .shared-slice-known in
-    let at-is-rest-with = c .before .before .is-rest-with in
-    c .leads-to .ensures
-    ∙ by-lead (a .p .now) (at-pre .1) (a .q .now) (a .m) (λ i. at-shared-slice-known .given i .fits)
-    (sym (at-is-rest-with .ensures) ∙ not-false (at-is-rest-with .result) (c .before .if1 .left))
+    let a = c .before .before .before .before .before .before .args in
+    let at-pre = c .before .before .before .before .before .before .pre in
+    let at-shared-slice-known = c .before .before .before .before .before .shared-slice-known in
+    let at-is-rest-with = c .before .before .before .is-rest-with in
+    let at-if1 = c .before .before .if1 in
+    let at-leads-to = c .before .leads-to in
+    other-record (a .p .now) (at-pre .1) (a .q .now) (a .m) (λ i. at-shared-slice-known .given i .fits)
+    (sym (at-is-rest-with .ensures) ∙ not-false (at-is-rest-with .result) (at-if1 .left))
+    (sym (at-leads-to .ensures) ∙ not-true (at-leads-to .result) (c .if2 .taken))
+
+cast-counters-lead : tie.Need-cast-counters-lead
+cast-counters-lead c = search needs
+
+half-of-requires : tie.Need-half-of-requires
+half-of-requires c κs = search needs
+
+full-of-requires : tie.Need-full-of-requires
+full-of-requires c κs = search needs
+
+half-of-requires-2 : tie.Need-half-of-requires-2
+half-of-requires-2 c κs = search needs
+
+full-of-requires-2 : tie.Need-full-of-requires-2
+full-of-requires-2 c κs = search needs
+
+counters-lead-requires : tie.Need-counters-lead-requires
+counters-lead-requires c κs = search needs
+
+returns-3 : tie.Need-returns-3
+returns-3 c =
+    let a = c .before .before .before .before .before .before .before .before .before .before .before .args in
+    let at-pre = c .before .before .before .before .before .before .before .before .before .before .before .pre in
+    let at-shared-slice-known = c .before .before .before .before .before .before .before .before .before .before .shared-slice-known in
+    let at-is-rest-with = c .before .before .before .before .before .before .before .before .is-rest-with in
+    let at-if1 = c .before .before .before .before .before .before .before .if1 in
+    let at-leads-to = c .before .before .before .before .before .before .leads-to in
+    let at-if2 = c .before .before .before .before .before .if2 in
+    let at-half-of = c .before .before .before .before .half-of in
+    let at-full-of = c .before .before .before .full-of in
+    let at-half-of2 = c .before .before .half-of2 in
+    let at-full-of2 = c .before .full-of2 in
+    let p = a .p .now in
+    c .counters-lead .ensures
+    ∙ (λ i. countersLead p (a .m) (at-half-of .ensures i) (at-full-of .ensures i) (at-half-of2 .ensures i) (at-full-of2 .ensures i))
+    ∙ by-counters p (at-pre .1) (a .q .now) (a .m) (λ i. at-shared-slice-known .given i .fits)
+    (sym (at-is-rest-with .ensures) ∙ not-false (at-is-rest-with .result) (at-if1 .left))
+    (sym (at-leads-to .ensures) ∙ not-false (at-leads-to .result) (at-if2 .left))
 
 pub move-leads-spec : {M : Type 1} → statement M
 move-leads-spec =
@@ -50,4 +87,11 @@ move-leads-spec =
     returns
     cast-leads-to
     leads-to-requires
-    returns-2)
+    returns-2
+    cast-counters-lead
+    half-of-requires
+    full-of-requires
+    half-of-requires-2
+    full-of-requires-2
+    counters-lead-requires
+    returns-3)

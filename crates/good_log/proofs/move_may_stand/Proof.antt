@@ -1,6 +1,6 @@
 -- `move_may_stand` of lib.rt meets its contract: r ≡ moveMayStand (now (ps .entry)) m k x.
 use borrow.Author.Needs.{needs}
-use mathlib.Core.Path.{ap, ap₂, sym, _∙_}
+use mathlib.Core.Path.{ap, ap₂, _∙_}
 use mathlib.Core.List.{List}
 use Prim.Native.Nat.{ℕ}
 use native.Mathlib.Numerals.{add-one}
@@ -9,10 +9,6 @@ use Rattle.stored_position.specs.CodeParts.{recordFits}
 use Rattle.good_log.specs.CodeSteps.{moveLeads}
 use Rattle.good_log.proofs.move_may_stand.Statement.{statement}
 use Rattle.good_log.proofs.move_may_stand.Tie as tie
-use Rattle.good_log.proofs.move_may_stand.Reads as reads
-use Rattle.good_log.proofs.move_may_stand.Lts as lts
-use Rattle.good_log.proofs.move_leads.Reads as move-leads-reads
-use Rattle.position.proofs.at.Reads as at-reads
 
 returns : tie.Need-returns
 returns c = rw (le-ltb (c .before .before .args .k) (c .before .before .args .m) (c .if1 .taken))
