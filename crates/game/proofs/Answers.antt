@@ -15,7 +15,7 @@ use Rattle.answer.specs.Parts.{item}
 use Rattle.answer.proofs.Numbers.{both-left, both-right}
 use Rattle.answer.proofs.Parts.{length-item}
 use Rattle.chess_move.specs.Number.{lastMove}
-use Rattle.board_builder.specs.BoardBuilder.{recordSize, numbersInRange}
+use Rattle.board_builder.specs.BoardBuilder.{recordSize, countersInRange, numbersInRange}
 use Rattle.move_rules.proofs.Records.{record-long}
 use Rattle.move_list.proofs.Listed.{listed-in-range}
 use Rattle.action.specs.declared.Action.{Action}
@@ -148,7 +148,9 @@ module _ (acts ps : List ℕ) (n m : ℕ) where
 
   record-in-range : openCheck acts ps n m ≡ 0 → numbersInRange (take recordSize (item positionSize ps m)) ≡ true
   unfolding positionOf
-  record-in-range h = board-fits (positionAt ps m) (here-in-range h)
+  record-in-range h =
+      both-right (countersInRange (positionAt ps m .half) (positionAt ps m .full)) (numbersInRange (take recordSize (item positionSize ps m)))
+      (board-fits (positionAt ps m) (here-in-range h))
 
   pub record-there : openCheck acts ps n m ≡ 0 → recordSize ≤ length (item positionSize ps m)
   record-there h = omega (arith, record-long (take recordSize (item positionSize ps m)) (record-in-range h), length-take recordSize (item positionSize ps m))

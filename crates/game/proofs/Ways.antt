@@ -16,8 +16,7 @@ use Rattle.answer.proofs.Numbers.{both-right}
 use Rattle.board_builder.specs.declared.BoardBuilder.{BoardBuilder}
 use Rattle.board_builder.specs.BoardBuilder.{squares, recordSize, sideAt, numbers}
 use Rattle.chess_move.specs.Number.{moveOf}
-use Rattle.move_rules.specs.Leads.{leadsToBoard}
-use Rattle.board_after.proofs.Tests.{from-record}
+use Rattle.move_rules.specs.Leads.{comesFrom, countersLead}
 use Rattle.action.specs.declared.Action.{Action}
 use Rattle.action.specs.declared.Action.the-variants.{MakeMove}
 use Rattle.action.specs.Layout.{actionSize, actionBytes}
@@ -38,7 +37,7 @@ use Rattle.game_rules.proofs.Checks.{first-refuses, first-passes, start-says}
 use Rattle.game_rules.proofs.Log.{result-is}
 use Rattle.game_rules.proofs.Rulings.{claim-is}
 use Rattle.game.proofs.Answers.{Ready, log-ready, move-is}
-use Rattle.game.specs.CodeAnswers.{openCheck, otherAnswer, otherCounts, otherActions}
+use Rattle.game.specs.CodeAnswers.{movesOnTo, openCheck, otherAnswer, otherCounts, otherActions}
 
 -- a check, found by its number
 pub refused-by : (a x : ℕ) (l : List ℕ) → x ≡ a → (x ≡ 0 → ⊥) → x ≡ firstRefusal (a ∷ l)
@@ -250,10 +249,10 @@ module _ (b : BoardBuilder) (check : ℕ) (list ps p : List ℕ) (m x : ℕ) (lo
 
 -- the record that is given, and the one after the move from the position in the log
 pub record-tells : (b : BoardBuilder) (check : ℕ) (list ps p : List ℕ) (m x : ℕ) (t : Bool) → p ≡ item positionSize ps m
-    → recordSize ≤ length (item positionSize ps m) → t ≡ leadsToBoard p x b → t ≡ comesAfter (positionAt ps m) x (positionGiven b check list)
-unfolding positionOf
+    → recordSize ≤ length (item positionSize ps m) → t ≡ movesOnTo p x b → t ≡ comesAfter (positionAt ps m) x (positionGiven b check list)
+unfolding positionOf movesOnTo comesFrom countersLead
 record-tells b check list ps p m x t here long e =
-    e ∙ ap (λ (s : List ℕ). leadsToBoard s x b) here ∙ sym (from-record (item positionSize ps m) x long (numbers b))
+    e ∙ ap (λ (s : List ℕ). movesOnTo s x b) here ∙ rw (le-leb recordSize (length (item positionSize ps m)) long)
 
 -- a start's checks: 16, then 5 or 6
 module _ (acts ps : List ℕ) (p : Position) where

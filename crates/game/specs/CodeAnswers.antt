@@ -1,11 +1,14 @@
--- The checks of the calls without a move, in their order, read off the bytes.
+-- The checks of the calls, in their order, read off the bytes.
 -- Assumes nothing.
-use mathlib.Core.Bool.{cond}
+use mathlib.Core.Bool.{Bool, cond, _&&_}
 use mathlib.Core.List.{List, [], _∷_}
 use Prim.Native.Nat.{ℕ, _+_, _*_}
 use lib.Dec.{eqb, ltb}
 use Rattle.answer.specs.Answer.{gameOver, logFull}
 use Rattle.answer.specs.Parts.{written}
+use Rattle.board_builder.specs.declared.BoardBuilder.{BoardBuilder}
+use Rattle.move_rules.specs.Leads.{leadsToBoard, countersLead}
+use Rattle.position.specs.Layout.{halfAt, fullAt, twoBytesAt}
 use Rattle.action.specs.declared.Action.{Action}
 use Rattle.action.specs.Layout.{actionSize, actionBytes}
 use Rattle.ending.specs.Ending.{resultAt}
@@ -14,6 +17,11 @@ use Rattle.game_rules.specs.Limits.{limits}
 use Rattle.game_rules.specs.Rules.{unless, firstRefusal}
 use Rattle.game_rules.specs.Calls.{logCheck, counts}
 use Rattle.good_log.specs.CodeSteps.{otherCheck}
+
+-- a board is the one after a move from the record at the front of some bytes, its counters too
+unfoldable pub movesOnTo : List ℕ → ℕ → BoardBuilder → Bool
+movesOnTo p m next =
+    leadsToBoard p m next && countersLead p m (twoBytesAt p halfAt) (twoBytesAt p fullAt) (next .«half_moves») (next .«full_moves»)
 
 -- 16, 9, 10
 unfoldable pub openCheck : List ℕ → List ℕ → ℕ → ℕ → ℕ

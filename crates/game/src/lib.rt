@@ -29,7 +29,7 @@ ghost use Rattle.stored_position.specs.Bytes.{positionBytes, positionCheck, pos
 ghost use Rattle.game_rules.specs.Limits.{limits};
 ghost use Rattle.game_rules.specs.Rules.{makeMove, offerDraw, acceptDraw, declareDraw, resign};
 ghost use Rattle.game_rules.specs.Calls.{callAnswer, counts, countsAfter, actionsAfter, positionsAfter, startAnswer, positionsBegun, resultAnswer, claimAnswer};
-ghost use Rattle.game.specs.CodeAnswers.{openCheck, otherAnswer, otherCounts, otherActions};
+ghost use Rattle.game.specs.CodeAnswers.{movesOnTo, openCheck, otherAnswer, otherCounts, otherActions};
 
 fn counts(number: u64, n: usize, m: usize) -> Counts
     ensures { λ r. ⌜ r ≡ counts number n m ⌝ }
@@ -136,6 +136,23 @@ pub fn resign(acts: &mut [u8], ps: &[u8], n: u64, m: u64, colour: u8) -> Counts
     act(acts, ps, n as usize, m as usize, Action::Resign(colour))
 }
 
+// Whether a board is the one after move `x` from the record at the front of `p`, its counters too.
+fn moves_on_to(p: &[u8], x: u16, next: BoardBuilder) -> bool
+    ensures { λ r. ⌜ r ≡ movesOnTo (now (p .entry)) x next ⌝ }
+{
+    if !board_after::leads_to_board(p, x, next) {
+        return false;
+    }
+    board_after::counters_lead(
+        p,
+        x,
+        stored_position::half_of(p),
+        stored_position::full_of(p),
+        next.half_moves,
+        next.full_moves,
+    )
+}
+
 // Then 11, 5, 6, 12, 24, 13 for a move `x` that leads to the position of `next`, `in_check` and `list`.
 fn move_answer(
     acts: &[u8],
@@ -164,7 +181,7 @@ fn move_answer(
     if next.side_to_move == answer::byte_at(p, SIDE_AT) {
         return WRONG_SIDE;
     }
-    if !board_after::leads_to_board(p, x as u16, next) {
+    if !moves_on_to(p, x as u16, next) {
         return WRONG_RECORD;
     }
     if MAX_ACTIONS <= n {

@@ -5,24 +5,15 @@ use borrow.Author.Needs.{needs, length-unmapped}
 use mathlib.Core.Path.{_≡_, ap, sym, _∙_}
 use mathlib.Core.List.{List}
 use native.Mathlib.Omega.{arith}
-use Prim.Native.Nat.{ℕ, _≤_}
+use Prim.Native.Nat.{ℕ}
 use lib.ListN.{length}
 use borrow.Author.Tests.{not-true, not-false}
-use Rattle.chess_move.specs.Number.{lastMove}
 use Rattle.position.specs.Layout.{Position}
 use Rattle.stored_position.specs.Bytes.{positionGiven, listsMove}
 use Rattle.game.proofs.Answers.{record-there, listed-number}
 use Rattle.game.proofs.Ways as ways
 use Rattle.game.proofs.move_answer.Statement.{statement}
 use Rattle.game.proofs.move_answer.Tie as tie
-use Rattle.game.proofs.move_answer.Reads as reads
-use Rattle.game.proofs.move_answer.Lts as lts
-use Rattle.board_after.proofs.leads_to_board.Reads as leads-to-board-reads
-use Rattle.game.proofs.open_check.Reads as open-check-reads
-use Rattle.position.proofs.at.Reads as at-reads
-use Rattle.answer.proofs.byte_at.Reads as byte-at-reads
-use Rattle.stored_position.proofs.check.Reads as check-reads
-use Rattle.stored_position.proofs.lists.Reads as lists-reads
 
 open-check-requires : tie.Need-open-check-requires
 open-check-requires c κs = search needs
@@ -92,8 +83,8 @@ returns-4 c =
     ways.move-wrong-side (a .acts .now) (a .ps .now) (a .n) (a .m) (a .x)
     (at-open-check .result) q (at-open-check .ensures) (at-if1 .left) listed (at-check .result) (at-check .ensures) (at-if3 .left) same-side
 
-cast-leads-to-board : tie.Need-cast-leads-to-board
-cast-leads-to-board c =
+cast-moves-on-to : tie.Need-cast-moves-on-to
+cast-moves-on-to c =
     let a = c .before .before .before .before .before .before .before .before .before .before .before .before .before .args in
     let at-open-check = c .before .before .before .before .before .before .before .before .before .open-check in
     let at-if1 = c .before .before .before .before .before .before .before .before .if1 in
@@ -104,8 +95,8 @@ cast-leads-to-board c =
     let n = listed-number (a .acts .now) (a .ps .now) (a .n) (a .m) (a .x) (sym (at-open-check .ensures) ∙ at-if1 .left) listed in
     omega arith
 
-leads-to-board-requires : tie.Need-leads-to-board-requires
-leads-to-board-requires c κs = search needs
+moves-on-to-requires : tie.Need-moves-on-to-requires
+moves-on-to-requires c κs = search needs
 
 returns-5 : tie.Need-returns-5
 returns-5 c =
@@ -122,15 +113,15 @@ returns-5 c =
     let at-if3 = c .before .before .before .before .before .if3 in
     let at-byte-at = c .before .before .before .before .byte-at in
     let at-if4 = c .before .before .if4 in
-    let at-leads-to-board = c .before .leads-to-board in
+    let at-moves-on-to = c .before .moves-on-to in
     let q : Position = positionGiven (a .next) (a .in-check) (a .list .now) in
     let listed = ap (λ (s : List ℕ). listsMove s (a .x)) (sym (at-at .ensures)) ∙ sym (at-lists .ensures) ∙ not-false (at-lists .result) (at-if2 .left) in
     let other-side = ways.other-side (a .next) (a .in-check) (a .list .now) (a .ps .now) (at-at .result .now) (a .m) (at-byte-at .result) long
     (at-at .ensures) (at-byte-at .ensures) (at-if4 .left) in
     let there = record-there (a .acts .now) (a .ps .now) (a .n) (a .m) (sym (at-open-check .ensures) ∙ at-if1 .left) in
-    let tells = ways.record-tells (a .next) (a .in-check) (a .list .now) (a .ps .now) (at-at .result .now) (a .m) (a .x) (at-leads-to-board .result)
-    (at-at .ensures) there (at-leads-to-board .ensures) in
-    let not-after = sym tells ∙ not-true (at-leads-to-board .result) (c .if5 .taken) in
+    let tells = ways.record-tells (a .next) (a .in-check) (a .list .now) (a .ps .now) (at-at .result .now) (a .m) (a .x) (at-moves-on-to .result)
+    (at-at .ensures) there (at-moves-on-to .ensures) in
+    let not-after = sym tells ∙ not-true (at-moves-on-to .result) (c .if5 .taken) in
     ways.move-wrong-record (a .acts .now) (a .ps .now) (a .n) (a .m) (a .x)
     (at-open-check .result) q (at-open-check .ensures) (at-if1 .left) listed (at-check .result) (at-check .ensures) (at-if3 .left) other-side not-after
 
@@ -149,15 +140,15 @@ returns-6 c =
     let at-if3 = c .before .before .before .before .before .before .if3 in
     let at-byte-at = c .before .before .before .before .before .byte-at in
     let at-if4 = c .before .before .before .if4 in
-    let at-leads-to-board = c .before .before .leads-to-board in
+    let at-moves-on-to = c .before .before .moves-on-to in
     let q : Position = positionGiven (a .next) (a .in-check) (a .list .now) in
     let listed = ap (λ (s : List ℕ). listsMove s (a .x)) (sym (at-at .ensures)) ∙ sym (at-lists .ensures) ∙ not-false (at-lists .result) (at-if2 .left) in
     let other-side = ways.other-side (a .next) (a .in-check) (a .list .now) (a .ps .now) (at-at .result .now) (a .m) (at-byte-at .result) long
     (at-at .ensures) (at-byte-at .ensures) (at-if4 .left) in
     let there = record-there (a .acts .now) (a .ps .now) (a .n) (a .m) (sym (at-open-check .ensures) ∙ at-if1 .left) in
-    let tells = ways.record-tells (a .next) (a .in-check) (a .list .now) (a .ps .now) (at-at .result .now) (a .m) (a .x) (at-leads-to-board .result)
-    (at-at .ensures) there (at-leads-to-board .ensures) in
-    let follows = sym tells ∙ not-false (at-leads-to-board .result) (c .before .if5 .left) in
+    let tells = ways.record-tells (a .next) (a .in-check) (a .list .now) (a .ps .now) (at-at .result .now) (a .m) (a .x) (at-moves-on-to .result)
+    (at-at .ensures) there (at-moves-on-to .ensures) in
+    let follows = sym tells ∙ not-false (at-moves-on-to .result) (c .before .if5 .left) in
     ways.move-full (a .acts .now) (a .ps .now) (a .n) (a .m) (a .x)
     (at-open-check .result) q (at-open-check .ensures) (at-if1 .left) listed
     (at-check .result) (at-check .ensures) (at-if3 .left) other-side follows (c .if6 .taken)
@@ -177,16 +168,16 @@ returns-7 c =
     let at-if3 = c .before .before .before .before .before .before .before .if3 in
     let at-byte-at = c .before .before .before .before .before .before .byte-at in
     let at-if4 = c .before .before .before .before .if4 in
-    let at-leads-to-board = c .before .before .before .leads-to-board in
+    let at-moves-on-to = c .before .before .before .moves-on-to in
     let at-if5 = c .before .before .if5 in
     let q : Position = positionGiven (a .next) (a .in-check) (a .list .now) in
     let listed = ap (λ (s : List ℕ). listsMove s (a .x)) (sym (at-at .ensures)) ∙ sym (at-lists .ensures) ∙ not-false (at-lists .result) (at-if2 .left) in
     let other-side = ways.other-side (a .next) (a .in-check) (a .list .now) (a .ps .now) (at-at .result .now) (a .m) (at-byte-at .result) long
     (at-at .ensures) (at-byte-at .ensures) (at-if4 .left) in
     let there = record-there (a .acts .now) (a .ps .now) (a .n) (a .m) (sym (at-open-check .ensures) ∙ at-if1 .left) in
-    let tells = ways.record-tells (a .next) (a .in-check) (a .list .now) (a .ps .now) (at-at .result .now) (a .m) (a .x) (at-leads-to-board .result)
-    (at-at .ensures) there (at-leads-to-board .ensures) in
-    let follows = sym tells ∙ not-false (at-leads-to-board .result) (at-if5 .left) in
+    let tells = ways.record-tells (a .next) (a .in-check) (a .list .now) (a .ps .now) (at-at .result .now) (a .m) (a .x) (at-moves-on-to .result)
+    (at-at .ensures) there (at-moves-on-to .ensures) in
+    let follows = sym tells ∙ not-false (at-moves-on-to .result) (at-if5 .left) in
     ways.move-no-place (a .acts .now) (a .ps .now) (a .n) (a .m) (a .x)
     (at-open-check .result) q (at-open-check .ensures) (at-if1 .left) listed
     (at-check .result) (at-check .ensures) (at-if3 .left) other-side follows (c .before .if6 .left) (c .if7 .taken)
@@ -206,16 +197,16 @@ returns-8 c =
     let at-if3 = c .before .before .before .before .before .before .before .if3 in
     let at-byte-at = c .before .before .before .before .before .before .byte-at in
     let at-if4 = c .before .before .before .before .if4 in
-    let at-leads-to-board = c .before .before .before .leads-to-board in
+    let at-moves-on-to = c .before .before .before .moves-on-to in
     let at-if5 = c .before .before .if5 in
     let q : Position = positionGiven (a .next) (a .in-check) (a .list .now) in
     let listed = ap (λ (s : List ℕ). listsMove s (a .x)) (sym (at-at .ensures)) ∙ sym (at-lists .ensures) ∙ not-false (at-lists .result) (at-if2 .left) in
     let other-side = ways.other-side (a .next) (a .in-check) (a .list .now) (a .ps .now) (at-at .result .now) (a .m) (at-byte-at .result) long
     (at-at .ensures) (at-byte-at .ensures) (at-if4 .left) in
     let there = record-there (a .acts .now) (a .ps .now) (a .n) (a .m) (sym (at-open-check .ensures) ∙ at-if1 .left) in
-    let tells = ways.record-tells (a .next) (a .in-check) (a .list .now) (a .ps .now) (at-at .result .now) (a .m) (a .x) (at-leads-to-board .result)
-    (at-at .ensures) there (at-leads-to-board .ensures) in
-    let follows = sym tells ∙ not-false (at-leads-to-board .result) (at-if5 .left) in
+    let tells = ways.record-tells (a .next) (a .in-check) (a .list .now) (a .ps .now) (at-at .result .now) (a .m) (a .x) (at-moves-on-to .result)
+    (at-at .ensures) there (at-moves-on-to .ensures) in
+    let follows = sym tells ∙ not-false (at-moves-on-to .result) (at-if5 .left) in
     ways.move-passed (a .acts .now) (a .ps .now) (a .n) (a .m) (a .x)
     (at-open-check .result) q (at-open-check .ensures) (at-if1 .left) listed
     (at-check .result) (at-check .ensures) (at-if3 .left) other-side follows (c .before .if6 .left) (c .if7 .left)
@@ -233,8 +224,8 @@ move-answer-spec =
     returns-3
     byte-at-requires
     returns-4
-    cast-leads-to-board
-    leads-to-board-requires
+    cast-moves-on-to
+    moves-on-to-requires
     returns-5
     returns-6
     returns-7
