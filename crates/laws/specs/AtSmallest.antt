@@ -11,7 +11,7 @@ use Rattle.laws.specs.Laws.{lawsCount}
 
 -- a man on a1, another on b1, and white's rights
 abbrev pub onA1AndB1 : ℕ → ℕ → ℕ → Position
-onA1AndB1 a1 b1 rights = record { board = a1 ∷ b1 ∷ (replicate 62 0 ++ (0 ∷ rights ∷ 0 ∷ 0 ∷ [])); check = 0; moves = [] }
+onA1AndB1 a1 b1 rights = record { board = a1 ∷ b1 ∷ (replicate 62 0 ++ (0 ∷ rights ∷ 0 ∷ 0 ∷ [])); half = 0; full = 1; check = 0; moves = [] }
 
 -- from a1 to b1
 abbrev pub a1b1 : ℕ

@@ -12,7 +12,7 @@ use Rattle.laws.specs.Laws.{lawsClaimStands}
 
 -- the side to move, and the list
 abbrev pub place : ℕ → List ℕ → Position
-place side list = record { board = replicate 64 0 ++ (side ∷ 0 ∷ 0 ∷ 0 ∷ []); check = 0; moves = list }
+place side list = record { board = replicate 64 0 ++ (side ∷ 0 ∷ 0 ∷ 0 ∷ []); half = 0; full = 1; check = 0; moves = list }
 
 abbrev pub asBefore : List ℕ
 asBefore = 0 ∷ 1 ∷ []

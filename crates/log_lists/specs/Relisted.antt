@@ -11,7 +11,7 @@ Host = List ℕ → List ℕ
 
 -- a position with that host's list in place of its own
 abbrev pub listed : Host → Position → Position
-listed host p = record { board = p .board; check = p .check; moves = host (p .board) }
+listed host p = record { board = p .board; half = p .half; full = p .full; check = p .check; moves = host (p .board) }
 
 abbrev pub callRelisted : Host → Call → Call
 callRelisted host (makeMove m p) = makeMove m (listed host p)
