@@ -1,4 +1,4 @@
-pub mod Letters
+pub mod Signs
 pub mod Rows
 pub mod Ranks
 pub mod Parts

@@ -1,19 +1,16 @@
 -- Laws of the ranks from the eighth down, with those that are left.
 -- Assumes nothing.
 use mathlib.Core.Path.{_≡_, refl, sym, ap, _∙_}
-use mathlib.Core.Bool.{true, cond}
+use mathlib.Core.Bool.{cond}
 use mathlib.Core.List.{List, [], _∷_, _++_, append-nil, append-assoc}
-use Prim.Native.Nat.{ℕ, zero, suc, _+_, _-_, _*_, _≤_, _<_}
+use Prim.Native.Nat.{ℕ, zero, suc, _+_, _-_, _≤_, _<_}
 use native.Mathlib.Omega.{arith}
 use lib.Dec.{ltb}
-use lib.ListN.{length, take, drop, length-append}
+use lib.ListN.{length, take, length-append}
 use borrow.Author.Tests.{lt-ltb}
-use Rattle.answer.specs.Numbers.{allAtMost}
 use Rattle.fen_text.specs.Write.{runText, rowOf, slashText, ranksText}
-use Rattle.fen_writer.specs.CodeLetters.{lettersOn, rowText}
 use Rattle.answer.specs.CodePushed.{Put}
-use Rattle.answer.proofs.Pushes.{put-both, put-as}
-use Rattle.fen_writer.proofs.Letters.{rank-run}
+use Rattle.answer.proofs.Pushes.{put-both}
 
 -- the first n bytes and the text of the ranks that are left make the whole, in number and in bytes
 pub record Ranks (pieces new : List ℕ) (n left : ℕ) : Type 0 where
@@ -40,29 +37,21 @@ next left pieces h =
     let whole : left ≡ suc (left - 1) = omega arith in
     ap (λ (m : ℕ). ranksText m pieces) whole ∙ above (left - 1) pieces
 
--- a rank's row, by the letters
-rank-as : (pieces letters : List ℕ) (from : ℕ) {old mid : List ℕ} {n m : ℕ} → letters ≡ lettersOn pieces → allAtMost 12 pieces ≡ true
-    → Put 91 old n (rowText 0 (take 8 (drop from letters))) mid m → Put 91 old n (runText 0 (take 8 (drop from pieces))) mid m
-rank-as pieces letters from e ok p = put-as (ap (λ (l : List ℕ). rowText 0 (take 8 (drop from l))) e ∙ rank-run from pieces ok) p
-
 -- behind a rank there is room for what is left
-pub ranks-room : {pieces old mid : List ℕ} {n m left : ℕ} (letters : List ℕ)
-    → Ranks pieces old n left → 0 < left → letters ≡ lettersOn pieces → allAtMost 12 pieces ≡ true
-    → Put 91 old n (rowText 0 (take 8 (drop ((left - 1) * 8) letters))) mid m → m ≤ length (ranksText 8 pieces)
-ranks-room {pieces} {left = left} letters r h e ok p =
-    let q = rank-as pieces letters ((left - 1) * 8) e ok p in
-    omega (arith, r .count, q .pushed .count, simp length-append at (ap length (next left pieces h)))
+pub ranks-room : {pieces old mid : List ℕ} {n m left : ℕ} → Ranks pieces old n left → 0 < left
+    → Put 91 old n (runText 0 (rowOf (left - 1) pieces)) mid m → m ≤ length (ranksText 8 pieces)
+ranks-room {pieces} {left = left} r h p =
+    omega (arith, r .count, p .pushed .count, simp length-append at (ap length (next left pieces h)))
 
 -- one rank, and a slash where there are ranks below it
-pub ranks-turn : {pieces old mid new : List ℕ} {n m r left : ℕ} (letters : List ℕ)
-    → Ranks pieces old n left → 0 < left → letters ≡ lettersOn pieces → allAtMost 12 pieces ≡ true
-    → Put 91 old n (rowText 0 (take 8 (drop ((left - 1) * 8) letters))) mid m → Put 91 mid m (cond (ltb 0 (left - 1)) (47 ∷ []) []) new r
+pub ranks-turn : {pieces old mid new : List ℕ} {n m r left : ℕ} → Ranks pieces old n left → 0 < left
+    → Put 91 old n (runText 0 (rowOf (left - 1) pieces)) mid m → Put 91 mid m (cond (ltb 0 (left - 1)) (47 ∷ []) []) new r
     → Ranks pieces new r (left - 1)
-ranks-turn {pieces} {old} {new = new} {n} {r = r} {left} letters a h e ok p q =
+ranks-turn {pieces} {old} {new = new} {n} {r = r} {left} a h p q =
     let row = runText 0 (rowOf (left - 1) pieces) in
     let part : List ℕ = cond (ltb 0 (left - 1)) (47 ∷ []) [] in
     let below = ranksText (left - 1) pieces in
-    let both : Put 91 old n (row ++ part) new r = put-both (rank-as pieces letters ((left - 1) * 8) e ok p) q in
+    let both : Put 91 old n (row ++ part) new r = put-both p q in
     record {
       count =
           omega (

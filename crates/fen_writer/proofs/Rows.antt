@@ -10,11 +10,11 @@ use lib.Dec.{eqb, ltb}
 use lib.ListN.{length, take, drop, getD, set, length-append, length-take, length-drop, length-set, drop-of-length-le}
 use lib.Seq.{take-suc-set, take-take, take-at, drop-cons, append-snoc, getD-take, getD-drop}
 use borrow.Author.Tests.{eq-eqb, ne-eqb, eqb-true, eqb-false, lt-ltb, le-ltb}
-use Rattle.fen_text.specs.Write.{digitText}
+use Rattle.square.specs.Piece.{letterOf}
+use Rattle.fen_text.specs.Write.{digitText, runText}
 use Rattle.fen_text.proofs.Cases.{cond-both}
-use Rattle.fen_writer.specs.CodeLetters.{rowText}
 use Rattle.answer.specs.CodePushed.{Put}
-use Rattle.fen_writer.proofs.Letters.{row-empty, row-letter}
+use Rattle.fen_writer.proofs.Signs.{row-empty, row-letter}
 
 -- with i squares behind and a run of `run` open: the first n bytes are what is done and the run's digit, and what is done and what is left
 -- make the whole
@@ -23,7 +23,7 @@ pub record Row (old : List ℕ) (at : ℕ) (row new : List ℕ) (n run i : ℕ) 
   pub long : length new ≡ 91
   pub fits : n ≤ 91
   pub bytes : take n new ≡ done ++ digitText run
-  pub rest : done ++ rowText run (drop i row) ≡ take at old ++ rowText 0 row
+  pub rest : done ++ runText run (drop i row) ≡ take at old ++ runText 0 row
 
 no-digit : (n : ℕ) → n ≡ 0 → digitText n ≡ []
 unfolding digitText
@@ -42,15 +42,15 @@ row-start old at row e h = record {
   rest = refl;
 }
 
-row-over : (n i : ℕ) (row : List ℕ) → length row ≤ i → rowText n (drop i row) ≡ digitText n
-unfolding rowText
+row-over : (n i : ℕ) (row : List ℕ) → length row ≤ i → runText n (drop i row) ≡ digitText n
+unfolding runText
 row-over n i row h = rw (drop-of-length-le row h)
 
 pub row-end : {old row new : List ℕ} {at n run i : ℕ} → Row old at row new n run i → length old ≡ 91 → at ≤ 91 → length row ≤ i
-    → Put 91 old at (rowText 0 row) new n
+    → Put 91 old at (runText 0 row) new n
 row-end {old} {row} {new} {at} {n} {run} {i} r e h k =
-    let whole : take n new ≡ take at old ++ rowText 0 row = r .bytes ∙ ap (λ (l : List ℕ). r .done ++ l) (sym (row-over run i row k)) ∙ r .rest in
-    let count : n ≡ at + length (rowText 0 row) = omega (arith, simp (length-append, length-take) at (ap length whole)) in
+    let whole : take n new ≡ take at old ++ runText 0 row = r .bytes ∙ ap (λ (l : List ℕ). r .done ++ l) (sym (row-over run i row k)) ∙ r .rest in
+    let count : n ≡ at + length (runText 0 row) = omega (arith, simp (length-append, length-take) at (ap length whole)) in
     record { pushed = record { count = count; bytes = whole }; long = r .long }
 
 -- a store behind the n bytes, and one over the last of them
@@ -72,11 +72,11 @@ over new done n b v h e =
     rw (place, last) (take-suc-set new m v low ∙ ap (λ (l : List ℕ). l ++ (v ∷ [])) front)
 
 -- the text from a square on, by what stands there
-row-next : (run i : ℕ) (row : List ℕ) → i < length row → getD row i 0 ≡ 0 → rowText (run + 1) (drop (i + 1) row) ≡ rowText run (drop i row)
+row-next : (run i : ℕ) (row : List ℕ) → i < length row → getD row i 0 ≡ 0 → runText (run + 1) (drop (i + 1) row) ≡ runText run (drop i row)
 row-next run i row k e = rw (add-one i, drop-cons row i 0 k) (sym (row-empty run (getD row i 0) (drop (suc i) row) e))
 
 row-piece : (run i : ℕ) (row : List ℕ) → i < length row → (getD row i 0 ≡ 0 → ⊥)
-    → digitText run ++ (getD row i 0 ∷ rowText 0 (drop (i + 1) row)) ≡ rowText run (drop i row)
+    → digitText run ++ (letterOf (getD row i 0) ∷ runText 0 (drop (i + 1) row)) ≡ runText run (drop i row)
 row-piece run i row k e = rw (add-one i, drop-cons row i 0 k) (sym (row-letter run (getD row i 0) (drop (suc i) row) e))
 
 -- an iteration at an empty square, with no run open and with one, and an iteration at a letter
@@ -106,10 +106,10 @@ turn-more {old} {row} {new} {at} {n} {run} {i} r h k e z =
     }
 
 turn-letter : {old row new : List ℕ} {at n run i : ℕ} → Row old at row new n run i → n < 91 → i < length row → (getD row i 0 ≡ 0 → ⊥)
-    → Row old at row (set new (n + 1 - 1) (getD row i 0)) (n + 1) 0 (i + 1)
+    → Row old at row (set new (n + 1 - 1) (letterOf (getD row i 0))) (n + 1) 0 (i + 1)
 turn-letter {old} {row} {new} {at} {n} {run} {i} r h k e =
-    let l = getD row i 0 in
-    let left = rowText 0 (drop (i + 1) row) in
+    let l = letterOf (getD row i 0) in
+    let left = runText 0 (drop (i + 1) row) in
     record {
       done = r .done ++ digitText run ++ (l ∷ []);
       long = length-set new _ _ ∙ r .long;
@@ -147,7 +147,7 @@ count-least {n = n} {run = run} r l next m e f = go (eqb run 0) refl
 
 -- the iteration, by what the three small functions give
 pub row-turn : {old row new : List ℕ} {at n run i : ℕ} → Row old at row new n run i → n < 91 → i < length row → (l next m b : ℕ) → l ≡ getD row i 0
-    → next ≡ cond (eqb l 0) (run + 1) 0 → m ≡ cond (ltb 1 next) n (n + 1) → b ≡ cond (eqb l 0) (48 + next) l
+    → next ≡ cond (eqb l 0) (run + 1) 0 → m ≡ cond (ltb 1 next) n (n + 1) → b ≡ cond (eqb l 0) (48 + next) (letterOf l)
     → Row old at row (set new (m - 1) b) m next (i + 1)
 row-turn {old} {row} {new} {at} {n} {run} {i} r h k l next m b s e f g = go (eqb l 0) (eqb run 0) refl refl
   where
@@ -170,12 +170,12 @@ row-turn {old} {row} {new} {at} {n} {run} {i} r h k l next m b s e f g = go (eqb
         let none : next ≡ 0 = e ∙ rw p in
         let low : next ≤ 1 = omega arith in
         let count : m ≡ n + 1 = f ∙ rw (le-ltb 1 next low) in
-        let byte : b ≡ getD row i 0 = g ∙ rw p s in
+        let byte : b ≡ letterOf (getD row i 0) = g ∙ rw p (ap letterOf s) in
         rw (byte, count, none) (turn-letter r h k (λ z. eqb-false l 0 p (s ∙ z)))
 
--- the row of a rank: eight squares of the letters
-pub row-long : (letters : List ℕ) (from : ℕ) → length letters ≡ 64 → from < 57 → length (take 8 (drop from letters)) ≡ 8
-row-long letters from e h = simp (length-take, length-drop) (omega arith)
+-- the row of a rank: eight squares of the board
+pub row-long : (pieces : List ℕ) (from : ℕ) → length pieces ≡ 64 → from < 57 → length (take 8 (drop from pieces)) ≡ 8
+row-long pieces from e h = simp (length-take, length-drop) (omega arith)
 
-pub row-at : (letters : List ℕ) (from i : ℕ) → i < 8 → getD letters (from + i) 0 ≡ getD (take 8 (drop from letters)) i 0
-row-at letters from i h = sym (getD-take 8 (drop from letters) i 0 h ∙ getD-drop from letters i 0)
+pub row-at : (pieces : List ℕ) (from i : ℕ) → i < 8 → getD pieces (from + i) 0 ≡ getD (take 8 (drop from pieces)) i 0
+row-at pieces from i h = sym (getD-take 8 (drop from pieces) i 0 h ∙ getD-drop from pieces i 0)

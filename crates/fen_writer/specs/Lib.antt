@@ -1,1 +1,1 @@
-pub mod CodeLetters
+pub mod CodeSigns

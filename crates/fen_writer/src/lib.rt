@@ -14,11 +14,12 @@ pub fn write_fen(board: BoardBuilder, out: &mut [u8]) -> Answer
     ensures answer { λ r. ⌜ r ≡ writeAnswer (fenCheck board) (fenText board) (length (now (out .entry))) ⌝ }
     ensures bytes { λ r. ⌜ now (out .exit) ≡ writeBytes (fenCheck board) (fenText board) (now (out .entry)) ⌝ }
 {
+    let pieces = board.pieces;
     if !board.in_range() {
         return answer::refused(OUT_OF_RANGE);
     }
     let mut bytes = [0u8; 91];
-    let length = text::fen_text(&mut bytes, board);
+    let length = text::fen_text(&mut bytes, &pieces, board);
     answer::write_text(&bytes[..length], out)
 }
 
@@ -27,10 +28,11 @@ pub fn write_full(board: BoardBuilder, out: &mut [u8]) -> Answer
     ensures answer { λ r. ⌜ r ≡ writeAnswer (fenCheck board) (fullText board) (length (now (out .entry))) ⌝ }
     ensures bytes { λ r. ⌜ now (out .exit) ≡ writeBytes (fenCheck board) (fullText board) (now (out .entry)) ⌝ }
 {
+    let pieces = board.pieces;
     if !board.in_range() {
         return answer::refused(OUT_OF_RANGE);
     }
     let mut bytes = [0u8; 91];
-    let length = text::full_text(&mut bytes, board);
+    let length = text::full_text(&mut bytes, &pieces, board);
     answer::write_text(&bytes[..length], out)
 }

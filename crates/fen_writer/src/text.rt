@@ -4,14 +4,14 @@ use board_builder::BoardBuilder;
 ghost use mathlib.Core.Path.{_≡_};
 ghost use mathlib.Core.Bool.{true, cond};
 ghost use mathlib.Core.List.{[], _∷_, _++_};
-ghost use Prim.Native.Nat.{_+_, _≤_, _<_};
+ghost use Prim.Native.Nat.{_+_, _%_, _≤_, _<_};
 ghost use lib.Dec.{eqb, ltb};
 ghost use lib.ListN.{length, take, drop};
 ghost use Rattle.answer.specs.Numbers.{allAtMost};
 ghost use Rattle.decimal.specs.Decimal.{decimal};
 ghost use Rattle.board_builder.specs.BoardBuilder.{lastCount, inRange};
-ghost use Rattle.fen_text.specs.Write.{sideLetter, rightsText, enPassantText, ranksText, tailWith, fenText, fullText};
-ghost use Rattle.fen_writer.specs.CodeLetters.{lettersOn, rowText};
+ghost use Rattle.fen_text.specs.Write.{sideLetter, rightsText, enPassantText, runText, ranksText, tailWith, fenText, fullText};
+ghost use Rattle.fen_writer.specs.CodeSigns.{signOf};
 ghost use Rattle.answer.specs.CodePushed.{Put};
 
 fn push(bytes: &mut [u8; 91], n: usize, b: u8) -> usize
@@ -34,31 +34,37 @@ fn push_if(bytes: &mut [u8; 91], n: usize, there: bool, b: u8) -> usize
     n
 }
 
-// The letter of each square, 0 where it is empty.
-fn letters_of(pieces: &[u8; 64], letters: &mut [u8; 64])
-    requires { ⌜ length (now pieces) ≡ 64 ⌝ }
-    requires { ⌜ length (now letters) ≡ 64 ⌝ }
-    ensures { λ r. ⌜ now (letters .exit) ≡ lettersOn (now (pieces .entry)) ⌝ }
+// What the byte of a square starts from: the letter of its piece, or the digit 0 of an empty square, to which the run is added. Each of the sixteen
+// remainders has an arm, so that this is one look into a table, with no test of the code before it.
+fn sign_of(piece: u8) -> u8
+    ensures { λ r. ⌜ r ≡ signOf (piece % 16) ⌝ }
 {
-    let mut i: usize = 0;
-    while i < 64 {
-        letters[i] = square::letter_of_piece(pieces[i]);
-        i += 1;
+    match piece % 16 {
+        0 => b'0',
+        1 => b'P',
+        2 => b'N',
+        3 => b'B',
+        4 => b'R',
+        5 => b'Q',
+        6 => b'K',
+        7 => b'p',
+        8 => b'n',
+        9 => b'b',
+        10 => b'r',
+        11 => b'q',
+        12 => b'k',
+        13 => 0,
+        14 => 0,
+        15 => 0,
+        _ => 0,
     }
 }
 
-fn run_after(run: u8, letter: u8) -> u8
+fn run_after(run: u8, piece: u8) -> u8
     requires { ⌜ run < 8 ⌝ }
-    ensures { λ r. ⌜ r ≡ cond (eqb letter 0) (run + 1) 0 ⌝ }
+    ensures { λ r. ⌜ r ≡ cond (eqb piece 0) (run + 1) 0 ⌝ }
 {
-    if letter == 0 { run + 1 } else { 0 }
-}
-
-fn byte_of(run: u8, letter: u8) -> u8
-    requires { ⌜ run < 9 ⌝ }
-    ensures { λ r. ⌜ r ≡ cond (eqb letter 0) (48 + run) letter ⌝ }
-{
-    if letter == 0 { b'0' + run } else { letter }
+    if piece == 0 { run + 1 } else { 0 }
 }
 
 fn length_after(n: usize, run: u8) -> usize
@@ -69,39 +75,39 @@ fn length_after(n: usize, run: u8) -> usize
 }
 
 // One rank: the eight squares from `from` on.
-fn rank(bytes: &mut [u8; 91], at: usize, letters: &[u8; 64], from: usize) -> usize
+fn rank(bytes: &mut [u8; 91], at: usize, pieces: &[u8; 64], from: usize) -> usize
     requires { ⌜ length (now bytes) ≡ 91 ⌝ }
     requires { ⌜ at < 77 ⌝ }
-    requires { ⌜ length (now letters) ≡ 64 ⌝ }
+    requires { ⌜ length (now pieces) ≡ 64 ⌝ }
+    requires { ⌜ allAtMost 12 (now pieces) ≡ true ⌝ }
     requires { ⌜ from < 57 ⌝ }
-    ensures { λ r. ⌜ Put 91 (now (bytes .entry)) at (rowText 0 (take 8 (drop from (now (letters .entry))))) (now (bytes .exit)) r ⌝ }
+    ensures { λ r. ⌜ Put 91 (now (bytes .entry)) at (runText 0 (take 8 (drop from (now (pieces .entry))))) (now (bytes .exit)) r ⌝ }
 {
     let mut n = at;
     let mut run: u8 = 0;
     let mut i: usize = 0;
     while i < 8 {
-        let letter = letters[from + i];
-        run = run_after(run, letter);
+        let piece = pieces[from + i];
+        run = run_after(run, piece);
         n = length_after(n, run);
-        bytes[n - 1] = byte_of(run, letter);
+        bytes[n - 1] = sign_of(piece) + run;
         i += 1;
     }
     n
 }
 
 // The ranks from the eighth down.
-fn ranks(bytes: &mut [u8; 91], pieces: [u8; 64]) -> usize
+fn ranks(bytes: &mut [u8; 91], pieces: &[u8; 64]) -> usize
     requires { ⌜ length (now bytes) ≡ 91 ⌝ }
-    requires { ⌜ allAtMost 12 pieces ≡ true ⌝ }
-    ensures { λ r. ⌜ Put 91 (now (bytes .entry)) 0 (ranksText 8 pieces) (now (bytes .exit)) r ⌝ }
+    requires { ⌜ length (now pieces) ≡ 64 ⌝ }
+    requires { ⌜ allAtMost 12 (now pieces) ≡ true ⌝ }
+    ensures { λ r. ⌜ Put 91 (now (bytes .entry)) 0 (ranksText 8 (now (pieces .entry))) (now (bytes .exit)) r ⌝ }
 {
-    let mut letters = [0u8; 64];
-    letters_of(&pieces, &mut letters);
     let mut n: usize = 0;
     let mut left: usize = 8;
     while 0 < left {
         left -= 1;
-        n = rank(bytes, n, &letters, left * 8);
+        n = rank(bytes, n, pieces, left * 8);
         n = push_if(bytes, n, 0 < left, b'/');
     }
     n
@@ -170,13 +176,13 @@ fn tail(bytes: &mut [u8; 91], at: usize, board: BoardBuilder) -> usize
     en_passant(bytes, e, board.side_to_move, board.en_passant)
 }
 
-// All but the counters.
-fn place(bytes: &mut [u8; 91], board: BoardBuilder) -> usize
+// All but the counters. The pieces are the record's own, lent, since a copy of them made just before the loop is slow to read.
+fn place(bytes: &mut [u8; 91], pieces: &[u8; 64], board: BoardBuilder) -> usize
     requires { ⌜ length (now bytes) ≡ 91 ⌝ }
+    requires { ⌜ now pieces ≡ board .pieces ⌝ }
     requires { ⌜ inRange board ≡ true ⌝ }
     ensures { λ r. ⌜ Put 91 (now (bytes .entry)) 0 (ranksText 8 (board .pieces) ++ tailWith board []) (now (bytes .exit)) r × (r ≤ 81) ⌝ }
 {
-    let pieces = board.pieces;
     let n = ranks(bytes, pieces);
     tail(bytes, n, board)
 }
@@ -195,12 +201,13 @@ fn counter(bytes: &mut [u8; 91], at: usize, n: u16) -> usize
 }
 
 // The record's text, at the start of the bytes.
-pub(crate) fn fen_text(bytes: &mut [u8; 91], board: BoardBuilder) -> usize
+pub(crate) fn fen_text(bytes: &mut [u8; 91], pieces: &[u8; 64], board: BoardBuilder) -> usize
     requires { ⌜ length (now bytes) ≡ 91 ⌝ }
+    requires { ⌜ now pieces ≡ board .pieces ⌝ }
     requires { ⌜ inRange board ≡ true ⌝ }
     ensures { λ r. ⌜ Put 91 (now (bytes .entry)) 0 (fenText board) (now (bytes .exit)) r ⌝ }
 {
-    let a = place(bytes, board);
+    let a = place(bytes, pieces, board);
     let b = push(bytes, a, b' ');
     let c = push(bytes, b, b'0');
     let d = push(bytes, c, b' ');
@@ -208,12 +215,13 @@ pub(crate) fn fen_text(bytes: &mut [u8; 91], board: BoardBuilder) -> usize
 }
 
 // The same with its own counters.
-pub(crate) fn full_text(bytes: &mut [u8; 91], board: BoardBuilder) -> usize
+pub(crate) fn full_text(bytes: &mut [u8; 91], pieces: &[u8; 64], board: BoardBuilder) -> usize
     requires { ⌜ length (now bytes) ≡ 91 ⌝ }
+    requires { ⌜ now pieces ≡ board .pieces ⌝ }
     requires { ⌜ inRange board ≡ true ⌝ }
     ensures { λ r. ⌜ Put 91 (now (bytes .entry)) 0 (fullText board) (now (bytes .exit)) r ⌝ }
 {
-    let a = place(bytes, board);
+    let a = place(bytes, pieces, board);
     let b = push(bytes, a, b' ');
     let c = counter(bytes, b, board.half_moves);
     let d = push(bytes, c, b' ');

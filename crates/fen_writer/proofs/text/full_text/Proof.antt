@@ -17,7 +17,7 @@ push-requires c κs = search needs
 
 counter-requires : tie.Need-counter-requires
 counter-requires c κs =
-    let r = in-range (c .before .before .before .before .before .args .board) (c .before .before .before .before .before .pre .1) .counters in
+    let r = in-range (c .before .before .before .before .before .args .board) (c .before .before .before .before .before .pre .1 .1) .counters in
     (c .before .push .ensures .long, (omega (arith, c .before .push .ensures .pushed .count), r .half-most))
 
 push-requires-2 : tie.Need-push-requires-2
@@ -25,7 +25,7 @@ push-requires-2 c κs =
     let a = c .before .before .before .before .before .before .before .args in
     let at-pre = c .before .before .before .before .before .before .before .pre in
     let at-counter = c .before .counter in
-    let r = in-range (a .board) (at-pre .1) .counters in
+    let r = in-range (a .board) (at-pre .1 .1) .counters in
     (at-counter .ensures .long, omega (arith, at-counter .ensures .pushed .count, count-few (a .board .«half_moves») (r .half-most)))
 
 counter-requires-2 : tie.Need-counter-requires-2
@@ -34,7 +34,7 @@ counter-requires-2 c κs =
     let at-pre = c .before .before .before .before .before .before .before .before .before .pre in
     let at-counter = c .before .before .before .counter in
     let at-push2 = c .before .push2 in
-    let r = in-range (a .board) (at-pre .1) .counters in
+    let r = in-range (a .board) (at-pre .1 .1) .counters in
     (at-push2 .ensures .long, (omega (arith, at-counter .ensures .pushed .count, count-few (a .board .«half_moves») (r .half-most)), r .full-most))
 
 returns : tie.Need-returns

@@ -1,35 +1,21 @@
--- The invariant: the n bytes so far and the text of the `left` lowest ranks are the text of all eight. It is stated for any board that has these letters,
--- since the loop holds the letters alone. Assumes nothing.
+-- The invariant: the n bytes so far and the text of the `left` lowest ranks are the text of all eight. Assumes nothing.
 use borrow.Author.Needs.{needs}
 use native.Mathlib.Omega.{arith}
-use mathlib.Core.Path.{_≡_, ap, _∙_}
-use mathlib.Core.Bool.{true}
-use mathlib.Core.List.{List}
-use Prim.Native.Nat.{ℕ, _≤_}
-use lib.ListN.{length}
+use Prim.Native.Nat.{_≤_}
 use lib.Dec.{lit<, lit≤}
-use Rattle.answer.specs.Numbers.{allAtMost}
 use Rattle.fen_text.proofs.Lengths.{ranks-long}
-use Rattle.fen_writer.specs.CodeLetters.{lettersOn}
-use Rattle.fen_writer.proofs.Letters.{letters-long}
 use Rattle.fen_writer.proofs.Ranks.{Ranks, ranks-start, ranks-turn, ranks-room, ranks-end}
 use Rattle.fen_writer.proofs.text.ranks.Statement.{statement}
 use Rattle.fen_writer.proofs.text.ranks.Tie as tie
 
 abbrev Inv-loop : tie.InvT-loop
-Inv-loop bytes₀ letters n₀ left₀ bytes n left =
-    (left ≤ 8) × ((pieces : List ℕ) → letters ≡ lettersOn pieces → allAtMost 12 pieces ≡ true → Ranks pieces bytes n left)
+Inv-loop bytes₀ pieces n₀ left₀ bytes n left = (left ≤ 8) × Ranks pieces bytes n left
 
 abbrev μ-loop : tie.MeasureT-loop
-μ-loop bytes₀ letters n₀ left₀ bytes n left = left
-
-letters-of-requires : tie.Need-letters-of-requires Inv-loop μ-loop
-letters-of-requires c κs = (search needs, search needs)
+μ-loop bytes₀ pieces n₀ left₀ bytes n left = left
 
 loop-holds : tie.Need-loop-holds Inv-loop μ-loop
-loop-holds c =
-    let s = c .before .before .before in
-    (lit≤ tt, λ pieces e ok. ranks-start pieces (s .args .bytes .now) (s .pre .0))
+loop-holds c = (lit≤ tt, ranks-start (c .args .pieces .now) (c .args .bytes .now) (c .pre .0))
 
 sub-left : tie.Need-sub-left Inv-loop μ-loop
 sub-left c = search needs
@@ -39,40 +25,28 @@ mul-rank c = search needs
 
 rank-requires : tie.Need-rank-requires Inv-loop μ-loop
 rank-requires c κs =
-    let s = c .before .before .before .before .before .before .before in
-    let pieces = s .args .t2 in
-    let long : length pieces ≡ 64 = search needs in
-    let made = c .before .before .before .before .letters-of .ensures in
-    let r = c .before .before .before .loop .inv .1 pieces made (s .pre .1) in
-    let room = ranks-long 7 pieces long (lit< tt) in
-    (r .long, (omega arith, (ap length made ∙ letters-long pieces ∙ long, omega arith)))
+    let r = c .before .before .loop .inv .1 in
+    let room = ranks-long 7 (c .before .before .before .args .pieces .now) (c .before .before .before .pre .1 .0) (lit< tt) in
+    (r .long, (omega (arith, r .count, room .high), (c .before .before .before .pre .1 .0, (c .before .before .before .pre .1 .1, omega arith))))
 
 push-if-requires : tie.Need-push-if-requires Inv-loop μ-loop
 push-if-requires c κs =
-    let s = c .before .before .before .before .before .before .before .before .before in
-    let pieces = s .args .t2 in
-    let long : length pieces ≡ 64 = search needs in
-    let made = c .before .before .before .before .before .before .letters-of .ensures in
-    let r = c .before .before .before .before .before .loop .inv .1 pieces made (s .pre .1) in
-    let room = ranks-long 7 pieces long (lit< tt) in
-    let most = ranks-room _ r (c .before .before .before .before .loop-test .taken) made (s .pre .1) (c .before .rank .ensures) in
-    (c .before .rank .ensures .long, omega arith)
+    let room = ranks-long 7 (c .before .before .before .before .before .args .pieces .now) (c .before .before .before .before .before .pre .1 .0) (lit< tt) in
+    let most = ranks-room (c .before .before .before .before .loop .inv .1) (c .before .before .before .loop-test .taken) (c .before .rank .ensures) in
+    (c .before .rank .ensures .long, omega (arith, room .high, most))
 
 loop-less : tie.Need-loop-less Inv-loop μ-loop
 loop-less c = search needs
 
 loop-again : tie.Need-loop-again Inv-loop μ-loop
 loop-again c =
-    let s = c .before .before .before .before .before in
-    let row = c .before .before .rank .ensures in
-    let slash = c .push-if .ensures in
-    (omega arith, λ pieces e ok. ranks-turn _ (s .before .loop .inv .1 pieces e ok) (s .loop-test .taken) e ok row slash)
+    let at-loop = c .before .before .before .before .before .loop in
+    let at-loop-test = c .before .before .before .before .loop-test in
+    let at-rank = c .before .before .rank in
+    (omega arith, ranks-turn (at-loop .inv .1) (at-loop-test .taken) (at-rank .ensures) (c .push-if .ensures))
 
 returns : tie.Need-returns Inv-loop μ-loop
-returns c =
-    let s = c .before .before .before .before .before in
-    let r = c .before .loop .inv .1 (s .args .t2) (c .before .before .letters-of .ensures) (s .pre .1) in
-    ranks-end r (c .loop-test .left) (s .args .bytes .now)
+returns c = ranks-end (c .before .loop .inv .1) (c .loop-test .left) (c .before .before .args .bytes .now)
 
 pub ranks-spec : {M : Type 1} → statement M
 ranks-spec =
@@ -80,7 +54,6 @@ ranks-spec =
     (tie.spec
     Inv-loop
     μ-loop
-    letters-of-requires
     loop-holds
     sub-left
     mul-rank
