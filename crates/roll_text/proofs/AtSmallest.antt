@@ -7,10 +7,11 @@ use Rattle.board_builder.specs.BoardBuilder.{inRange, numbers}
 use Rattle.action.specs.Layout.{actionOf}
 use Rattle.actions.specs.Part.{movesIn, actionsHeld}
 use Rattle.roll_text.specs.Number.{groups, behind, readGroups}
-use Rattle.roll_text.specs.Roll.{largestNumbers, numbersText, actionsText, rollText, isCode, putNumber, oneNumber, readNumbers, movedBy, coded}
-use Rattle.roll_text.specs.Roll.{putAction, nextAction, readActions, withActions, withCount, withFront, readRoll}
-use Rattle.roll_text.specs.Calls.{rollAnswer, judged, writeCheck}
-use Rattle.roll_text.specs.AtSmallest.{NumbersAtSmallest, ReadingAtSmallest, WritingAtSmallest}
+use Rattle.roll_text.specs.Roll.{largestNumbers, numbersText, countsText, actionsText, textBy, isCode, putNumber, oneNumber, readNumbers}
+use Rattle.roll_text.specs.Roll.{fullBy, halfBy, readCounters, movedBy, coded}
+use Rattle.roll_text.specs.Roll.{putAction, nextAction, readActions, withActions, withCount, withCounts, withFront, readBy}
+use Rattle.roll_text.specs.Calls.{rollAnswer, judgedBy, writeCheck}
+use Rattle.roll_text.specs.AtSmallest.{NumbersAtSmallest, ReadingAtSmallest, OldReadingAtSmallest, WritingAtSmallest}
 
 pub numbers-at-smallest : NumbersAtSmallest
 unfolding groups behind readGroups
@@ -18,13 +19,19 @@ numbers-at-smallest =
     record { one-group = refl; lowest-first = refl; reads = refl; cut-short = refl; needless = refl; six-groups = refl }
 
 pub reading-at-smallest : ReadingAtSmallest
-unfolding behind readGroups largestNumbers isCode putNumber oneNumber readNumbers movedBy coded putAction nextAction readActions withActions withCount withFront
-    readRoll rollAnswer judged
+unfolding behind readGroups largestNumbers isCode putNumber oneNumber readNumbers movedBy coded putAction nextAction readActions withActions withCount
+    withCounts withFront fullBy halfBy readCounters readBy rollAnswer judgedBy
 reading-at-smallest =
     record {
       gives-16 = refl;
       gives-5 = refl;
       shortest-before-5 = refl;
+      clock-most = refl;
+      clock-gives-5 = refl;
+      clock-shortest-before-5 = refl;
+      move-number-zero = refl;
+      move-number-most = refl;
+      move-number-gives-5 = refl;
       count-gives-13 = refl;
       shortest-before-13 = refl;
       move-gives-13 = refl;
@@ -34,7 +41,23 @@ reading-at-smallest =
       accepted = refl;
     }
 
+pub old-reading-at-smallest : OldReadingAtSmallest
+unfolding behind readGroups largestNumbers isCode putNumber oneNumber readNumbers movedBy coded putAction nextAction readActions withActions withCount
+    withCounts withFront fullBy halfBy readCounters readBy rollAnswer judgedBy
+old-reading-at-smallest =
+    record { accepted = refl; is-not-new = refl; new-is-not-old = refl; begins = refl; counted = refl; both-old = refl; both-new = refl }
+
 pub writing-at-smallest : WritingAtSmallest
-unfolding writeAnswer allAtMost inRange numbers actionOf movesIn actionsHeld groups numbersText actionsText rollText writeCheck
+unfolding writeAnswer allAtMost inRange numbers actionOf movesIn actionsHeld groups numbersText countsText actionsText textBy writeCheck
 writing-at-smallest =
-    record { gives-16 = refl; gives-5 = refl; count-gives-13 = refl; move-gives-13 = refl; gives-17 = refl; gives-7 = refl; accepted = refl }
+    record {
+      gives-16 = refl;
+      gives-5 = refl;
+      count-gives-13 = refl;
+      move-gives-13 = refl;
+      gives-17 = refl;
+      gives-7 = refl;
+      accepted = refl;
+      counters-two-groups = refl;
+      counters-gives-7 = refl;
+    }

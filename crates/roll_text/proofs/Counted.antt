@@ -1,7 +1,7 @@
 -- The text, the moves and the actions held of a part are those of the bytes that its count takes: what stands behind them is not looked at.
 -- Assumes nothing.
 use mathlib.Core.Path.{_≡_, refl, ap, sym, _∙_}
-use mathlib.Core.Bool.{Bool, _&&_}
+use mathlib.Core.Bool.{Bool, true, _&&_}
 use mathlib.Core.List.{List, [], _∷_, _++_}
 use Prim.Native.Nat.{ℕ, zero, suc, _+_, _*_, _≤_}
 use native.Mathlib.Omega.{arith}
@@ -11,7 +11,7 @@ use Rattle.action.specs.Layout.{actionSize}
 use Rattle.actions.specs.Part.{actionsHeld, movesIn}
 use Rattle.actions.specs.CodeCount.{oneIfMove}
 use Rattle.roll_text.specs.Number.{numberText}
-use Rattle.roll_text.specs.Roll.{actionText, actionsText, numbersText, rollText}
+use Rattle.roll_text.specs.Roll.{Start, actionText, actionsText, numbersText, countsText, textBy, rollText}
 use Rattle.roll_text.proofs.ByFields.{actionInRange, actionsInRange, movesAmong, held-in-range, as-many-moves}
 
 text-counted : (n : ℕ) (xs ys : List ℕ) → length xs ≡ actionSize * n → actionsText n (xs ++ ys) ≡ actionsText n xs
@@ -51,9 +51,9 @@ module _ (n : ℕ) (xs ys : List ℕ) (h : length xs ≡ actionSize * n) where
   there : actionSize * n ≤ length (xs ++ ys)
   there = omega (arith, h, length-append xs ys)
 
-  pub roll-counted : (numbers : List ℕ) → rollText numbers n (xs ++ ys) ≡ rollText numbers n xs
-  unfolding rollText
-  roll-counted numbers = ap (λ (t : List ℕ). numbersText numbers ++ (numberText n ++ t)) (text-counted n xs ys h)
+  pub roll-counted : (st : Start) → rollText st n (xs ++ ys) ≡ rollText st n xs
+  unfolding textBy
+  roll-counted st = ap (λ (t : List ℕ). numbersText (st .numbers) ++ (countsText true st ++ (numberText n ++ t))) (text-counted n xs ys h)
 
   pub held-counted : actionsHeld (xs ++ ys) n ≡ actionsHeld xs n
   held-counted = held-in-range n (xs ++ ys) there ∙ range-counted n xs ys h ∙ sym (held-in-range n xs here)

@@ -98,7 +98,7 @@ move-back move rest h =
     ∙ ap (movedBy (length (numberText 2))) (d .number)
     ∙ moved-small (length (numberText 2)) move (length (numberText move)) h)
 
-behind-both : (a b rest : List ℕ) → drop (length a + length b) (a ++ (b ++ rest)) ≡ rest
+pub behind-both : (a b rest : List ℕ) → drop (length a + length b) (a ++ (b ++ rest)) ≡ rest
 behind-both a b rest = lib.Seq.drop-append-add a (b ++ rest) (length b) ∙ lib.Seq.drop-append-seam b rest
 
 pub next-move : (left : ℕ) (s : List ℕ) (move size : ℕ) (go : ℕ → List ℕ → Acts) → nextAction (Move move size) left s go ≡ putAction (fields 1 0 move) (go

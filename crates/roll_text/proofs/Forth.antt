@@ -9,6 +9,8 @@ use lib.Dec.{eqb, leb}
 use lib.ListN.{length, drop}
 use lib.Seq.{drop-drop}
 use borrow.Author.Tests.{le-leb, leb-true, ne-eqb, eqb-true, eqb-false}
+use Rattle.board_builder.specs.BoardBuilder.{lastCount, countersInRange}
+use Rattle.board_builder.proofs.Ranges.{counters-hold}
 use Rattle.answer.specs.Numbers.{allAtMost}
 use Rattle.answer.specs.Answer.{outOfRange, logFull, badRoll}
 use Rattle.answer.proofs.Numbers.{most-cons, most-drop}
@@ -16,20 +18,21 @@ use Rattle.chess_move.specs.Number.{lastMove}
 use Rattle.action.specs.Layout.{actionSize, fields}
 use Rattle.game_rules.specs.Limits.{Limits}
 use Rattle.actions.specs.Part.{movesIn, actionsHeld}
-use Rattle.actions.specs.CodeCount.{oneIfMove}
 use Rattle.roll_text.specs.declared.Number.{Number}
 use Rattle.roll_text.specs.declared.Number.the-variants.{Got, Bad}
 use Rattle.roll_text.specs.declared.Entry.{Entry}
 use Rattle.roll_text.specs.declared.Entry.the-variants.{Move, Plain, Stop}
+use Rattle.roll_text.specs.declared.Counters.{Counters}
+use Rattle.roll_text.specs.declared.Counters.the-variants.{Counts, Wrong}
 use Rattle.roll_text.specs.Number.{numberText, readNumber}
 use Rattle.roll_text.specs.Roll.{Front, stopped, front, Acts, halted}
-use Rattle.roll_text.specs.Roll.{acts, refusal, rolled, largestNumbers, withinBounds}
-use Rattle.roll_text.specs.Roll.{numbersText, actionText, actionsText, rollText}
+use Rattle.roll_text.specs.Roll.{Start, startFits, acts, refusal, rolled, largestNumbers, withinBounds}
+use Rattle.roll_text.specs.Roll.{numbersText, countsText, actionText, actionsText, textBy}
 use Rattle.roll_text.specs.Roll.{isCode, putNumber, oneNumber, readNumbers, movedBy}
 use Rattle.roll_text.specs.Roll.{coded, readEntry, putAction, nextAction, readActions}
-use Rattle.roll_text.specs.Roll.{withActions, withCount, withFront, readRoll}
+use Rattle.roll_text.specs.Roll.{withActions, withCount, withCounts, withFront, readBy, fullBy, halfBy, readCounters}
 use Rattle.roll_text.proofs.ByFields.{moveInRange, actionInRange, actionsInRange, movesAmong, held-in-range, as-many-moves}
-use Rattle.roll_text.specs.Promises.{WrittenBack, AcceptedWrittenBack, OneRoll, OneGame}
+use Rattle.roll_text.specs.Promises.{formed, WrittenBack, AcceptedWrittenBack, OneRoll, OneGame}
 use Rattle.roll_text.proofs.Numbers.{accepted-is-shortest}
 use Rattle.roll_text.proofs.Entries.{code-range}
 use Rattle.roll_text.proofs.Back.{rolls-read-back}
@@ -66,12 +69,12 @@ one-number most (Got x size) s go numbers rest e = by (leb x most) refl
         let g : stopped outOfRange ≡ front numbers rest = simp f at e in
         let z : _≡_ {A = ℕ} 0 1 = cc in absurd (omega arith)
 
-record Fronted (ms s numbers rest : List ℕ) : Type 0 where
-  within : withinBounds ms numbers ≡ true
-  text : s ≡ numbersText numbers ++ rest
-  bytes : allAtMost 255 rest ≡ true
+pub record Fronted (ms s numbers rest : List ℕ) : Type 0 where
+  pub within : withinBounds ms numbers ≡ true
+  pub text : s ≡ numbersText numbers ++ rest
+  pub bytes : allAtMost 255 rest ≡ true
 
-numbers-forth : (ms s numbers rest : List ℕ) → allAtMost 255 s ≡ true → readNumbers ms s ≡ front numbers rest → Fronted ms s numbers rest
+pub numbers-forth : (ms s numbers rest : List ℕ) → allAtMost 255 s ≡ true → readNumbers ms s ≡ front numbers rest → Fronted ms s numbers rest
 unfolding readNumbers withinBounds numbersText
 numbers-forth [] s numbers rest small e =
     let a : numbers ≡ [] = cc in
@@ -87,6 +90,84 @@ numbers-forth (m ∷ ms) s numbers rest small e =
       text = p .text ∙ ap (λ (l : List ℕ). numberText (o .first) ++ l) (r .text) ∙ sym (append-assoc (numberText (o .first)) (numbersText (o .others)) rest);
       bytes = r .bytes;
     })
+
+-- ---- the counters
+
+record FullBy (size : ℕ) (x : Number) (full all : ℕ) : Type 0 where
+  more : ℕ
+  is : x ≡ Got full more
+  least : 1 ≤ full
+  most : full ≤ lastCount
+  whole : all ≡ size + more
+
+-- the clock is the one that was read
+full-by : (half size : ℕ) (x : Number) (clock full all : ℕ) → fullBy half size x ≡ Counts clock full all → (half ≡ clock) × FullBy size x full all
+unfolding fullBy
+full-by half size Bad clock full all e = let z : _≡_ {A = ℕ} 0 1 = cc in absurd (omega arith)
+full-by half size (Got f more) clock full all e = by (eqb f 0) (leb f lastCount) refl refl
+  where
+    by : (t u : Bool) → eqb f 0 ≡ t → leb f lastCount ≡ u → (half ≡ clock) × FullBy size (Got f more) full all
+    by true u p q =
+        let g : Wrong outOfRange ≡ Counts clock full all = simp p at e in
+        let z : _≡_ {A = ℕ} 0 1 = cc in absurd (omega arith)
+    by false false p q =
+        let g : Wrong outOfRange ≡ Counts clock full all = simp (p, q) at e in
+        let z : _≡_ {A = ℕ} 0 1 = cc in absurd (omega arith)
+    by false true p q =
+        let g : Counts half f (size + more) ≡ Counts clock full all = simp (p, q) at e in
+        let a : f ≡ full = cc in
+        let b : all ≡ size + more = cc in
+        let c : half ≡ clock = cc in
+        let some = eqb-false f 0 p in
+        let h = leb-true f lastCount q in
+        (c, record { more = more; is = ap (λ (i : ℕ). Got i more) a; least = omega (arith, a, some); most = omega (arith, a, h); whole = b })
+
+record HalfBy (s : List ℕ) (x : Number) (half full all : ℕ) : Type 0 where
+  size : ℕ
+  is : x ≡ Got half size
+  most : half ≤ lastCount
+  number : FullBy size (readNumber (drop size s)) full all
+
+half-by : (s : List ℕ) (x : Number) (half full all : ℕ) → halfBy s x ≡ Counts half full all → HalfBy s x half full all
+unfolding halfBy
+half-by s Bad half full all e = let z : _≡_ {A = ℕ} 0 1 = cc in absurd (omega arith)
+half-by s (Got h size) half full all e = by (leb h lastCount) refl
+  where
+    by : (t : Bool) → leb h lastCount ≡ t → HalfBy s (Got h size) half full all
+    by true p =
+        let (a, f) = full-by h size (readNumber (drop size s)) half full all (simp p at e) in
+        record { size = size; is = ap (λ (i : ℕ). Got i size) a; most = omega (arith, a, leb-true h lastCount p); number = f }
+    by false p =
+        let g : Wrong outOfRange ≡ Counts half full all = simp p at e in
+        let z : _≡_ {A = ℕ} 0 1 = cc in absurd (omega arith)
+
+record CountersForth (counted : Bool) (s : List ℕ) (st : Start) (size : ℕ) : Type 0 where
+  counters : countersInRange (st .half) (st .full) ≡ true
+  form : formed counted st ≡ true
+  text : s ≡ countsText counted st ++ drop size s
+
+counters-forth : (counted : Bool) (s : List ℕ) (st : Start) (size : ℕ) → allAtMost 255 s ≡ true
+    → readCounters counted s ≡ Counts (st .half) (st .full) size → CountersForth counted s st size
+unfolding readCounters countsText formed
+counters-forth true s st size small e =
+    let o = half-by s (readNumber s) (st .half) (st .full) size e in
+    let m = o .number in
+    let p = accepted-is-shortest s (st .half) (o .size) small (o .is) in
+    let q = accepted-is-shortest (drop (o .size) s) (st .full) (m .more) (most-drop (o .size) 255 s small) (m .is) in
+    let d : drop (m .more) (drop (o .size) s) ≡ drop size s = drop-drop (m .more) (o .size) s ∙ ap (λ (i : ℕ). drop i s) (sym (m .whole)) in
+    record {
+      counters = counters-hold (st .half) (st .full) (record { half-most = o .most; full-least = m .least; full-most = m .most });
+      form = refl;
+      text =
+          p .text
+          ∙ ap (λ (l : List ℕ). numberText (st .half) ++ l) (q .text ∙ ap (λ (l : List ℕ). numberText (st .full) ++ l) d)
+          ∙ sym (append-assoc (numberText (st .half)) (numberText (st .full)) (drop size s));
+    }
+counters-forth false s st size small e =
+    let half : st .half ≡ 0 = cc in
+    let full : st .full ≡ 1 = cc in
+    let none : size ≡ 0 = cc in
+    record { counters = rw (half, full) refl; form = rw (half, full) refl; text = rw none refl }
 
 -- ---- an action
 
@@ -302,62 +383,93 @@ actions-forth (suc n) left s bs small e = by (readEntry (eqb left 0) s) refl (λ
 
 -- ---- the roll
 
-record Ended (L : Limits) (numbers : List ℕ) (x : Number) (s all : List ℕ) (n : ℕ) (bs : List ℕ) : Type 0 where
+record Ended (L : Limits) (st : Start) (x : Number) (s : List ℕ) (all : Start) (n : ℕ) (bs : List ℕ) : Type 0 where
   size : ℕ
   is : x ≡ Got n size
   few : n ≤ L .most-actions
-  start : all ≡ numbers
+  start : all ≡ st
   actions : readActions n (L .most-moves) (drop size s) ≡ acts bs
 
-with-actions : (L : Limits) (numbers : List ℕ) (m size : ℕ) (s : List ℕ) (x : Acts) (all : List ℕ) (n : ℕ) (bs : List ℕ) → m ≤ L .most-actions
-    → readActions m (L .most-moves) (drop size s) ≡ x → withActions numbers m x ≡ rolled all n bs → Ended L numbers (Got m size) s all n bs
+with-actions : (L : Limits) (st : Start) (m size : ℕ) (s : List ℕ) (x : Acts) (all : Start) (n : ℕ) (bs : List ℕ) → m ≤ L .most-actions
+    → readActions m (L .most-moves) (drop size s) ≡ x → withActions st m x ≡ rolled all n bs → Ended L st (Got m size) s all n bs
 unfolding withActions
-with-actions L numbers m size s (halted k) all n bs h f e = let z : _≡_ {A = ℕ} 0 1 = cc in absurd (omega arith)
-with-actions L numbers m size s (acts cs) all n bs h f e =
+with-actions L st m size s (halted k) all n bs h f e = let z : _≡_ {A = ℕ} 0 1 = cc in absurd (omega arith)
+with-actions L st m size s (acts cs) all n bs h f e =
     let a : m ≡ n = cc in
     let b : cs ≡ bs = cc in
-    let d : all ≡ numbers = cc in
+    let d : all ≡ st = cc in
     record { size = size; is = ap (λ (i : ℕ). Got i size) a; few = omega arith; start = d; actions = rw a at (f ∙ ap acts b) }
 
-with-count : (L : Limits) (numbers : List ℕ) (x : Number) (s all : List ℕ) (n : ℕ) (bs : List ℕ) → withCount L numbers x s ≡ rolled all n bs → Ended L
-    numbers x s all n bs
+with-count : (L : Limits) (st : Start) (x : Number) (s : List ℕ) (all : Start) (n : ℕ) (bs : List ℕ) → withCount L st x s ≡ rolled all n bs
+    → Ended L st x s all n bs
 unfolding withCount
-with-count L numbers Bad s all n bs e = let z : _≡_ {A = ℕ} 0 1 = cc in absurd (omega arith)
-with-count L numbers (Got m size) s all n bs e = by (leb m (L .most-actions)) refl
+with-count L st Bad s all n bs e = let z : _≡_ {A = ℕ} 0 1 = cc in absurd (omega arith)
+with-count L st (Got m size) s all n bs e = by (leb m (L .most-actions)) refl
   where
-    by : (t : Bool) → leb m (L .most-actions) ≡ t → Ended L numbers (Got m size) s all n bs
-    by true f = with-actions L numbers m size s (readActions m (L .most-moves) (drop size s)) all n bs (leb-true m (L .most-actions) f) refl (simp f at e)
+    by : (t : Bool) → leb m (L .most-actions) ≡ t → Ended L st (Got m size) s all n bs
+    by true f = with-actions L st m size s (readActions m (L .most-moves) (drop size s)) all n bs (leb-true m (L .most-actions) f) refl (simp f at e)
     by false f =
         let g : refusal logFull ≡ rolled all n bs = simp f at e in
         let z : _≡_ {A = ℕ} 0 1 = cc in absurd (omega arith)
 
-with-front : (L : Limits) (s : List ℕ) (x : Front) (all : List ℕ) (n : ℕ) (bs : List ℕ) → allAtMost 255 s ≡ true → readNumbers largestNumbers s ≡ x
-    → withFront L x ≡ rolled all n bs → WrittenBack L s all n bs
-unfolding withFront rollText
-with-front L s (stopped k) all n bs small f e = let z : _≡_ {A = ℕ} 0 1 = cc in absurd (omega arith)
-with-front L s (front numbers t) all n bs small f e =
-    let o = with-count L numbers (readNumber t) t all n bs e in
+-- a start that was read, and what is left of the text
+record Begun (L : Limits) (numbers : List ℕ) (x : Counters) (s : List ℕ) (all : Start) (n : ℕ) (bs : List ℕ) : Type 0 where
+  size : ℕ
+  is : x ≡ Counts (all .half) (all .full) size
+  start : all .numbers ≡ numbers
+  ended : Ended L all (readNumber (drop size s)) (drop size s) all n bs
+
+with-counts : (L : Limits) (numbers : List ℕ) (x : Counters) (s : List ℕ) (all : Start) (n : ℕ) (bs : List ℕ)
+    → withCounts L numbers x s ≡ rolled all n bs → Begun L numbers x s all n bs
+unfolding withCounts
+with-counts L numbers (Wrong k) s all n bs e = let z : _≡_ {A = ℕ} 0 1 = cc in absurd (omega arith)
+with-counts L numbers (Counts half full size) s all n bs e =
+    let o = with-count L (record { numbers = numbers; half = half; full = full }) (readNumber (drop size s)) (drop size s) all n bs e in
+    let same = sym (o .start) in
+    record {
+      size = size;
+      is = λ i. Counts (same i .half) (same i .full) size;
+      start = ap (λ (st : Start). st .numbers) (o .start);
+      ended = record { size = o .size; is = o .is; few = o .few; start = refl; actions = o .actions };
+    }
+
+with-front : (counted : Bool) (L : Limits) (s : List ℕ) (x : Front) (all : Start) (n : ℕ) (bs : List ℕ) → allAtMost 255 s ≡ true
+    → readNumbers largestNumbers s ≡ x → withFront counted L x ≡ rolled all n bs → WrittenBack counted L s all n bs
+unfolding withFront textBy startFits
+with-front counted L s (stopped k) all n bs small f e = let z : _≡_ {A = ℕ} 0 1 = cc in absurd (omega arith)
+with-front counted L s (front numbers t) all n bs small f e =
+    let b = with-counts L numbers (readCounters counted t) t all n bs e in
+    let o = b .ended in
     let r = numbers-forth largestNumbers s numbers t small f in
-    let p = accepted-is-shortest t n (o .size) (r .bytes) (o .is) in
-    let a = actions-forth n (L .most-moves) (drop (o .size) t) bs (most-drop (o .size) 255 t (r .bytes)) (o .actions) in
+    let c = counters-forth counted t all (b .size) (r .bytes) (b .is) in
+    let left = drop (b .size) t in
+    let bytes = most-drop (b .size) 255 t (r .bytes) in
+    let p = accepted-is-shortest left n (o .size) bytes (o .is) in
+    let a = actions-forth n (L .most-moves) (drop (o .size) left) bs (most-drop (o .size) 255 left bytes) (o .actions) in
     let fits : actionSize * n ≤ length bs = omega (arith, a .long) in
     let held : actionsHeld bs n ≡ true = held-in-range n bs fits ∙ a .in-range in
     let few : movesIn bs n ≤ L .most-moves = omega (arith, as-many-moves n bs fits, a .few) in
-    rw (o .start)
-    (record {
-      game = record { start = r .within; few = o .few; few-moves = few; in-range = held; long = a .long; bytes = a .bytes };
-      text = r .text ∙ ap (λ (l : List ℕ). numbersText numbers ++ l) (p .text ∙ ap (λ (l : List ℕ). numberText n ++ l) (a .text));
-    })
+    let within : withinBounds largestNumbers (all .numbers) ≡ true = ap (withinBounds largestNumbers) (b .start) ∙ r .within in
+    let behind : left ≡ numberText n ++ actionsText n bs = p .text ∙ ap (λ (l : List ℕ). numberText n ++ l) (a .text) in
+    record {
+      game = record { start = simp (c .counters) within; few = o .few; few-moves = few; in-range = held; long = a .long; bytes = a .bytes };
+      form = c .form;
+      text =
+          r .text
+          ∙ ap (λ (l : List ℕ). numbersText l ++ t) (sym (b .start))
+          ∙ ap (λ (l : List ℕ). numbersText (all .numbers) ++ l) (c .text ∙ ap (λ (l : List ℕ). countsText counted all ++ l) behind);
+    }
 
 pub accepted-written-back : AcceptedWrittenBack
-unfolding readRoll
-accepted-written-back L s numbers n bs small e = with-front L s (readNumbers largestNumbers s) numbers n bs small refl e
+unfolding readBy
+accepted-written-back counted L s st n bs small e = with-front counted L s (readNumbers largestNumbers s) st n bs small refl e
 
 pub one-roll : OneRoll
-one-roll L s t numbers n bs small tiny e f = accepted-written-back L s numbers n bs small e .text ∙ sym (accepted-written-back L t numbers n bs tiny f .text)
+one-roll counted L s t st n bs small tiny e f =
+    accepted-written-back counted L s st n bs small e .text ∙ sym (accepted-written-back counted L t st n bs tiny f .text)
 
 pub one-game : OneGame
-one-game L numbers n bs others m cs small g h e =
-    let a : rolled numbers n bs ≡ rolled others m cs = sym (rolls-read-back L numbers n bs small g) ∙ ap (readRoll L) e ∙ rolls-read-back L others m cs
-    small h in
+one-game counted L st n bs other m cs small g h f k e =
+    let a : rolled st n bs ≡ rolled other m cs
+    = sym (rolls-read-back counted L st n bs small g f) ∙ ap (readBy counted L) e ∙ rolls-read-back counted L other m cs small h k in
     record { starts = cc; counts = cc; actions = cc }

@@ -9,6 +9,7 @@ pub mod Counted
 pub mod ReadsBack
 pub mod Refusals
 pub mod WritesBack
+pub mod Anew
 pub mod OfGood
 pub mod Hollow
 pub mod AtSmallest

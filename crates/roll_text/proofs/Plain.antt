@@ -1,7 +1,7 @@
 -- The numbers of a record in range are one byte each: its text is the numbers themselves.
 -- Assumes nothing.
 use mathlib.Core.Path.{_≡_, refl, ap, _∙_}
-use mathlib.Core.Bool.{true, _&&_, false≢true}
+use mathlib.Core.Bool.{true, false≢true}
 use mathlib.Core.List.{List, [], _∷_}
 use Prim.Native.Nat.{ℕ, _≤_}
 use native.Mathlib.Omega.{arith}
@@ -16,7 +16,7 @@ use Rattle.roll_text.proofs.Numbers.{groups-last}
 use Rattle.roll_text.proofs.Back.{small-bounds}
 use Rattle.roll_text.proofs.Bounds.{bounds-are-the-records}
 
-numbers-plain : (ms xs : List ℕ) → allAtMost 12 ms ≡ true → withinBounds ms xs ≡ true → numbersText xs ≡ xs
+pub numbers-plain : (ms xs : List ℕ) → allAtMost 12 ms ≡ true → withinBounds ms xs ≡ true → numbersText xs ≡ xs
 unfolding withinBounds numbersText
 numbers-plain [] [] small e = refl
 numbers-plain [] (x ∷ xs) small e = absurd (false≢true e)

@@ -1,7 +1,7 @@
 -- A game that was written is read back: the two calls, one after the other.
 -- Assumes nothing.
 use mathlib.Core.Path.{_≡_, refl, ap, sym, _∙_}
-use mathlib.Core.Bool.{true}
+use mathlib.Core.Bool.{Bool, true, _&&_}
 use mathlib.Core.List.{List, _++_}
 use Prim.Native.Nat.{ℕ, _*_, _≤_}
 use native.Mathlib.Omega.{arith}
@@ -14,16 +14,16 @@ use Rattle.answer.specs.Numbers.{allAtMost}
 use Rattle.answer.proofs.Numbers.{most-take}
 use Rattle.answer.proofs.Writes.{write-fits}
 use Rattle.board_builder.specs.declared.BoardBuilder.{BoardBuilder}
-use Rattle.board_builder.specs.BoardBuilder.{numbers}
+use Rattle.board_builder.specs.BoardBuilder.{countersInRange, inRange, numbers, withCounters}
 use Rattle.board_builder.proofs.Ranges.{in-range}
 use Rattle.board_builder.proofs.Numbers.{numbers-of-record}
 use Rattle.stored_position.proofs.Checks.{numbers-range}
 use Rattle.action.specs.Layout.{actionSize}
 use Rattle.actions.specs.Part.{movesIn, actionsHeld}
 use Rattle.game_rules.specs.Limits.{Limits, actionsLength}
-use Rattle.roll_text.specs.Roll.{Rolled, rolled, rollText, readRoll}
-use Rattle.roll_text.specs.Calls.{rollAnswer, rollOver, judged, writeCheck, gameText}
-use Rattle.roll_text.specs.Promises.{Game, Countable, rollWriter, wrote, Writable, LimitsAreCountable, WrittenReadsBack}
+use Rattle.roll_text.specs.Roll.{Rolled, rolled, startFits, startFrom, rollText, readBy, readRoll}
+use Rattle.roll_text.specs.Calls.{rollAnswer, rollOver, judgedBy, judged, writeCheck, gameText}
+use Rattle.roll_text.specs.Promises.{Game, Countable, formed, rollWriter, wrote, Writable, LimitsAreCountable, WrittenReadsBack}
 use Rattle.roll_text.proofs.Entries.{reach-five}
 use Rattle.roll_text.proofs.Back.{rolls-read-back}
 use Rattle.roll_text.proofs.Bounds.{bounds-are-the-records}
@@ -58,9 +58,17 @@ writes L b part n out w fits =
 
 -- ---- the reader
 
-pub judged-long : (L : Limits) (s : List ℕ) (room : ℕ) → actionsLength L ≤ room → judged L s room ≡ readRoll L s
-unfolding judged
-judged-long L s room h = simp (le-ltb _ _ h)
+pub judged-long : (counted : Bool) (L : Limits) (s : List ℕ) (room : ℕ) → actionsLength L ≤ room → judgedBy counted L s room ≡ readBy counted L s
+unfolding judgedBy
+judged-long counted L s room h = simp (le-ltb _ _ h)
+
+-- a record in range has a start that fits
+pub start-fits : (b : BoardBuilder) → inRange b ≡ true → startFits (startFrom b) ≡ true
+unfolding startFits
+start-fits b e =
+    ap (λ (t : Bool). countersInRange (b .«half_moves») (b .«full_moves») && t) (bounds-are-the-records (numbers b))
+    ∙ numbers-range b (in-range b e .long)
+    ∙ e
 
 module _ (L : Limits) (b : BoardBuilder) (part : List ℕ) (n : ℕ) (w : Writable L b part n) (bytes : allAtMost 255 part ≡ true) where
   bs : List ℕ
@@ -77,12 +85,12 @@ module _ (L : Limits) (b : BoardBuilder) (part : List ℕ) (n : ℕ) (w : Writab
   unfolding bs
   both = take-append-drop (actionSize * n) part
 
-  game : Game L (numbers b) n bs
+  game : Game L (startFrom b) n bs
   unfolding bs
   game =
       let m : movesIn bs n ≡ movesIn part n = sym (moves-counted n bs (drop (actionSize * n) part) long) ∙ ap (λ (l : List ℕ). movesIn l n) both in
       record {
-        start = bounds-are-the-records (numbers b) ∙ numbers-range b (in-range b (w .start) .long) ∙ w .start;
+        start = start-fits b (w .start);
         few = w .few;
         few-moves = omega (arith, m, w .few-moves);
         in-range = sym (held-counted n bs (drop (actionSize * n) part) long) ∙ ap (λ (l : List ℕ). actionsHeld l n) both ∙ w .held;
@@ -90,12 +98,12 @@ module _ (L : Limits) (b : BoardBuilder) (part : List ℕ) (n : ℕ) (w : Writab
         bytes = most-take (actionSize * n) 255 part bytes;
       }
 
-  text : gameText b part n ≡ rollText (numbers b) n bs
-  text = sym (ap (rollText (numbers b) n) both) ∙ roll-counted n bs (drop (actionSize * n) part) long (numbers b)
+  text : gameText b part n ≡ rollText (startFrom b) n bs
+  text = sym (ap (rollText (startFrom b) n) both) ∙ roll-counted n bs (drop (actionSize * n) part) long (startFrom b)
 
-  pub reads : Countable L → readRoll L (gameText b part n) ≡ rolled (numbers b) n (take (actionSize * n) part)
-  unfolding bs
-  reads small = ap (readRoll L) text ∙ rolls-read-back L (numbers b) n bs small game
+  pub reads : Countable L → readRoll L (gameText b part n) ≡ rolled (startFrom b) n (take (actionSize * n) part)
+  unfolding bs formed
+  reads small = ap (readRoll L) text ∙ rolls-read-back true L (startFrom b) n bs small game refl
 
   pub counted-long : length (take (actionSize * n) part) ≡ actionSize * n
   unfolding bs
@@ -110,12 +118,13 @@ written-reads-back L small b part n out old w bytes fits enough =
     let text = gameText b part n in
     let o = writes L b part n out w fits in
     let value : rollWriter L .answer b part n (length out) .value ≡ length text = ap (λ (a : Answer). a .value) (o .answer) in
-    let r : judged L text (length old) ≡ rolled (numbers b) n (take (actionSize * n) part)
-    = judged-long L text (length old) enough ∙ reads L b part n w bytes small in
+    let r : judged L text (length old) ≡ rolled (startFrom b) n (take (actionSize * n) part)
+    = judged-long true L text (length old) enough ∙ reads L b part n w bytes small in
     let over : rollOver (judged L text (length old)) old ≡ take (actionSize * n) part ++ drop (actionSize * n) old
     = ap (λ (x : Rolled). rollOver x old) r ∙ ap (λ (i : ℕ). take (actionSize * n) part ++ drop i old) (counted-long L b part n w bytes) in
     let answer : rollAnswer (judged L text (length old)) ≡ record { number = 0; actions = n; board = b }
-    = ap rollAnswer r ∙ ap (λ (a : BoardBuilder). record { number = 0; actions = n; board = a }) (numbers-of-record b (w .start)) in
+    = ap rollAnswer r ∙ ap (λ (a : BoardBuilder). record { number = 0; actions = n; board = withCounters a (b .«half_moves») (b .«full_moves») })
+    (numbers-of-record b (w .start)) in
     record {
       accepts = ap (λ (a : Answer). a .number) (o .answer);
       long = value ∙ ap length (sym (o .bytes));

@@ -8,6 +8,7 @@ use lib.Dec.{eqb, leb, ltb}
 use lib.ListN.{drop}
 use borrow.Author.Tests.{eq-eqb}
 use Rattle.answer.specs.Answer.{outOfRange, logFull, badRoll}
+use Rattle.board_builder.specs.BoardBuilder.{lastCount}
 use Rattle.chess_move.specs.Number.{lastMove}
 use Rattle.action.specs.Layout.{fields}
 use Rattle.game_rules.specs.Limits.{Limits, actionsLength}
@@ -15,11 +16,14 @@ use Rattle.roll_text.specs.declared.Number.{Number}
 use Rattle.roll_text.specs.declared.Number.the-variants.{Got, Bad}
 use Rattle.roll_text.specs.declared.Entry.{Entry}
 use Rattle.roll_text.specs.declared.Entry.the-variants.{Move, Plain, Stop}
+use Rattle.roll_text.specs.declared.Counters.{Counters}
+use Rattle.roll_text.specs.declared.Counters.the-variants.{Counts, Wrong}
 use Rattle.roll_text.specs.Number.{readNumber}
 use Rattle.roll_text.specs.Roll.{Front, stopped, front, putNumber, oneNumber, readNumbers}
 use Rattle.roll_text.specs.Roll.{Acts, halted, acts, movedBy, isCode, coded, readEntry, putAction, nextAction, readActions}
-use Rattle.roll_text.specs.Roll.{Rolled, refusal, rolled, withActions, withCount, withFront, readRoll, largestNumbers}
-use Rattle.roll_text.specs.Calls.{rollAnswer, judged}
+use Rattle.roll_text.specs.Roll.{Start, Rolled, refusal, rolled, withActions, withCount, withCounts, withFront, readBy, largestNumbers}
+use Rattle.roll_text.specs.Roll.{fullBy, halfBy, readCounters}
+use Rattle.roll_text.specs.Calls.{rollAnswer, judgedBy}
 
 -- any test that holds of the three numbers with which a text is refused: 5, 13 and 17
 pub record Passes (test : ℕ → Bool) : Type 0 where
@@ -30,6 +34,10 @@ pub record Passes (test : ℕ → Bool) : Type 0 where
 unfoldable frontPasses : (ℕ → Bool) → Front → Bool
 frontPasses test (stopped k) = test k
 frontPasses test (front xs s) = true
+
+unfoldable countersPass : (ℕ → Bool) → Counters → Bool
+countersPass test (Counts half full size) = true
+countersPass test (Wrong k) = test k
 
 unfoldable entryPasses : (ℕ → Bool) → Entry → Bool
 entryPasses test (Move move size) = true
@@ -66,6 +74,32 @@ module _ (test : ℕ → Bool) (p : Passes test) where
   unfolding readNumbers frontPasses
   numbers-told [] s = refl
   numbers-told (m ∷ ms) s = one-told m (readNumber s) s (λ t. readNumbers ms t) (λ t. numbers-told ms t)
+
+  -- ---- the counters
+
+  full-told : (half size : ℕ) (x : Number) → countersPass test (fullBy half size x) ≡ true
+  unfolding fullBy countersPass
+  full-told half size Bad = p .bad
+  full-told half size (Got full more) = by (eqb full 0) (leb full lastCount) refl refl
+    where
+      by : (t u : Bool) → eqb full 0 ≡ t → leb full lastCount ≡ u → countersPass test (fullBy half size (Got full more)) ≡ true
+      by true u e f = simp e (p .range)
+      by false true e f = simp (e, f)
+      by false false e f = simp (e, f) (p .range)
+
+  half-told : (s : List ℕ) (x : Number) → countersPass test (halfBy s x) ≡ true
+  unfolding halfBy countersPass
+  half-told s Bad = p .bad
+  half-told s (Got half size) = by (leb half lastCount) refl
+    where
+      by : (t : Bool) → leb half lastCount ≡ t → countersPass test (halfBy s (Got half size)) ≡ true
+      by true f = simp f (full-told half size (readNumber (drop size s)))
+      by false f = simp f (p .range)
+
+  counters-told : (counted : Bool) (s : List ℕ) → countersPass test (readCounters counted s) ≡ true
+  unfolding readCounters countersPass
+  counters-told true s = half-told s (readNumber s)
+  counters-told false s = refl
 
   -- ---- the actions
 
@@ -110,12 +144,12 @@ module _ (test : ℕ → Bool) (p : Passes test) where
 
   -- ---- the roll
 
-  with-actions-told : (xs : List ℕ) (n : ℕ) (x : Acts) → actsPasses test x ≡ true → rollPasses test (withActions xs n x) ≡ true
+  with-actions-told : (xs : Start) (n : ℕ) (x : Acts) → actsPasses test x ≡ true → rollPasses test (withActions xs n x) ≡ true
   unfolding withActions rollPasses actsPasses
   with-actions-told xs n (halted k) e = e
   with-actions-told xs n (acts bs) e = refl
 
-  with-count-told : (L : Limits) (xs : List ℕ) (x : Number) (s : List ℕ) → rollPasses test (withCount L xs x s) ≡ true
+  with-count-told : (L : Limits) (xs : Start) (x : Number) (s : List ℕ) → rollPasses test (withCount L xs x s) ≡ true
   unfolding withCount rollPasses
   with-count-told L xs Bad s = p .bad
   with-count-told L xs (Got n size) s = by (leb n (L .most-actions)) refl
@@ -124,14 +158,20 @@ module _ (test : ℕ → Bool) (p : Passes test) where
       by true f = simp f (with-actions-told xs n (readActions n (L .most-moves) (drop size s)) (actions-told n (L .most-moves) (drop size s)))
       by false f = simp f (p .full)
 
-  with-front-told : (L : Limits) (x : Front) → frontPasses test x ≡ true → rollPasses test (withFront L x) ≡ true
-  unfolding withFront frontPasses rollPasses
-  with-front-told L (stopped k) e = e
-  with-front-told L (front xs s) e = with-count-told L xs (readNumber s) s
+  with-counts-told : (L : Limits) (xs : List ℕ) (x : Counters) (s : List ℕ) → countersPass test x ≡ true → rollPasses test (withCounts L xs x s) ≡ true
+  unfolding withCounts countersPass rollPasses
+  with-counts-told L xs (Wrong k) s e = e
+  with-counts-told L xs (Counts half full size) s e =
+      with-count-told L (record { numbers = xs; half = half; full = full }) (readNumber (drop size s)) (drop size s)
 
-  pub roll-passes : (L : Limits) (s : List ℕ) → rollPasses test (readRoll L s) ≡ true
-  unfolding readRoll
-  roll-passes L s = with-front-told L (readNumbers largestNumbers s) (numbers-told largestNumbers s)
+  with-front-told : (counted : Bool) (L : Limits) (x : Front) → frontPasses test x ≡ true → rollPasses test (withFront counted L x) ≡ true
+  unfolding withFront frontPasses rollPasses
+  with-front-told counted L (stopped k) e = e
+  with-front-told counted L (front xs s) e = with-counts-told L xs (readCounters counted s) s (counters-told counted s)
+
+  pub roll-passes : (counted : Bool) (L : Limits) (s : List ℕ) → rollPasses test (readBy counted L s) ≡ true
+  unfolding readBy
+  roll-passes counted L s = with-front-told counted L (readNumbers largestNumbers s) (numbers-told largestNumbers s)
 
 -- what is not a refusal with 0
 unfoldable pub told : ℕ → Bool
@@ -144,21 +184,21 @@ told-passes : Passes told
 unfolding told
 told-passes = record { range = refl; full = refl; bad = refl }
 
-pub roll-told : (L : Limits) (s : List ℕ) → rollTold (readRoll L s) ≡ true
+pub roll-told : (counted : Bool) (L : Limits) (s : List ℕ) → rollTold (readBy counted L s) ≡ true
 unfolding rollTold
-roll-told L s = roll-passes told told-passes L s
+roll-told counted L s = roll-passes told told-passes counted L s
 
-pub judged-told : (L : Limits) (s : List ℕ) (room : ℕ) → rollTold (judged L s room) ≡ true
-unfolding judged rollTold rollPasses told
-judged-told L s room = by (ltb room (actionsLength L)) refl
+pub judged-told : (counted : Bool) (L : Limits) (s : List ℕ) (room : ℕ) → rollTold (judgedBy counted L s room) ≡ true
+unfolding judgedBy rollTold rollPasses told
+judged-told counted L s room = by (ltb room (actionsLength L)) refl
   where
-    by : (t : Bool) → ltb room (actionsLength L) ≡ t → rollTold (judged L s room) ≡ true
+    by : (t : Bool) → ltb room (actionsLength L) ≡ t → rollTold (judgedBy counted L s room) ≡ true
     by true f = simp f
-    by false f = simp f (roll-told L s)
+    by false f = simp f (roll-told counted L s)
 
 -- what is answered with 0 was read
 pub record IsRolled (x : Rolled) : Type 0 where
-  pub start : List ℕ
+  pub start : Start
   pub count : ℕ
   pub actions : List ℕ
   pub is : x ≡ rolled start count actions

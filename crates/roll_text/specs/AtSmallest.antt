@@ -1,5 +1,5 @@
--- Numbers and refusals of a roll at their smallest (document 02, order 1). Each roll and each call breaks the check of its row and others that come after
--- it, so that a later check tested before it would give another number.
+-- Numbers and refusals of a roll at their smallest (document 02, orders 1 and 12). Each roll and each call breaks the check of its row and others that come
+-- after it, so that a later check tested before it would give another number.
 -- Assumes nothing.
 use Prim.Native.Nat.{ℕ}
 use mathlib.Core.Path.{_≡_}
@@ -7,11 +7,11 @@ use mathlib.Core.List.{List, [], _∷_, _++_}
 use lib.ListN.{replicate}
 use Rattle.answer.specs.Answer.{outOfRange, outputTooShort, logFull, partTooShort, badRoll, writeAnswer}
 use Rattle.board_builder.specs.declared.BoardBuilder.{BoardBuilder}
-use Rattle.board_builder.specs.BoardBuilder.{board, recordSize, squares, emptyBoard}
+use Rattle.board_builder.specs.BoardBuilder.{board, withCounters, recordSize, squares, emptyBoard}
 use Rattle.game_rules.specs.Limits.{Limits}
 use Rattle.roll_text.specs.declared.Number.the-variants.{Got, Bad}
 use Rattle.roll_text.specs.Number.{numberText, readNumber}
-use Rattle.roll_text.specs.Calls.{rollAnswer, judged, writeCheck, gameText}
+use Rattle.roll_text.specs.Calls.{rollAnswer, judged, judgedOld, writeCheck, gameText}
 
 -- 300 is 2 × 128 + 44
 pub record NumbersAtSmallest : Type 0 where
@@ -29,9 +29,15 @@ fewest = record { most-actions = 2; most-moves = 0 }
 abbrev pub readingGives : List ℕ → ℕ
 readingGives s = rollAnswer (judged fewest s 8) .number
 
--- a roll of the empty record, by what follows the record
+abbrev pub oldReadingGives : List ℕ → ℕ
+oldReadingGives s = rollAnswer (judgedOld fewest s 8) .number
+
+-- a roll of the empty record, by what follows its 68 numbers; and by what follows the record
+abbrev pub placedWith : List ℕ → List ℕ
+placedWith s = replicate recordSize 0 ++ s
+
 abbrev pub startedWith : List ℕ → List ℕ
-startedWith s = replicate recordSize 0 ++ s
+startedWith s = placedWith (0 ∷ 1 ∷ s)
 
 pub record ReadingAtSmallest : Type 0 where
   pub gives-16 : rollAnswer (judged fewest [] 7) .number ≡ partTooShort
@@ -39,6 +45,14 @@ pub record ReadingAtSmallest : Type 0 where
   pub gives-5 : readingGives (13 ∷ []) ≡ outOfRange
   -- the same number, its second group needless
   pub shortest-before-5 : readingGives (141 ∷ 0 ∷ []) ≡ badRoll
+  -- a clock of 9,999 and of 10,000 (78 × 128 + 16), and then nothing; the same with a needless group
+  pub clock-most : readingGives (placedWith (143 ∷ 78 ∷ [])) ≡ badRoll
+  pub clock-gives-5 : readingGives (placedWith (144 ∷ 78 ∷ [])) ≡ outOfRange
+  pub clock-shortest-before-5 : readingGives (placedWith (144 ∷ 206 ∷ 0 ∷ [])) ≡ badRoll
+  -- a move number of 0, of 9,999 and of 10,000, and then nothing
+  pub move-number-zero : readingGives (placedWith (0 ∷ 0 ∷ [])) ≡ outOfRange
+  pub move-number-most : readingGives (placedWith (0 ∷ 143 ∷ 78 ∷ [])) ≡ badRoll
+  pub move-number-gives-5 : readingGives (placedWith (0 ∷ 144 ∷ 78 ∷ [])) ≡ outOfRange
   -- a count over the limit, and then nothing; the same with a needless group
   pub count-gives-13 : readingGives (startedWith (3 ∷ [])) ≡ logFull
   pub shortest-before-13 : readingGives (startedWith (131 ∷ 0 ∷ [])) ≡ badRoll
@@ -49,6 +63,17 @@ pub record ReadingAtSmallest : Type 0 where
   pub too-short : readingGives (startedWith (1 ∷ [])) ≡ badRoll
   pub too-long : readingGives (startedWith (1 ∷ 4 ∷ 0 ∷ [])) ≡ badRoll
   pub accepted : readingGives (startedWith (1 ∷ 4 ∷ [])) ≡ 0
+
+-- 68 numbers and the count
+pub record OldReadingAtSmallest : Type 0 where
+  pub accepted : oldReadingGives (placedWith (1 ∷ 4 ∷ [])) ≡ 0
+  pub is-not-new : readingGives (placedWith (1 ∷ 4 ∷ [])) ≡ badRoll
+  pub new-is-not-old : oldReadingGives (startedWith (1 ∷ 4 ∷ [])) ≡ badRoll
+  pub begins : rollAnswer (judgedOld fewest (placedWith (0 ∷ [])) 8) .board ≡ emptyBoard
+  pub counted : rollAnswer (judged fewest (placedWith (143 ∷ 78 ∷ 2 ∷ 0 ∷ [])) 8) .board ≡ withCounters emptyBoard 9999 2
+  -- 71 bytes that are a roll of either kind
+  pub both-old : rollAnswer (judgedOld (record { most-actions = 2; most-moves = 1 }) (placedWith (1 ∷ 2 ∷ 0 ∷ [])) 8) .actions ≡ 1
+  pub both-new : rollAnswer (judged (record { most-actions = 2; most-moves = 1 }) (placedWith (1 ∷ 2 ∷ 0 ∷ [])) 8) .board ≡ withCounters emptyBoard 1 2
 
 abbrev pub writingGives : BoardBuilder → List ℕ → ℕ → ℕ → ℕ
 writingGives b part n room = writeAnswer (writeCheck fewest b part n) (gameText b part n) room .number
@@ -63,5 +88,7 @@ pub record WritingAtSmallest : Type 0 where
   pub count-gives-13 : writingGives emptyBoard (replicate 8 0) 3 0 ≡ logFull
   pub move-gives-13 : writingGives emptyBoard (1 ∷ replicate 7 0) 2 0 ≡ logFull
   pub gives-17 : writingGives emptyBoard (replicate 8 0) 1 0 ≡ badRoll
-  pub gives-7 : writingGives emptyBoard (replicate 8 0) 0 68 ≡ outputTooShort
-  pub accepted : writingGives emptyBoard (replicate 8 0) 0 69 ≡ 0
+  pub gives-7 : writingGives emptyBoard (replicate 8 0) 0 70 ≡ outputTooShort
+  pub accepted : writingGives emptyBoard (replicate 8 0) 0 71 ≡ 0
+  pub counters-two-groups : writingGives (withCounters emptyBoard 128 128) (replicate 8 0) 0 73 ≡ 0
+  pub counters-gives-7 : writingGives (withCounters emptyBoard 128 128) (replicate 8 0) 0 72 ≡ outputTooShort

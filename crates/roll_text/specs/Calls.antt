@@ -7,12 +7,13 @@ use lib.Dec.{ltb}
 use lib.ListN.{length}
 use Rattle.answer.specs.Answer.{outOfRange, logFull, partTooShort, badRoll, overwrite}
 use Rattle.board_builder.specs.declared.BoardBuilder.{BoardBuilder}
-use Rattle.board_builder.specs.BoardBuilder.{boardOf, emptyBoard, inRange, numbers}
+use Rattle.board_builder.specs.BoardBuilder.{noBoard, inRange}
 use Rattle.actions.specs.Part.{movesIn, actionsHeld}
 use Rattle.game_rules.specs.Limits.{Limits, actionsLength}
 use Rattle.roll_text.specs.declared.Fields.{Fields}
 use Rattle.roll_text.specs.declared.Roll.{Roll}
-use Rattle.roll_text.specs.Roll.{Front, stopped, front, Acts, halted, acts, Rolled, refusal, rolled, kindAt, colourAt, moveNumberAt, rollText, readRoll}
+use Rattle.roll_text.specs.Roll.{Front, stopped, front, Acts, halted, acts, Rolled, refusal, rolled, kindAt, colourAt, moveNumberAt}
+use Rattle.roll_text.specs.Roll.{startFrom, startBoard, rollText, readBy}
 
 abbrev pub fieldsAt : List ℕ → Fields
 fieldsAt bs = record { kind = kindAt bs; colour = colourAt bs; number = moveNumberAt bs }
@@ -34,16 +35,22 @@ actsOver (halted k) part = part
 actsOver (acts bs) part = overwrite bs part
 
 unfoldable pub rollAnswer : Rolled → Roll
-rollAnswer (refusal k) = record { number = k; actions = 0; board = emptyBoard }
-rollAnswer (rolled numbers n bs) = record { number = 0; actions = n; board = boardOf numbers }
+rollAnswer (refusal k) = record { number = k; actions = 0; board = noBoard }
+rollAnswer (rolled st n bs) = record { number = 0; actions = n; board = startBoard st }
 
 unfoldable pub rollOver : Rolled → List ℕ → List ℕ
 rollOver (refusal k) part = part
-rollOver (rolled numbers n bs) part = overwrite bs part
+rollOver (rolled st n bs) part = overwrite bs part
 
 -- 16 for a part that is too short, before the text is looked at
-unfoldable pub judged : Limits → List ℕ → ℕ → Rolled
-judged L s room = cond (ltb room (actionsLength L)) (refusal partTooShort) (readRoll L s)
+unfoldable pub judgedBy : Bool → Limits → List ℕ → ℕ → Rolled
+judgedBy counted L s room = cond (ltb room (actionsLength L)) (refusal partTooShort) (readBy counted L s)
+
+abbrev pub judged : Limits → List ℕ → ℕ → Rolled
+judged L s room = judgedBy true L s room
+
+abbrev pub judgedOld : Limits → List ℕ → ℕ → Rolled
+judgedOld L s room = judgedBy false L s room
 
 -- ---- the writer: 16, 5, 13 for the count, then for the moves, 17; then 7, which any writer of texts has
 
@@ -57,7 +64,7 @@ writeCheck L b part n =
     outOfRange)
 
 abbrev pub gameText : BoardBuilder → List ℕ → ℕ → List ℕ
-gameText b part n = rollText (numbers b) n part
+gameText b part n = rollText (startFrom b) n part
 
 -- no refusal
 unfoldable pub isActs : Acts → Bool

@@ -2,14 +2,15 @@
 -- Assumes nothing.
 use Prim.Native.Nat.{ℕ, _*_, _≤_, _<_}
 use mathlib.Core.Path.{_≡_}
-use mathlib.Core.Bool.{true}
-use mathlib.Core.List.{List, _++_}
+use mathlib.Core.Bool.{Bool, true, false, _&&_}
+use mathlib.Core.List.{List, _∷_, _++_}
+use lib.Dec.{eqb}
 use lib.ListN.{length, take, drop}
 use Rattle.answer.specs.declared.Answer.{Answer}
 use Rattle.answer.specs.Answer.{writeAnswer, writeBytes}
 use Rattle.answer.specs.Numbers.{allAtMost}
 use Rattle.board_builder.specs.declared.BoardBuilder.{BoardBuilder}
-use Rattle.board_builder.specs.BoardBuilder.{inRange, numbersInRange, boardOf, emptyBoard}
+use Rattle.board_builder.specs.BoardBuilder.{recordSize, inRange, numbersInRange, boardOf, withCounters, noBoard}
 use Rattle.action.specs.Layout.{actionSize}
 use Rattle.actions.specs.Part.{movesIn, actionsHeld}
 use Rattle.position.specs.Layout.{positionAt}
@@ -18,12 +19,12 @@ use Rattle.game_rules.specs.Good.{Good}
 use Rattle.game_rules.specs.Calls.{longEnough}
 use Rattle.roll_text.specs.declared.Roll.{Roll}
 use Rattle.roll_text.specs.Number.{mostGroups, reach}
-use Rattle.roll_text.specs.Roll.{rolled, largestNumbers, withinBounds, rollText, readRoll}
-use Rattle.roll_text.specs.Calls.{rollAnswer, rollOver, judged, writeCheck, gameText}
+use Rattle.roll_text.specs.Roll.{Start, startFits, rolled, largestNumbers, withinBounds, textBy, readBy, readRoll, readOldRoll}
+use Rattle.roll_text.specs.Calls.{rollAnswer, rollOver, judgedBy, writeCheck, gameText}
 
 -- a start with n actions in range, within the limits: each of the bytes is one, and there are no others
-pub record Game (L : Limits) (numbers : List ℕ) (n : ℕ) (bs : List ℕ) : Type 0 where
-  pub start : withinBounds largestNumbers numbers ≡ true
+pub record Game (L : Limits) (st : Start) (n : ℕ) (bs : List ℕ) : Type 0 where
+  pub start : startFits st ≡ true
   pub few : n ≤ L .most-actions
   pub few-moves : movesIn bs n ≤ L .most-moves
   pub in-range : actionsHeld bs n ≡ true
@@ -38,35 +39,56 @@ Countable L = L .most-actions < reach mostGroups
 abbrev pub LimitsAreCountable : Type 0
 LimitsAreCountable = Countable limits
 
--- a written roll reads back
+-- a start that an old roll can say has the counters 0 and 1
+unfoldable pub formed : Bool → Start → Bool
+formed true st = true
+formed false st = eqb (st .half) 0 && eqb (st .full) 1
+
+-- a written roll, new or old, reads back
 abbrev pub RollsReadBack : Type 0
 RollsReadBack =
-    (L : Limits) (numbers : List ℕ) (n : ℕ) (bs : List ℕ) → Countable L → Game L numbers n bs → readRoll L (rollText numbers n bs) ≡ rolled numbers n bs
+    (counted : Bool) (L : Limits) (st : Start) (n : ℕ) (bs : List ℕ) → Countable L → Game L st n bs → formed counted st ≡ true
+    → readBy counted L (textBy counted st n bs) ≡ rolled st n bs
 
 -- each accepted roll is a game's, and is written back as it came
-pub record WrittenBack (L : Limits) (s numbers : List ℕ) (n : ℕ) (bs : List ℕ) : Type 0 where
-  pub game : Game L numbers n bs
-  pub text : s ≡ rollText numbers n bs
+pub record WrittenBack (counted : Bool) (L : Limits) (s : List ℕ) (st : Start) (n : ℕ) (bs : List ℕ) : Type 0 where
+  pub game : Game L st n bs
+  pub form : formed counted st ≡ true
+  pub text : s ≡ textBy counted st n bs
 
 abbrev pub AcceptedWrittenBack : Type 0
 AcceptedWrittenBack =
-    (L : Limits) (s numbers : List ℕ) (n : ℕ) (bs : List ℕ) → allAtMost 255 s ≡ true → readRoll L s ≡ rolled numbers n bs → WrittenBack L s numbers n bs
+    (counted : Bool) (L : Limits) (s : List ℕ) (st : Start) (n : ℕ) (bs : List ℕ) → allAtMost 255 s ≡ true → readBy counted L s ≡ rolled st n bs
+    → WrittenBack counted L s st n bs
 
 -- one start with one action list has one roll: two rolls that read alike are one, and one roll is of one game
 abbrev pub OneRoll : Type 0
-OneRoll = (L : Limits) (s t numbers : List ℕ) (n : ℕ) (bs : List ℕ) → allAtMost 255 s ≡ true → allAtMost 255 t ≡ true
-    → readRoll L s ≡ rolled numbers n bs → readRoll L t ≡ rolled numbers n bs → s ≡ t
+OneRoll = (counted : Bool) (L : Limits) (s t : List ℕ) (st : Start) (n : ℕ) (bs : List ℕ) → allAtMost 255 s ≡ true → allAtMost 255 t ≡ true
+    → readBy counted L s ≡ rolled st n bs → readBy counted L t ≡ rolled st n bs → s ≡ t
 
-pub record SameGame (numbers : List ℕ) (n : ℕ) (bs others : List ℕ) (m : ℕ) (cs : List ℕ) : Type 0 where
-  pub starts : numbers ≡ others
+pub record SameGame (st : Start) (n : ℕ) (bs : List ℕ) (other : Start) (m : ℕ) (cs : List ℕ) : Type 0 where
+  pub starts : st ≡ other
   pub counts : n ≡ m
   pub actions : bs ≡ cs
 
 abbrev pub OneGame : Type 0
-OneGame = (L : Limits) (numbers : List ℕ) (n : ℕ) (bs others : List ℕ) (m : ℕ) (cs : List ℕ) → Countable L → Game L numbers n bs → Game L others m cs
-    → rollText numbers n bs ≡ rollText others m cs → SameGame numbers n bs others m cs
+OneGame = (counted : Bool) (L : Limits) (st : Start) (n : ℕ) (bs : List ℕ) (other : Start) (m : ℕ) (cs : List ℕ) → Countable L
+    → Game L st n bs → Game L other m cs → formed counted st ≡ true → formed counted other ≡ true
+    → textBy counted st n bs ≡ textBy counted other m cs → SameGame st n bs other m cs
 
--- the bounds are those of a record in range
+-- an old roll with the counters 0 and 1 put in behind its 68 numbers
+abbrev pub anew : List ℕ → List ℕ
+anew s = take recordSize s ++ (0 ∷ 1 ∷ drop recordSize s)
+
+-- an old roll is accepted exactly if the new one is, and they say the same
+pub record SameAnew (L : Limits) (s : List ℕ) (st : Start) (n : ℕ) (bs : List ℕ) : Type 0 where
+  pub forth : readOldRoll L s ≡ rolled st n bs → readRoll L (anew s) ≡ rolled st n bs
+  pub back : readRoll L (anew s) ≡ rolled st n bs → readOldRoll L s ≡ rolled st n bs
+
+abbrev pub OldIsNew : Type 0
+OldIsNew = (L : Limits) (s : List ℕ) (st : Start) (n : ℕ) (bs : List ℕ) → allAtMost 255 s ≡ true → recordSize ≤ length s → SameAnew L s st n bs
+
+-- the bounds of the 68 numbers are those of a record in range
 abbrev pub BoundsAreTheRecords : Type 0
 BoundsAreTheRecords = (numbers : List ℕ) → withinBounds largestNumbers numbers ≡ numbersInRange numbers
 
@@ -90,12 +112,19 @@ rollWriter L =
       room = λ (b : BoardBuilder) (part : List ℕ) (n : ℕ) (out : List ℕ). writeBytes (writeCheck L b part n) (gameText b part n) out;
     }
 
-abbrev pub rollReader : Limits → Reader
-rollReader L =
+-- of new rolls or of old ones
+abbrev pub readerBy : Bool → Limits → Reader
+readerBy counted L =
     record {
-      answer = λ (s : List ℕ) (room : ℕ). rollAnswer (judged L s room);
-      part = λ (s part : List ℕ). rollOver (judged L s (length part)) part;
+      answer = λ (s : List ℕ) (room : ℕ). rollAnswer (judgedBy counted L s room);
+      part = λ (s part : List ℕ). rollOver (judgedBy counted L s (length part)) part;
     }
+
+abbrev pub rollReader : Limits → Reader
+rollReader L = readerBy true L
+
+abbrev pub oldReader : Limits → Reader
+oldReader L = readerBy false L
 
 -- the bytes that a writer wrote: as many from the front of its room as its value says
 abbrev pub wrote : Writer → BoardBuilder → List ℕ → ℕ → List ℕ → List ℕ
@@ -136,22 +165,29 @@ pub record GivesGame (L : Limits) (r : Reader) (s old : List ℕ) : Type 0 where
 
 abbrev pub AcceptedReads : Type 0
 AcceptedReads =
-    (L : Limits) (s old : List ℕ) → allAtMost 255 s ≡ true → rollReader L .answer s (length old) .number ≡ 0 → GivesGame L (rollReader L) s old
+    (counted : Bool) (L : Limits) (s old : List ℕ) → allAtMost 255 s ≡ true → readerBy counted L .answer s (length old) .number ≡ 0
+    → GivesGame L (readerBy counted L) s old
 
--- a refused read: no actions, the empty record, and no byte is changed
+-- a refused read: no actions, a record of zeros, and no byte is changed
 pub record GivesNothing (r : Reader) (s old : List ℕ) : Type 0 where
   pub no-actions : r .answer s (length old) .actions ≡ 0
-  pub empty : r .answer s (length old) .board ≡ emptyBoard
+  pub empty : r .answer s (length old) .board ≡ noBoard
   pub unchanged : r .part s old ≡ old
 
 abbrev pub RefusedReads : Type 0
-RefusedReads = (L : Limits) (s old : List ℕ) → (rollReader L .answer s (length old) .number ≡ 0 → ⊥) → GivesNothing (rollReader L) s old
+RefusedReads =
+    (counted : Bool) (L : Limits) (s old : List ℕ) → (readerBy counted L .answer s (length old) .number ≡ 0 → ⊥)
+    → GivesNothing (readerBy counted L) s old
 
--- an accepted roll written again, from what the reader gave back: accepted, and the same bytes
-pub record WrittenAgain (w : Writer) (r : Reader) (s old out : List ℕ) : Type 0 where
+-- an accepted roll s written again, from what the reader gave back: accepted, and the bytes t
+pub record WrittenAs (w : Writer) (r : Reader) (s t old out : List ℕ) : Type 0 where
   pub accepts : w .answer (r .answer s (length old) .board) (r .part s old) (r .answer s (length old) .actions) (length out) .number ≡ 0
-  pub long : w .answer (r .answer s (length old) .board) (r .part s old) (r .answer s (length old) .actions) (length out) .value ≡ length s
-  pub same-bytes : wrote w (r .answer s (length old) .board) (r .part s old) (r .answer s (length old) .actions) out ≡ s
+  pub long : w .answer (r .answer s (length old) .board) (r .part s old) (r .answer s (length old) .actions) (length out) .value ≡ length t
+  pub same-bytes : wrote w (r .answer s (length old) .board) (r .part s old) (r .answer s (length old) .actions) out ≡ t
+
+-- the same bytes
+abbrev pub WrittenAgain : Writer → Reader → List ℕ → List ℕ → List ℕ → Type 0
+WrittenAgain w r s old out = WrittenAs w r s s old out
 
 -- whatever stood in the part before, and in any room that is long enough
 abbrev pub WritesBack : Writer → Reader → Type 0
@@ -161,6 +197,12 @@ WritesBack w r =
 -- it is kept by ours
 abbrev pub ReadIsWrittenBack : Type 0
 ReadIsWrittenBack = (L : Limits) → WritesBack (rollWriter L) (rollReader L)
+
+-- an old roll is written as the new one with 0 and 1
+abbrev pub OldIsWrittenAnew : Type 0
+OldIsWrittenAnew =
+    (L : Limits) (s old out : List ℕ) → allAtMost 255 s ≡ true → oldReader L .answer s (length old) .number ≡ 0 → length (anew s) ≤ length out
+    → WrittenAs (rollWriter L) (oldReader L) s (anew s) old out
 
 -- so, for any programs: where rolls are written back, two accepted rolls that give back the same are one roll ..
 abbrev pub OneRollAGame : Type 0
@@ -184,7 +226,8 @@ OneGameARoll =
 -- a good log's actions can be written, with its start, the record of position 0
 abbrev pub GoodIsWritable : Type 0
 GoodIsWritable =
-    (L : Limits) (acts ps : List ℕ) (n m : ℕ) → longEnough L acts ps ≡ true → Good L acts ps n m → Writable L (boardOf (positionAt ps 0 .board)) acts n
+    (L : Limits) (acts ps : List ℕ) (n m : ℕ) → longEnough L acts ps ≡ true → Good L acts ps n m
+    → Writable L (withCounters (boardOf (positionAt ps 0 .board)) (positionAt ps 0 .half) (positionAt ps 0 .full)) acts n
 
 -- Reading back is not kept by a writer that takes no notice of which record in range it is given, whatever reads ..
 abbrev pub OneConstantStartFails : Type 0
