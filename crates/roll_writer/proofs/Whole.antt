@@ -10,16 +10,18 @@ use lib.ListN.{length, length-append}
 use borrow.Author.Tests.{ltb-false, le-leb}
 use Rattle.answer.specs.Answer.{outOfRange, partTooShort, logFull, writeBytes}
 use Rattle.answer.specs.Parts.{written}
+use Rattle.answer.proofs.Numbers.{both-right}
 use Rattle.answer.proofs.Parts.{written-behind, length-written}
 use Rattle.board_builder.specs.declared.BoardBuilder.{BoardBuilder}
-use Rattle.board_builder.specs.BoardBuilder.{squares, recordSize, inRange, numbers}
+use Rattle.board_builder.specs.BoardBuilder.{squares, recordSize, countersInRange, inRange, numbers, numbersInRange}
 use Rattle.board_builder.proofs.Ranges.{in-range}
 use Rattle.stored_position.proofs.Checks.{length-numbers, numbers-range}
 use Rattle.game_rules.specs.Limits.{Limits, actionsLength}
 use Rattle.roll_text.specs.Number.{numberText}
-use Rattle.roll_text.specs.Roll.{actionsText, rollText}
+use Rattle.roll_text.specs.Roll.{startFrom, countsText, actionsText, textBy}
 use Rattle.roll_text.specs.Calls.{writeCheck, gameText}
 use Rattle.roll_text.proofs.Plain.{start-numbers}
+use Rattle.roll_writer.specs.CodeSizes.{startText}
 
 -- what a roll that passes the checks has
 pub record Passed (L : Limits) (b : BoardBuilder) (part : List ℕ) (n : ℕ) : Type 0 where
@@ -42,49 +44,94 @@ pub over-front : (t l : List ℕ) → length t ≤ length l → writeBytes 0 t l
 unfolding writeBytes
 over-front t l fits = let none : 0 + length t ≡ length t = omega arith in simp (le-leb _ _ fits, none)
 
-module _ (b : BoardBuilder) (part : List ℕ) (n : ℕ) (good : inRange b ≡ true) where
+module _ (b : BoardBuilder) (good : inRange b ≡ true) where
   squares-long : length (b .pieces) ≡ squares
   squares-long = in-range b good .long
 
   pub record-long : length (numbers b) ≡ recordSize
   record-long = length-numbers b squares-long
 
-  -- the record's text is its numbers
-  in-parts : gameText b part n ≡ numbers b ++ (numberText n ++ actionsText n part)
-  unfolding rollText
-  in-parts =
-      ap (λ (l : List ℕ). l ++ (numberText n ++ actionsText n part)) (start-numbers (numbers b) (numbers-range b squares-long ∙ good))
+  numbers-good : numbersInRange (numbers b) ≡ true
+  numbers-good =
+      both-right (countersInRange (b .«half_moves») (b .«full_moves»)) (numbersInRange (numbers b)) (numbers-range b squares-long ∙ good)
 
-  pub text-long : length (gameText b part n) ≡ recordSize + length (numberText n) + length (actionsText n part)
+  -- the text of the start: the numbers themselves, then the counters
+  pub start-long : length (startText b) ≡ recordSize + length (numberText (b .«half_moves»)) + length (numberText (b .«full_moves»))
+  unfolding startText
+  start-long =
+      length-append (numbers b) (numberText (b .«half_moves») ++ numberText (b .«full_moves»))
+      ∙ omega (arith, record-long, length-append (numberText (b .«half_moves»)) (numberText (b .«full_moves»)))
+
+  -- it is written one right behind the other
+  module _ (l x y z : List ℕ) (at : ℕ) (room : length (startText b) ≤ length l) (e : x ≡ writeBytes 0 (numbers b) l)
+      (here : at ≡ recordSize + length (numberText (b .«half_moves»))) where
+    first : x ≡ written l 0 (numbers b)
+    first = e ∙ over-front (numbers b) l (omega (arith, record-long, start-long))
+
+    pub half-there : recordSize + length (numberText (b .«half_moves»)) ≤ length x
+    half-there = omega (arith, start-long, ap length first ∙ length-written l 0 (numbers b) (omega (arith, record-long, start-long)))
+
+    module _ (f : y ≡ written x recordSize (numberText (b .«half_moves»))) where
+      clocked : y ≡ written l 0 (numbers b ++ numberText (b .«half_moves»))
+      clocked =
+          f ∙ ap (λ (w : List ℕ). written w recordSize (numberText (b .«half_moves»))) first
+          ∙ written-behind l 0 (numbers b) (omega (arith, record-long, start-long)) recordSize (numberText (b .«half_moves»)) (omega (arith, record-long))
+          (omega (arith, start-long))
+
+      both-long : length (numbers b ++ numberText (b .«half_moves»)) ≡ recordSize + length (numberText (b .«half_moves»))
+      both-long = length-append (numbers b) (numberText (b .«half_moves»)) ∙ omega (arith, record-long)
+
+      pub full-there : at + length (numberText (b .«full_moves»)) ≤ length y
+      full-there =
+          omega (
+            arith,
+            start-long,
+            here,
+            ap length clocked ∙ length-written l 0 (numbers b ++ numberText (b .«half_moves»)) (omega (arith, both-long, start-long)),
+          )
+
+      pub start-there : z ≡ written y at (numberText (b .«full_moves»)) → z ≡ written l 0 (startText b)
+      unfolding startText
+      start-there g =
+          g ∙ ap (λ (w : List ℕ). written w at (numberText (b .«full_moves»))) clocked
+          ∙ written-behind l 0 (numbers b ++ numberText (b .«half_moves»)) (omega (arith, both-long, start-long)) at (numberText (b .«full_moves»))
+          (omega (arith, both-long, here)) (omega (arith, start-long, here))
+          ∙ ap (written l 0) (append-assoc (numbers b) (numberText (b .«half_moves»)) (numberText (b .«full_moves»)))
+
+module _ (b : BoardBuilder) (part : List ℕ) (n : ℕ) (good : inRange b ≡ true) where
+  -- the record's text is its numbers
+  in-parts : gameText b part n ≡ startText b ++ (numberText n ++ actionsText n part)
+  unfolding textBy countsText startText
+  in-parts =
+      ap (λ (l : List ℕ). l ++ (countsText true (startFrom b) ++ (numberText n ++ actionsText n part))) (start-numbers (numbers b) (numbers-good b good))
+      ∙ sym (append-assoc (numbers b) (countsText true (startFrom b)) (numberText n ++ actionsText n part))
+
+  pub text-long : length (gameText b part n) ≡ length (startText b) + length (numberText n) + length (actionsText n part)
   text-long =
       ap length in-parts
-      ∙ length-append (numbers b) (numberText n ++ actionsText n part)
-      ∙ omega (arith, record-long, length-append (numberText n) (actionsText n part))
+      ∙ length-append (startText b) (numberText n ++ actionsText n part)
+      ∙ omega (arith, length-append (numberText n) (actionsText n part))
 
-  module _ (l x y z : List ℕ) (at : ℕ) (room : length (gameText b part n) ≤ length l) (e : x ≡ writeBytes 0 (numbers b) l)
-      (here : at ≡ recordSize + length (numberText n)) where
-    start : x ≡ written l 0 (numbers b)
-    start = e ∙ over-front (numbers b) l (omega (arith, record-long, text-long))
+  module _ (l x y z : List ℕ) (at : ℕ) (room : length (gameText b part n) ≤ length l) (start : x ≡ written l 0 (startText b))
+      (here : at ≡ length (startText b) + length (numberText n)) where
+    pub record-there : length (startText b) + length (numberText n) ≤ length x
+    record-there = omega (arith, text-long, ap length start ∙ length-written l 0 (startText b) (omega (arith, text-long)))
 
-    pub record-there : recordSize + length (numberText n) ≤ length x
-    record-there = omega (arith, text-long, ap length start ∙ length-written l 0 (numbers b) (omega (arith, record-long, text-long)))
-
-    module _ (f : y ≡ written x recordSize (numberText n)) where
-      counted : y ≡ written l 0 (numbers b ++ numberText n)
+    module _ (f : y ≡ written x (length (startText b)) (numberText n)) where
+      counted : y ≡ written l 0 (startText b ++ numberText n)
       counted =
-          f ∙ ap (λ (w : List ℕ). written w recordSize (numberText n)) start
-          ∙ written-behind l 0 (numbers b) (omega (arith, record-long, text-long)) recordSize (numberText n) (omega (arith, record-long))
-          (omega (arith, text-long))
+          f ∙ ap (λ (w : List ℕ). written w (length (startText b)) (numberText n)) start
+          ∙ written-behind l 0 (startText b) (omega (arith, text-long)) (length (startText b)) (numberText n) (omega arith) (omega (arith, text-long))
 
-      both : length (numbers b ++ numberText n) ≡ recordSize + length (numberText n)
-      both = length-append (numbers b) (numberText n) ∙ omega (arith, record-long)
+      both : length (startText b ++ numberText n) ≡ length (startText b) + length (numberText n)
+      both = length-append (startText b) (numberText n)
 
       pub count-there : at + length (actionsText n part) ≤ length y
-      count-there = omega (arith, text-long, here, ap length counted ∙ length-written l 0 (numbers b ++ numberText n) (omega (arith, both, text-long)))
+      count-there = omega (arith, text-long, here, ap length counted ∙ length-written l 0 (startText b ++ numberText n) (omega (arith, both, text-long)))
 
       pub all-there : z ≡ written y at (actionsText n part) → z ≡ written l 0 (gameText b part n)
       all-there g =
           g ∙ ap (λ (w : List ℕ). written w at (actionsText n part)) counted
-          ∙ written-behind l 0 (numbers b ++ numberText n) (omega (arith, both, text-long)) at (actionsText n part) (omega (arith, both, here))
+          ∙ written-behind l 0 (startText b ++ numberText n) (omega (arith, both, text-long)) at (actionsText n part) (omega (arith, both, here))
           (omega (arith, text-long, here))
-          ∙ ap (written l 0) (append-assoc (numbers b) (numberText n) (actionsText n part) ∙ sym in-parts)
+          ∙ ap (written l 0) (append-assoc (startText b) (numberText n) (actionsText n part) ∙ sym in-parts)

@@ -3,15 +3,25 @@
 use Prim.Native.Nat.{ℕ, _+_, _≤_, _<_}
 use mathlib.Core.Path.{_≡_}
 use mathlib.Core.Bool.{cond}
-use mathlib.Core.List.{List}
+use mathlib.Core.List.{List, _++_}
 use lib.Dec.{eqb}
 use lib.ListN.{length, take}
 use Rattle.answer.specs.declared.Answer.{Answer}
 use Rattle.answer.specs.Answer.{accepted, refused}
+use Rattle.board_builder.specs.declared.BoardBuilder.{BoardBuilder}
+use Rattle.board_builder.specs.BoardBuilder.{recordSize, numbers}
 use Rattle.action.specs.Layout.{actionSize, movesHere, actionOf}
 use Rattle.actions.specs.Part.{isHeld, actionsHeld}
 use Rattle.roll_text.specs.Number.{numberText}
 use Rattle.roll_text.specs.Roll.{kindAt, colourAt, moveNumberAt, actionText, actionsText}
+
+-- the text of a start in range: 68 bytes, and the counters
+unfoldable pub startText : BoardBuilder → List ℕ
+startText b = numbers b ++ (numberText (b .«half_moves») ++ numberText (b .«full_moves»))
+
+-- it has no more bytes than that
+abbrev pub startMost : ℕ
+startMost = recordSize + 10
 
 abbrev pub moveSize : ℕ → ℕ → ℕ
 moveSize colour move = cond (isHeld (movesHere colour move)) (1 + length (numberText move)) 0

@@ -1,4 +1,4 @@
-// Writes a game roll (document 02, order 1).
+// Writes a game roll (document 02, orders 1 and 12).
 use action::ACTION_SIZE;
 use action::Stored;
 use answer::ACCEPTED;
@@ -25,12 +25,13 @@ ghost use lib.ListN.{length, drop};
 ghost use Rattle.answer.specs.Answer.{writeAnswer, writeBytes};
 ghost use Rattle.answer.specs.Parts.{written};
 ghost use Rattle.chess_move.specs.Number.{ofBytes};
+ghost use Rattle.board_builder.specs.BoardBuilder.{inRange};
 ghost use Rattle.actions.specs.Part.{movesIn};
 ghost use Rattle.game_rules.specs.Limits.{limits};
 ghost use Rattle.roll_text.specs.Number.{reach, groups, numberText};
 ghost use Rattle.roll_text.specs.Roll.{codeOf, actionText, actionsText};
 ghost use Rattle.roll_text.specs.Calls.{fieldsAt, writeCheck, gameText};
-ghost use Rattle.roll_writer.specs.CodeSizes.{Short, moveSize, plainSize, sizeAt, actionsSize, measured};
+ghost use Rattle.roll_writer.specs.CodeSizes.{Short, startText, startMost, moveSize, plainSize, sizeAt, actionsSize, measured};
 
 const MOST_GROUPS: usize = 5;
 
@@ -207,6 +208,30 @@ fn too_many_moves(acts: &[u8], n: usize) -> bool
     MAX_MOVES < actions::moves_in(acts, n)
 }
 
+// How many bytes the text of a start has: one for each of 68 numbers, then the counters.
+fn start_size(b: BoardBuilder) -> usize
+    requires { ⌜ inRange b ≡ true ⌝ }
+    ensures { λ r. ⌜ (r ≡ length (startText b)) × (r ≤ startMost) ⌝ }
+{
+    let half = number_length(b.half_moves as u64);
+    let full = number_length(b.full_moves as u64);
+    RECORD_SIZE + half + full
+}
+
+// Writes the text of a start, and hands back where it ends.
+fn put_start(b: BoardBuilder, out: &mut [u8]) -> usize
+    requires { ⌜ inRange b ≡ true ⌝ }
+    requires { ⌜ length (startText b) ≤ length (now out) ⌝ }
+    ensures end { λ r. ⌜ r ≡ length (startText b) ⌝ }
+    ensures bytes { λ r. ⌜ now (out .exit) ≡ written (now (out .entry)) 0 (startText b) ⌝ }
+{
+    let half = b.half_moves as u64;
+    let full = b.full_moves as u64;
+    b.to_bytes(out);
+    let at = put_groups(out, RECORD_SIZE, half, MOST_GROUPS);
+    put_groups(out, at, full, MOST_GROUPS)
+}
+
 // The roll's length, or the first refusal of 16, 5, 13 for the count, then for the moves, 17.
 fn measure(b: BoardBuilder, acts: &[u8], n: u64) -> Answer
     ensures { λ r. ⌜ r ≡ measured (writeCheck limits b (now (acts .entry)) n) (gameText b (now (acts .entry)) n) ⌝ }
@@ -228,7 +253,7 @@ fn measure(b: BoardBuilder, acts: &[u8], n: u64) -> Answer
     if size == 0 {
         return answer::refused(BAD_ROLL);
     }
-    answer::accepted((RECORD_SIZE + number_length(n) + (size - 1)) as u64)
+    answer::accepted((start_size(b) + number_length(n) + (size - 1)) as u64)
 }
 
 fn put(b: BoardBuilder, acts: &[u8], n: usize, out: &mut [u8])
@@ -236,8 +261,8 @@ fn put(b: BoardBuilder, acts: &[u8], n: usize, out: &mut [u8])
     requires { ⌜ length (gameText b (now acts) n) ≤ length (now out) ⌝ }
     ensures { λ r. ⌜ now (out .exit) ≡ written (now (out .entry)) 0 (gameText b (now (acts .entry)) n) ⌝ }
 {
-    b.to_bytes(out);
-    let at = put_groups(out, RECORD_SIZE, n as u64, MOST_GROUPS);
+    let behind = put_start(b, out);
+    let at = put_groups(out, behind, n as u64, MOST_GROUPS);
     put_actions(acts, n, out, at);
 }
 

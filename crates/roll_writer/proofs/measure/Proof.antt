@@ -95,40 +95,45 @@ returns-5 c =
     (ltb-false _ _ (sym (at-too-many-moves .ensures) ∙ at-if4 .left))
     (size-none (at-args .acts .now) (at-args .n) (at-actions-size .result) (at-actions-size .ensures .0) (at-if5 .taken))) (λ z. omega arith)
 
+start-size-requires : tie.Need-start-size-requires
+start-size-requires c κs =
+    let at-in-range = c .before .before .before .before .before .before .in-range in
+    let at-if2 = c .before .before .before .before .before .if2 in
+    sym (at-in-range .ensures) ∙ not-false (at-in-range .result) (at-if2 .left)
+
 number-length-requires : tie.Need-number-length-requires
 number-length-requires c κs = search needs
 
 add-accepted : tie.Need-add-accepted
 add-accepted c =
-    let a = c .before .before .before .before .before .before .before .before .before .before .args in
-    omega (
-      arith,
-      c .number-length .ensures,
-      groups-most 5 (a .n),
-    )
+    let a = c .before .before .before .before .before .before .before .before .before .before .before .args in
+    omega (arith, c .number-length .ensures, c .before .start-size .ensures .1, groups-most 5 (a .n))
 
 sub-accepted : tie.Need-sub-accepted
 sub-accepted c = search needs
 
 add-accepted-2 : tie.Need-add-accepted-2
 add-accepted-2 c =
-    let few = groups-most 5 (c .before .before .before .before .before .before .before .before .before .before .args .n) in
-    omega (arith, c .number-length .ensures, few, c .before .before .actions-size .ensures .1, c .before .before .before .before .before .if3 .left)
+    let few = groups-most 5 (c .before .before .before .before .before .before .before .before .before .before .before .args .n) in
+    let at-actions-size = c .before .before .before .actions-size in
+    let at-if3 = c .before .before .before .before .before .before .if3 in
+    omega (arith, c .number-length .ensures, few, c .before .start-size .ensures .1, at-actions-size .ensures .1, at-if3 .left)
 
 accepted-requires : tie.Need-accepted-requires
 accepted-requires c κs = search needs
 
 returns-6 : tie.Need-returns-6
 returns-6 c =
-    let at-args = c .before .before .before .before .before .before .before .before .before .before .before .args in
-    let at-if1 = c .before .before .before .before .before .before .before .before .before .if1 in
-    let at-in-range = c .before .before .before .before .before .before .before .before .in-range in
-    let at-if2 = c .before .before .before .before .before .before .before .if2 in
-    let at-if3 = c .before .before .before .before .before .before .if3 in
-    let at-too-many-moves = c .before .before .before .before .before .too-many-moves in
-    let at-if4 = c .before .before .before .before .if4 in
-    let at-actions-size = c .before .before .before .actions-size in
-    let at-if5 = c .before .before .if5 in
+    let at-args = c .before .before .before .before .before .before .before .before .before .before .before .before .args in
+    let at-if1 = c .before .before .before .before .before .before .before .before .before .before .if1 in
+    let at-in-range = c .before .before .before .before .before .before .before .before .before .in-range in
+    let at-if2 = c .before .before .before .before .before .before .before .before .if2 in
+    let at-if3 = c .before .before .before .before .before .before .before .if3 in
+    let at-too-many-moves = c .before .before .before .before .before .before .too-many-moves in
+    let at-if4 = c .before .before .before .before .before .if4 in
+    let at-actions-size = c .before .before .before .before .actions-size in
+    let at-if5 = c .before .before .before .if5 in
+    let at-start-size = c .before .before .start-size in
     let at-number-length = c .before .number-length in
     let all = size-all (at-args .acts .now) (at-args .n) (at-actions-size .result) (at-actions-size .ensures .0) (at-if5 .left) in
     let good = (sym (at-in-range .ensures) ∙ not-false (at-in-range .result) (at-if2 .left)) in
@@ -140,6 +145,7 @@ returns-6 c =
       arith,
       text-long (at-args .b) (at-args .acts .now) (at-args .n) good,
       all .long,
+      at-start-size .ensures .0,
       at-number-length .ensures,
     ))
 
@@ -160,6 +166,7 @@ measure-spec =
     actions-size-requires
     refused-requires-5
     returns-5
+    start-size-requires
     number-length-requires
     add-accepted
     sub-accepted
