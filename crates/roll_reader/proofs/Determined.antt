@@ -5,6 +5,8 @@ use denote.Ref.{now}
 use Rattle.answer.specs.Determined.{OneAnswer, OnePart}
 use Rattle.roll_reader.proofs.read.Reads as read
 use Rattle.roll_reader.proofs.read.Kinds as read·k
+use Rattle.roll_reader.proofs.read_old.Reads as read·old
+use Rattle.roll_reader.proofs.read_old.Kinds as read·old·k
 use Rattle.roll_reader.proofs.check.Reads as check
 use Rattle.roll_reader.proofs.check.Kinds as check·k
 
@@ -13,6 +15,12 @@ read-answer κs a x y e f p q = p .0 ∙ sym (q .0)
 
 pub read-part : OnePart read·k.ps read·k.r (λ κs x e. now (e .1 .0)) read.Learnt
 read-part κs a x y e f p q = p .1 ∙ sym (q .1)
+
+pub read-old-answer : OneAnswer read·old·k.ps read·old·k.r read·old.Learnt
+read-old-answer κs a x y e f p q = p .0 ∙ sym (q .0)
+
+pub read-old-part : OnePart read·old·k.ps read·old·k.r (λ κs x e. now (e .1 .0)) read·old.Learnt
+read-old-part κs a x y e f p q = p .1 ∙ sym (q .1)
 
 pub check-answer : OneAnswer check·k.ps check·k.r check.Learnt
 check-answer κs a x y e f p q = p ∙ sym q

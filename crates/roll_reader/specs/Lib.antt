@@ -1,2 +1,3 @@
 pub mod CodeShort
+pub mod CodeStart
 pub mod Checked

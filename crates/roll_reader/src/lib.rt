@@ -1,4 +1,4 @@
-// Reads a game roll (document 02, order 1).
+// Reads a game roll (document 02, orders 1 and 12).
 use action::ACTION_SIZE;
 use actions::NO_MOVE;
 use answer::Answer;
@@ -9,11 +9,13 @@ use answer::PART_TOO_SHORT;
 use answer::front;
 use answer::rest;
 use board_builder::BoardBuilder;
+use board_builder::LAST_COUNT;
 use board_builder::RECORD_SIZE;
 use chess_move::LAST_MOVE;
 use game_rules::ACTIONS_LENGTH;
 use game_rules::MAX_ACTIONS;
 use game_rules::MAX_MOVES;
+use roll_text::Counters;
 use roll_text::Entry;
 use roll_text::Number;
 use roll_text::Roll;
@@ -22,14 +24,15 @@ ghost use mathlib.Core.Bool.{true};
 ghost use Prim.Native.Nat.{_+_, _*_, _≤_, _<_};
 ghost use lib.ListN.{length, take, drop, getD};
 ghost use Rattle.answer.specs.Parts.{written};
-ghost use Rattle.board_builder.specs.BoardBuilder.{recordSize, boardOf};
+ghost use Rattle.board_builder.specs.BoardBuilder.{recordSize, boardOf, withCounters};
 ghost use Rattle.action.specs.Layout.{fields};
 ghost use Rattle.game_rules.specs.Limits.{limits};
 ghost use Rattle.roll_text.specs.Number.{readGroups, readNumber};
-ghost use Rattle.roll_text.specs.Roll.{largestNumbers, readNumbers, refusal, isCode, readEntry, readActions, readRoll};
+ghost use Rattle.roll_text.specs.Roll.{largestNumbers, readNumbers, readCounters, refusal, isCode, readEntry, readActions, readRoll};
 ghost use Rattle.roll_reader.specs.Checked.{checked};
 ghost use Rattle.roll_reader.specs.CodeShort.{ShortMove};
-ghost use Rattle.roll_text.specs.Calls.{frontNumber, actsNumber, actsOver, isActs, rollAnswer, rollOver, judged};
+ghost use Rattle.roll_reader.specs.CodeStart.{Started};
+ghost use Rattle.roll_text.specs.Calls.{frontNumber, actsNumber, actsOver, isActs, rollAnswer, rollOver, judgedBy, judged, judgedOld};
 
 const MOVE_CODE: u64 = 2;
 
@@ -284,9 +287,51 @@ fn judge_record(s: &[u8]) -> u64
     judge_numbers(s)
 }
 
-fn board_at(s: &[u8]) -> BoardBuilder
+// The counters at the front of a text; an old roll has none and gets 0 and 1.
+fn read_counters(s: &[u8], counted: bool) -> Counters
+    ensures { λ r. ⌜ r ≡ readCounters counted (now (s .entry)) ⌝ }
+{
+    if !counted {
+        return Counters::Counts(0, 1, 0);
+    }
+    let first = read_number(s);
+    match first {
+        Number::Got(half, size) => {
+            if LAST_COUNT < half {
+                return Counters::Wrong(OUT_OF_RANGE);
+            }
+            let second = read_number(rest(s, size));
+            match second {
+                Number::Got(full, more) => {
+                    if full == 0 {
+                        return Counters::Wrong(OUT_OF_RANGE);
+                    }
+                    if LAST_COUNT < full {
+                        return Counters::Wrong(OUT_OF_RANGE);
+                    }
+                    Counters::Counts(half as u16, full as u16, size + more)
+                }
+                Number::Bad => Counters::Wrong(BAD_ROLL),
+            }
+        }
+        Number::Bad => Counters::Wrong(BAD_ROLL),
+    }
+}
+
+// The counters of a start and how many bytes they take behind its 68 numbers, or what is wrong with the start.
+fn read_start(s: &[u8], counted: bool) -> Counters
+    ensures { λ r. ⌜ Started counted (now (s .entry)) r ⌝ }
+{
+    let wrong = judge_record(s);
+    if wrong != 0 {
+        return Counters::Wrong(wrong);
+    }
+    read_counters(rest(s, RECORD_SIZE), counted)
+}
+
+fn board_at(s: &[u8], half: u16, full: u16) -> BoardBuilder
     requires { ⌜ recordSize ≤ length (now s) ⌝ }
-    ensures { λ r. ⌜ r ≡ boardOf (now (s .entry)) ⌝ }
+    ensures { λ r. ⌜ r ≡ withCounters (boardOf (now (s .entry))) half full ⌝ }
 {
     let mut pieces = [0u8; 64];
     let mut i: usize = 0;
@@ -300,6 +345,8 @@ fn board_at(s: &[u8]) -> BoardBuilder
         white_castle_rights: s[65],
         black_castle_rights: s[66],
         en_passant: s[67],
+        half_moves: half,
+        full_moves: full,
     }
 }
 
@@ -309,7 +356,44 @@ fn refusal(number: u64) -> Roll
     Roll {
         number,
         actions: 0,
-        board: BoardBuilder::new(),
+        board: BoardBuilder::none(),
+    }
+}
+
+// Reads a roll, with counters or an old one without: its actions to the front of `part`, 4 bytes each, or nothing.
+fn read_by(s: &[u8], counted: bool, part: &mut [u8]) -> Roll
+    ensures answer { λ r. ⌜ r ≡ rollAnswer (judgedBy counted limits (now (s .entry)) (length (now (part .entry)))) ⌝ }
+    ensures bytes { λ r. ⌜ now (part .exit) ≡ rollOver (judgedBy counted limits (now (s .entry)) (length (now (part .entry)))) (now (part .entry)) ⌝ }
+{
+    if part.len() < ACTIONS_LENGTH {
+        return refusal(PART_TOO_SHORT);
+    }
+    let start = read_start(s, counted);
+    match start {
+        Counters::Counts(half, full, size) => {
+            let behind = rest(rest(s, RECORD_SIZE), size);
+            let count = read_number(behind);
+            match count {
+                Number::Got(n, more) => {
+                    if (MAX_ACTIONS as u64) < n {
+                        return refusal(LOG_FULL);
+                    }
+                    let text = rest(behind, more);
+                    let bad = judge_actions(text, n as usize, MAX_MOVES);
+                    if bad != 0 {
+                        return refusal(bad);
+                    }
+                    write_actions(text, n as usize, MAX_MOVES, part);
+                    Roll {
+                        number: 0,
+                        actions: n,
+                        board: board_at(s, half, full),
+                    }
+                }
+                Number::Bad => refusal(BAD_ROLL),
+            }
+        }
+        Counters::Wrong(number) => refusal(number),
     }
 }
 
@@ -318,57 +402,40 @@ pub fn read(s: &[u8], part: &mut [u8]) -> Roll
     ensures answer { λ r. ⌜ r ≡ rollAnswer (judged limits (now (s .entry)) (length (now (part .entry)))) ⌝ }
     ensures bytes { λ r. ⌜ now (part .exit) ≡ rollOver (judged limits (now (s .entry)) (length (now (part .entry)))) (now (part .entry)) ⌝ }
 {
-    if part.len() < ACTIONS_LENGTH {
-        return refusal(PART_TOO_SHORT);
-    }
-    let wrong = judge_record(s);
-    if wrong != 0 {
-        return refusal(wrong);
-    }
-    let behind = rest(s, RECORD_SIZE);
-    let count = read_number(behind);
-    match count {
-        Number::Got(n, size) => {
-            if (MAX_ACTIONS as u64) < n {
-                return refusal(LOG_FULL);
-            }
-            let text = rest(behind, size);
-            let bad = judge_actions(text, n as usize, MAX_MOVES);
-            if bad != 0 {
-                return refusal(bad);
-            }
-            write_actions(text, n as usize, MAX_MOVES, part);
-            Roll {
-                number: 0,
-                actions: n,
-                board: board_at(s),
-            }
-        }
-        Number::Bad => refusal(BAD_ROLL),
-    }
+    read_by(s, true, part)
+}
+
+// The same for an old roll, which has no counters: its start gets 0 and 1.
+pub fn read_old(s: &[u8], part: &mut [u8]) -> Roll
+    ensures answer { λ r. ⌜ r ≡ rollAnswer (judgedOld limits (now (s .entry)) (length (now (part .entry)))) ⌝ }
+    ensures bytes { λ r. ⌜ now (part .exit) ≡ rollOver (judgedOld limits (now (s .entry)) (length (now (part .entry)))) (now (part .entry)) ⌝ }
+{
+    read_by(s, false, part)
 }
 
 // What is wrong with a roll, as `read` tells it with a part that is long enough, or 0 with how many actions the roll has. Nothing is written.
 pub fn check(s: &[u8]) -> Answer
     ensures { λ r. ⌜ r ≡ checked (readRoll limits (now (s .entry))) ⌝ }
 {
-    let wrong = judge_record(s);
-    if wrong != 0 {
-        return answer::refused(wrong);
-    }
-    let behind = rest(s, RECORD_SIZE);
-    let count = read_number(behind);
-    match count {
-        Number::Got(n, size) => {
-            if (MAX_ACTIONS as u64) < n {
-                return answer::refused(LOG_FULL);
+    let start = read_start(s, true);
+    match start {
+        Counters::Counts(_, _, size) => {
+            let behind = rest(rest(s, RECORD_SIZE), size);
+            let count = read_number(behind);
+            match count {
+                Number::Got(n, more) => {
+                    if (MAX_ACTIONS as u64) < n {
+                        return answer::refused(LOG_FULL);
+                    }
+                    let bad = judge_actions(rest(behind, more), n as usize, MAX_MOVES);
+                    if bad != 0 {
+                        return answer::refused(bad);
+                    }
+                    answer::accepted(n)
+                }
+                Number::Bad => answer::refused(BAD_ROLL),
             }
-            let bad = judge_actions(rest(behind, size), n as usize, MAX_MOVES);
-            if bad != 0 {
-                return answer::refused(bad);
-            }
-            answer::accepted(n)
         }
-        Number::Bad => answer::refused(BAD_ROLL),
+        Counters::Wrong(number) => answer::refused(number),
     }
 }

@@ -1,4 +1,4 @@
--- `board_at` of lib.rt meets its contract: r ≡ boardOf (now (s .entry)).
+-- `board_at` of lib.rt meets its contract: r ≡ withCounters (boardOf (now (s .entry))) half full.
 use mathlib.Core.Path.{_≡_, refl, ap}
 use native.Mathlib.Omega.{arith}
 use Prim.Native.Nat.{ℕ, _-_, _≤_}
@@ -6,16 +6,16 @@ use borrow.Author.Needs.{needs}
 use lib.ListN.{length, take}
 use mathlib.Core.List.{List}
 use lib.ListN.{length, take, getD, length-set}
-use Rattle.board_builder.specs.BoardBuilder.{board}
+use Rattle.board_builder.specs.BoardBuilder.{boardCounted}
 use Rattle.roll_reader.proofs.Answers.{square-copied, squares-copied}
 use Rattle.roll_reader.proofs.board_at.Statement.{statement}
 use Rattle.roll_reader.proofs.board_at.Tie as tie
 
 abbrev Inv-loop : tie.InvT-loop
-Inv-loop s pieces₀ i₀ pieces i = (i ≤ 64) × (length pieces ≡ 64) × (take i pieces ≡ take i s)
+Inv-loop s half full pieces₀ i₀ pieces i = (i ≤ 64) × (length pieces ≡ 64) × (take i pieces ≡ take i s)
 
 abbrev μ-loop : tie.MeasureT-loop
-μ-loop s pieces₀ i₀ pieces i = 64 - i
+μ-loop s half full pieces₀ i₀ pieces i = 64 - i
 
 loop-holds : tie.Need-loop-holds Inv-loop μ-loop
 loop-holds c = (omega arith, refl, refl)
@@ -45,9 +45,6 @@ loop-again c =
       )) (omega (arith, c .before .loop-test .taken, c .before .before .before .pre)) (c .before .before .loop .inv .2),
     )
 
-shared-slice-read-t11 : tie.Need-shared-slice-read-t11 Inv-loop μ-loop
-shared-slice-read-t11 c = search needs
-
 shared-slice-read-t13 : tie.Need-shared-slice-read-t13 Inv-loop μ-loop
 shared-slice-read-t13 c = search needs
 
@@ -57,12 +54,16 @@ shared-slice-read-t15 c = search needs
 shared-slice-read-t17 : tie.Need-shared-slice-read-t17 Inv-loop μ-loop
 shared-slice-read-t17 c = search needs
 
+shared-slice-read-t19 : tie.Need-shared-slice-read-t19 Inv-loop μ-loop
+shared-slice-read-t19 c = search needs
+
 returns : tie.Need-returns Inv-loop μ-loop
 returns c =
     let at-args = c .before .before .before .before .before .before .args in
     let at-loop = c .before .before .before .before .before .loop in
     let at-loop-test = c .before .before .before .before .loop-test in
-    ap (λ (l : List ℕ). board l (getD (at-args .s .now) 64 0) (getD (at-args .s .now) 65 0) (getD (at-args .s .now) 66 0) (getD (at-args .s .now) 67 0))
+    let s = at-args .s .now in
+    ap (λ (l : List ℕ). boardCounted l (getD s 64 0) (getD s 65 0) (getD s 66 0) (getD s 67 0) (at-args .half) (at-args .full))
     (squares-copied (at-args .s .now) (at-loop .pieces) (at-loop .i) (at-loop .inv .1) (omega (arith, at-loop-test .left, at-loop .inv .0)) (at-loop .inv .2))
 
 pub board-at-spec : {M : Type 1} → statement M
@@ -77,8 +78,8 @@ board-at-spec =
     add-i
     loop-less
     loop-again
-    shared-slice-read-t11
     shared-slice-read-t13
     shared-slice-read-t15
     shared-slice-read-t17
+    shared-slice-read-t19
     returns)

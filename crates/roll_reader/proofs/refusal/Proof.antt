@@ -4,12 +4,12 @@ use Rattle.roll_text.specs.Calls.{rollAnswer}
 use Rattle.roll_reader.proofs.refusal.Statement.{statement}
 use Rattle.roll_reader.proofs.refusal.Tie as tie
 
-new-requires : tie.Need-new-requires
-new-requires c κs = search needs
+none-requires : tie.Need-none-requires
+none-requires c κs = search needs
 
 returns : tie.Need-returns
 unfolding rollAnswer
-returns c = rw (c .new .ensures)
+returns c = rw (c .none .ensures)
 
 pub refusal-spec : {M : Type 1} → statement M
-refusal-spec = tie.close (tie.spec new-requires returns)
+refusal-spec = tie.close (tie.spec none-requires returns)
