@@ -212,9 +212,10 @@ fn file_after(squares: &[u8], man: u8, source: u8, dest: u8) -> u8
     dest % 8 + 1
 }
 
-fn after(b: BoardBuilder, source: u8, dest: u8, promotion: u8) -> BoardBuilder
+// The record after a move, with these counters: handed in, since a record that is changed once more is copied once more.
+fn after(b: BoardBuilder, half: u16, full: u16, source: u8, dest: u8, promotion: u8) -> BoardBuilder
     requires { ⌜ (source < 64) × (dest < 64) × (promotion < 16) ⌝ }
-    ensures { λ r. ⌜ r ≡ afterParts b source dest promotion ⌝ }
+    ensures { λ r. ⌜ r ≡ withCounters (afterParts b source dest promotion) half full ⌝ }
 {
     let mut pieces = b.pieces;
     let man = pieces[source as usize];
@@ -226,8 +227,8 @@ fn after(b: BoardBuilder, source: u8, dest: u8, promotion: u8) -> BoardBuilder
         white_castle_rights: rights_after(0, b.white_castle_rights, source, dest),
         black_castle_rights: rights_after(1, b.black_castle_rights, source, dest),
         en_passant: file,
-        half_moves: 0,
-        full_moves: 1,
+        half_moves: half,
+        full_moves: full,
     }
 }
 
@@ -271,15 +272,6 @@ fn full_after(side: u8, full: u16) -> u16
     one_more(full)
 }
 
-fn with_counters(b: BoardBuilder, half: u16, full: u16) -> BoardBuilder
-    ensures { λ r. ⌜ r ≡ withCounters b half full ⌝ }
-{
-    let mut board = b;
-    board.half_moves = half;
-    board.full_moves = full;
-    board
-}
-
 // The record after a move, its counters too.
 fn counted_after(b: BoardBuilder, source: u8, dest: u8, promotion: u8) -> BoardBuilder
     requires { ⌜ (source < 64) × (dest < 64) × (promotion < 16) ⌝ }
@@ -288,11 +280,8 @@ fn counted_after(b: BoardBuilder, source: u8, dest: u8, promotion: u8) -> BoardB
 {
     let pieces = b.pieces;
     let half = half_after(&pieces, b.half_moves, source, dest);
-    with_counters(
-        after(b, source, dest, promotion),
-        half,
-        full_after(b.side_to_move, b.full_moves),
-    )
+    let full = full_after(b.side_to_move, b.full_moves);
+    after(b, half, full, source, dest, promotion)
 }
 
 fn stepped(number: u64, board: BoardBuilder) -> Stepped
@@ -505,6 +494,8 @@ pub fn leads_to_board(p: &[u8], m: u16, next: BoardBuilder) -> bool
     }
     let computed = after(
         record_at(p),
+        0,
+        1,
         (m % 64) as u8,
         (m / 64 % 64) as u8,
         (m / 4096) as u8,

@@ -86,16 +86,18 @@ fn codes_in_range(pieces: [u8; 64]) -> bool
     most <= 12
 }
 
+// The move number is judged in one number with the half-moves, as they lie side by side: a read of it alone waits for the copy of its record.
 pub fn counters_in_range(half: u16, full: u16) -> bool
     ensures { λ r. ⌜ r ≡ countersInRange half full ⌝ }
 {
+    let both = half as u64 + 65_536 * (full as u64);
     if LAST_COUNT < half as u64 {
         return false;
     }
-    if full == 0 {
+    if both < 65_536 {
         return false;
     }
-    full as u64 <= LAST_COUNT
+    both <= LAST_COUNT + 65_536 * LAST_COUNT
 }
 
 // Whether these are the numbers of a record in range, its counters left out.

@@ -13,11 +13,12 @@ use Rattle.square.specs.Square.{readSquare}
 use Rattle.castle_rights.specs.CastleRights.{lettersOf, lettersText}
 use Rattle.answer.proofs.Below.{fails, every, below, belows, same}
 use Rattle.board_builder.specs.declared.BoardBuilder.{BoardBuilder}
-use Rattle.board_builder.specs.BoardBuilder.{withCounters, uncounted}
+use Rattle.board_builder.specs.BoardBuilder.{withCounters, uncounted, inRange}
 use Rattle.answer.specs.Numbers.{allAtMost, among}
 use Rattle.answer.proofs.Numbers.{most-head, most-tail, or-left, or-right}
 use Rattle.board_builder.proofs.Ranges.{InRange, in-range}
 use Rattle.fen_text.specs.Token.{onto, joined, tokens}
+use Rattle.fen_text.specs.declared.Fen.{Fen}
 use Rattle.fen_text.specs.Read.{sideOf, rightsOf, enPassantOf, fenOf, sided, assembled, ofTokens, readFen}
 use Rattle.fen_text.specs.Write.{digitText, runText, rowOf, slashText, ranksText, sideLetter, rightsText, enPassantText, tailWith, tailText, fenText}
 use Rattle.fen_text.specs.Promises.{TextReadsBack, BeginningReadsBack}
@@ -153,7 +154,15 @@ pub read-back : TextReadsBack
 unfolding fenText tailText
 read-back b good = back b (in-range b good) (48 ∷ 32 ∷ 49 ∷ [])
 
-pub beginning-reads-back : BeginningReadsBack
-beginning-reads-back b good half full =
+with-those : (b : BoardBuilder) → inRange b ≡ true → b .«half_moves» ≡ 0 → b .«full_moves» ≡ 1 → readFen (fenText b) ≡ fenOf b
+with-those b good half full =
     let same : b ≡ uncounted b = λ i. withCounters b (half i) (full i) in
     read-back b good ∙ ap fenOf (sym same)
+
+pub beginning-reads-back : BeginningReadsBack
+beginning-reads-back b good =
+    record {
+      beginning = λ half full. with-those b good half full;
+      no-other = λ same. let back : fenOf b ≡ fenOf (uncounted b) = sym same ∙ read-back b good in
+          (ap (λ (f : Fen). f .board .«half_moves») back, ap (λ (f : Fen). f .board .«full_moves») back);
+    }

@@ -62,9 +62,13 @@ ReadsBack p = (b : BoardBuilder) (out : List ℕ) → inRange b ≡ true → p .
 abbrev pub TextReadsBack : Type 0
 TextReadsBack = (b : BoardBuilder) → inRange b ≡ true → readFen (fenText b) ≡ fenOf (uncounted b)
 
--- .. so "for the crate's pair over records with 0 and 1" it is read as the record
+-- .. so "for the crate's pair over records with 0 and 1" it is read as the record, and for no other
+pub record BackExactly (b : BoardBuilder) : Type 0 where
+  pub beginning : b .«half_moves» ≡ 0 → b .«full_moves» ≡ 1 → readFen (fenText b) ≡ fenOf b
+  pub no-other : readFen (fenText b) ≡ fenOf b → (b .«half_moves» ≡ 0) × (b .«full_moves» ≡ 1)
+
 abbrev pub BeginningReadsBack : Type 0
-BeginningReadsBack = (b : BoardBuilder) → inRange b ≡ true → b .«half_moves» ≡ 0 → b .«full_moves» ≡ 1 → readFen (fenText b) ≡ fenOf b
+BeginningReadsBack = (b : BoardBuilder) → inRange b ≡ true → BackExactly b
 
 -- and its full text as the record, whatever its counters
 abbrev pub FullTextReadsBack : Type 0

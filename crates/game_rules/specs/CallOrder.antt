@@ -1,17 +1,18 @@
 -- The order of the checks of a log call (document 01, "Answer numbers": 16, 9, 10, then for a move 11, 5, 6, 12, 13; document 02, order 9: 24
 -- after 12 and before 13), at its smallest: each call breaks the check of its row and all that come after it, so that any later check tested before it
--- would give another number.
+-- would give another number. Then the counters (document 02, order 12), of a start, of a stored position and of a next one.
 -- Assumes nothing.
 use mathlib.Core.Path.{_≡_}
 use mathlib.Core.List.{List, [], _∷_, _++_}
 use Prim.Native.Nat.{ℕ}
 use lib.ListN.{replicate}
 use Rattle.answer.specs.Answer.{outOfRange, badList, notGood, gameOver, notListed, wrongSide, wrongRecord, logFull, noOffer, noClaim, partTooShort}
-use Rattle.position.specs.Layout.{Position}
+use Rattle.board_builder.specs.BoardBuilder.{recordSize}
+use Rattle.position.specs.Layout.{Position, positionSize}
 use Rattle.stored_position.specs.Bytes.{positionBytes}
 use Rattle.game_rules.specs.Limits.{Limits}
 use Rattle.game_rules.specs.Rules.{Call, makeMove, offerDraw, acceptDraw, declareDraw, resign}
-use Rattle.game_rules.specs.Calls.{callAnswer}
+use Rattle.game_rules.specs.Calls.{logCheck, callAnswer, startAnswer}
 
 -- limits of no action and no move: every call breaks 13
 abbrev pub noRoom : Limits
@@ -66,3 +67,38 @@ pub record ChecksInOrder : Type 0 where
   pub resignation-gives-5 : answered startBytes (resign 2) ≡ outOfRange
   pub gives-14 : answered startBytes acceptDraw ≡ noOffer
   pub gives-15 : answered startBytes declareDraw ≡ noClaim
+
+-- an empty board with white to move and a list, and its counters
+abbrev pub countedStart : ℕ → ℕ → List ℕ → Position
+countedStart half full moves = record { board = replicate recordSize 0; half = half; full = full; check = 0; moves = moves }
+
+-- what such a start is answered, on parts that are long enough
+abbrev pub startedAt : ℕ → ℕ → List ℕ → ℕ
+startedAt half full moves = startAnswer noRoom [] (replicate positionSize 0) (countedStart half full moves)
+
+-- room for one move; and the check of a log whose one move is move 0, with the position after it
+abbrev pub oneMove : Limits
+oneMove = record { most-actions = 1; most-moves = 1 }
+
+abbrev pub withNext : Position → ℕ
+withNext next = logCheck oneMove (1 ∷ replicate 3 0) (startBytes ++ positionBytes next) 1 1
+
+pub record CountersInOrder : Type 0 where
+  -- a start's counters are free within their range; out of it 5, before 6 for its list
+  pub largest-start : startedAt 9999 9999 [] ≡ 0
+  pub clock-gives-5 : startedAt 10000 1 (28672 ∷ []) ≡ outOfRange
+  pub number-gives-5 : startedAt 0 0 (28672 ∷ []) ≡ outOfRange
+  pub numbers-most-gives-5 : startedAt 0 10000 (28672 ∷ []) ≡ outOfRange
+  -- the same for a next position, before 6, 12 and 24
+  pub next-clock-gives-5 : answered startBytes (makeMove 0 (countedStart 10000 1 (28672 ∷ []))) ≡ outOfRange
+  pub next-number-gives-5 : answered startBytes (makeMove 0 (countedStart 0 0 (28672 ∷ []))) ≡ outOfRange
+  -- a stored start: 9 for counters out of range, any others are good
+  pub stored-start : logCheck noRoom [] (positionBytes (countedStart 7 40 [])) 0 0 ≡ 0
+  pub stored-clock-gives-9 : logCheck noRoom [] (positionBytes (countedStart 10000 1 [])) 0 0 ≡ notGood
+  pub stored-number-gives-9 : logCheck noRoom [] (positionBytes (countedStart 0 0 [])) 0 0 ≡ notGood
+  -- a stored move: 9 for counters that are not those after it
+  pub counted : withNext (onEmpty 1 0 []) ≡ 0
+  pub half-gives-9 : withNext notCounted ≡ notGood
+  pub full-gives-9 : withNext nextNumber ≡ notGood
+  -- positions of 580 bytes, as they were without counters
+  pub old-part-gives-16 : logCheck noRoom [] (replicate 580 0) 0 0 ≡ partTooShort

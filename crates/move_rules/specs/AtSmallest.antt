@@ -1,4 +1,4 @@
--- The sentences of document 02, order 9, each at its smallest: boards with one man or two, and a move as its number, source + 64 * destination +
+-- The sentences of document 02, orders 9 and 12, each at its smallest: boards with one man or two, and a move as its number, source + 64 * destination +
 -- 4,096 * promotion.
 -- Assumes nothing.
 use mathlib.Core.Path.{_≡_}
@@ -6,8 +6,10 @@ use mathlib.Core.List.{List}
 use Prim.Native.Nat.{ℕ, _+_, _*_}
 use lib.ListN.{set, replicate}
 use Rattle.board_builder.specs.declared.BoardBuilder.{BoardBuilder}
-use Rattle.board_builder.specs.BoardBuilder.{board, boardCounted, uncounted}
-use Rattle.move_rules.specs.After.{boardAfter}
+use Rattle.answer.specs.Answer.{outOfRange, badList}
+use Rattle.board_builder.specs.BoardBuilder.{board, boardCounted, withCounters, uncounted, emptyBoard, noBoard}
+use Rattle.board_builder.specs.Steps.{stepped}
+use Rattle.move_rules.specs.After.{boardAfter, afterAnswer}
 
 -- a board with two men, or one
 abbrev pub twoMen : ℕ → ℕ → ℕ → ℕ → List ℕ
@@ -62,15 +64,41 @@ pub record Rows : Type 0 where
   -- "an empty source leaves both squares empty"; the side changes and rights go all the same
   pub empty : placedAfter (board (oneMan 18 8) 1 3 0 0) (move 0 18) ≡ board (replicate 64 0) 0 1 0 0
 
--- the counters of order 12: a knight b1c3, by white and by black, onto an empty square and onto a man; a pawn e2e3; and both at their last
-abbrev pub countersAfter : ℕ → ℕ → List ℕ → ℕ → ℕ → ℕ → (half full : ℕ) → Type 0
-countersAfter half full squares side source dest half' full' =
-    (boardAfter (boardCounted squares side 0 0 0 half full) (move source dest) .«half_moves» ≡ half')
-    × (boardAfter (boardCounted squares side 0 0 0 half full) (move source dest) .«full_moves» ≡ full')
+-- the counters after a move, given by source and destination and 4,096 * promotion, of a record with these squares and this side to move
+abbrev pub countersAfter : ℕ → ℕ → List ℕ → ℕ → ℕ → (half full : ℕ) → Type 0
+countersAfter half full squares side m half' full' =
+    (boardAfter (boardCounted squares side 3 3 0 half full) m .«half_moves» ≡ half')
+    × (boardAfter (boardCounted squares side 3 3 0 half full) m .«full_moves» ≡ full')
 
+-- order 12, "by the PGN rule and stops at 9,999"
 pub record CounterRows : Type 0 where
-  pub quiet : countersAfter 3 7 (oneMan 1 2) 0 1 18 4 7
-  pub by-black : countersAfter 3 7 (oneMan 1 8) 1 1 18 4 8
-  pub capture : countersAfter 3 7 (twoMen 1 2 18 7) 0 1 18 0 7
-  pub pawn-moves : countersAfter 3 7 (oneMan 12 1) 0 12 20 0 7
-  pub stops : countersAfter 9999 9999 (oneMan 1 8) 1 1 18 9999 9999
+  -- a knight b1c3, by white and by black; by whoever's turn it is, whoever's man moves
+  pub quiet : countersAfter 3 7 (oneMan 1 2) 0 (move 1 18) 4 7
+  pub by-black : countersAfter 3 7 (oneMan 1 8) 1 (move 1 18) 4 8
+  pub blacks-turn : countersAfter 3 7 (oneMan 1 2) 1 (move 1 18) 4 8
+  pub whites-turn : countersAfter 3 7 (oneMan 1 8) 0 (move 1 18) 4 7
+  -- onto a man, of either colour; a pawn e2e3, and e5d6 in passing
+  pub capture : countersAfter 3 7 (twoMen 1 2 18 7) 0 (move 1 18) 0 7
+  pub own-man : countersAfter 3 7 (twoMen 1 2 18 1) 0 (move 1 18) 0 7
+  pub pawn-moves : countersAfter 3 7 (oneMan 12 1) 0 (move 12 20) 0 7
+  pub in-passing : countersAfter 3 7 (twoMen 36 1 35 7) 0 (move 36 43) 0 7
+  -- a promotion counts only by the pawn
+  pub no-pawn-promoted : countersAfter 3 7 (oneMan 1 2) 0 (move 1 18 + 4096 * 5) 4 7
+  -- castling, which takes a right; over a man on f1, who is no capture; and onto one on g1
+  pub rights-leave-it : countersAfter 3 7 (twoMen 4 6 7 4) 0 (move 4 6) 4 7
+  pub over-a-man : countersAfter 3 7 (twoMen 4 6 5 8) 0 (move 4 6) 4 7
+  pub castling-onto : countersAfter 3 7 (twoMen 4 6 6 8) 0 (move 4 6) 0 7
+  -- a man to his own square, where he stands; an empty source to an empty square, to itself and to a man
+  pub own-square : countersAfter 3 7 (oneMan 1 2) 0 (move 1 1) 0 7
+  pub nobody : countersAfter 3 7 (oneMan 1 2) 0 (move 0 18) 4 7
+  pub nobody-stays : countersAfter 3 7 (oneMan 1 2) 0 (move 0 0) 4 7
+  pub nobody-captures : countersAfter 3 7 (oneMan 18 8) 0 (move 0 18) 0 7
+  -- at their last both stay, and the clock begins again all the same
+  pub stops : countersAfter 9999 9999 (oneMan 1 8) 1 (move 1 18) 9999 9999
+  pub begins-again : countersAfter 9999 9999 (twoMen 1 8 18 1) 1 (move 1 18) 0 9999
+
+-- "a record number .. out of range" is 5, a counter too, before 6 for the move
+pub record CountersRefused : Type 0 where
+  pub clock : afterAnswer (withCounters emptyBoard 10000 1) 28672 ≡ stepped outOfRange (withCounters emptyBoard 10000 1)
+  pub number : afterAnswer noBoard 28672 ≡ stepped outOfRange noBoard
+  pub largest : afterAnswer (withCounters emptyBoard 9999 9999) 28672 .number ≡ badList

@@ -1,3 +1,4 @@
+pub mod AtSmallest
 pub mod Moves
 pub mod Fields
 pub mod Repeats

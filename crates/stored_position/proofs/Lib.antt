@@ -1,3 +1,4 @@
+pub mod AtSmallest
 pub mod Bytes
 pub mod Checks
 pub mod Writes

@@ -1,3 +1,4 @@
 pub mod Bytes
 pub mod CodeParts
 pub mod Promises
+pub mod AtSmallest

@@ -1,4 +1,4 @@
--- `after` of lib.rt meets its contract: r ≡ afterParts b source dest promotion.
+-- `after` of lib.rt meets its contract: r ≡ withCounters (afterParts b source dest promotion) half full.
 use borrow.Author.Needs.{needs}
 use Rattle.move_rules.specs.After.{afterParts}
 use Rattle.board_after.proofs.after.Statement.{statement}

@@ -4,7 +4,7 @@ use mathlib.Core.Path.{ap, _∙_}
 use Prim.Native.Nat.{_/_, _%_}
 use Rattle.answer.specs.Numbers.{same}
 use Rattle.board_builder.specs.declared.BoardBuilder.{BoardBuilder}
-use Rattle.board_builder.specs.BoardBuilder.{numbers}
+use Rattle.board_builder.specs.BoardBuilder.{withCounters, numbers}
 use Rattle.move_rules.specs.After.{afterParts, recordAfter}
 use Rattle.board_after.proofs.Tests.{none-before, from-record}
 use Rattle.board_after.proofs.leads_to_board.Statement.{statement}
@@ -39,7 +39,7 @@ returns-2 c =
     let at-record-at = c .before .before .record-at in
     c .same-record .ensures
     ∙ ap (λ (b : BoardBuilder). same (numbers (a .next)) (numbers b))
-    (c .before .after .ensures ∙ ap (λ (b : BoardBuilder). afterParts b (a .m % 64) (a .m / 64 % 64) (a .m / 4096)) (at-record-at .ensures))
+    (c .before .after .ensures ∙ ap (λ (b : BoardBuilder). withCounters (afterParts b (a .m % 64) (a .m / 64 % 64) (a .m / 4096)) 0 1) (at-record-at .ensures))
     ∙ from-record (a .p .now) (a .m) (at-if1 .left) (numbers (a .next))
 
 pub leads-to-board-spec : {M : Type 1} → statement M
