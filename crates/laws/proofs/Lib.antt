@@ -4,4 +4,5 @@ pub mod Counted
 pub mod Histories
 pub mod Shown
 pub mod Played
+pub mod Clock
 pub mod Determined
