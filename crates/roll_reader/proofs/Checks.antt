@@ -5,12 +5,11 @@ use mathlib.Core.Bool.{true}
 use mathlib.Core.List.{List}
 use Prim.Native.Nat.{ℕ}
 use native.Mathlib.Omega.{arith}
-use Rattle.answer.specs.declared.Answer.{Answer}
-use Rattle.answer.specs.Answer.{accepted, refused}
 use Rattle.game_rules.specs.Limits.{limits, actionsLength}
 use Rattle.roll_text.specs.Roll.{Start, refusal, Acts, halted, acts, withActions, readRoll}
 use Rattle.roll_text.specs.Calls.{isActs, judged}
 use Rattle.roll_text.proofs.ReadsBack.{judged-long}
+use Rattle.roll_reader.specs.declared.Checked.{Checked}
 use Rattle.roll_reader.specs.Checked.{checked}
 
 -- the part
@@ -20,15 +19,18 @@ enough = actionsLength limits
 as-read : (s : List ℕ) → judged limits s enough ≡ readRoll limits s
 as-read s = judged-long true limits s enough (omega arith)
 
-pub check-refused : (s : List ℕ) (k : ℕ) (r : Answer) → r ≡ refused k → judged limits s enough ≡ refusal k → r ≡ checked (readRoll limits s)
-unfolding checked
+pub check-refused : (s : List ℕ) (k : ℕ) (r : Checked) → r ≡ checked (refusal k) → judged limits s enough ≡ refusal k → r ≡ checked (readRoll limits s)
 check-refused s k r e j = e ∙ ap checked (sym j ∙ as-read s)
 
-counted : (xs : Start) (n : ℕ) (a : Acts) → isActs a ≡ true → accepted n ≡ checked (withActions xs n a)
-unfolding isActs withActions checked
-counted xs n (halted k) e = let z : _≡_ {A = ℕ} 0 1 = cc in absurd (omega arith)
-counted xs n (acts bs) e = refl
+-- what is handed out of a start with n actions
+abbrev pub handed : Start → ℕ → Checked
+handed st n = record { number = 0; actions = n; «half_moves» = st .half; «full_moves» = st .full }
 
-pub check-accepted : (s : List ℕ) (xs : Start) (n : ℕ) (a : Acts) (r : Answer) → r ≡ accepted n → judged limits s enough ≡ withActions xs n a → isActs a ≡ true
-    → r ≡ checked (readRoll limits s)
-check-accepted s xs n a r e j is = e ∙ counted xs n a is ∙ ap checked (sym j ∙ as-read s)
+counted : (st : Start) (n : ℕ) (a : Acts) → isActs a ≡ true → handed st n ≡ checked (withActions st n a)
+unfolding isActs withActions checked
+counted st n (halted k) e = let z : _≡_ {A = ℕ} 0 1 = cc in absurd (omega arith)
+counted st n (acts bs) e = refl
+
+pub check-accepted : (s : List ℕ) (st : Start) (n : ℕ) (a : Acts) → judged limits s enough ≡ withActions st n a → isActs a ≡ true
+    → handed st n ≡ checked (readRoll limits s)
+check-accepted s st n a j is = counted st n a is ∙ ap checked (sym j ∙ as-read s)

@@ -1,7 +1,6 @@
 // Reads a game roll (document 02, orders 1 and 12).
 use action::ACTION_SIZE;
 use actions::NO_MOVE;
-use answer::Answer;
 use answer::BAD_ROLL;
 use answer::LOG_FULL;
 use answer::OUT_OF_RANGE;
@@ -33,6 +32,14 @@ ghost use Rattle.roll_reader.specs.Checked.{checked};
 ghost use Rattle.roll_reader.specs.CodeShort.{ShortMove};
 ghost use Rattle.roll_reader.specs.CodeStart.{Started};
 ghost use Rattle.roll_text.specs.Calls.{frontNumber, actsNumber, actsOver, isActs, rollAnswer, rollOver, judgedBy, judged, judgedOld};
+
+// What a look at a roll answers: a number of document 01's table, how many actions the roll has, and its start's counters.
+pub struct Checked {
+    pub number: u64,
+    pub actions: u64,
+    pub half_moves: u16,
+    pub full_moves: u16,
+}
 
 const MOVE_CODE: u64 = 2;
 
@@ -413,29 +420,46 @@ pub fn read_old(s: &[u8], part: &mut [u8]) -> Roll
     read_by(s, false, part)
 }
 
-// What is wrong with a roll, as `read` tells it with a part that is long enough, or 0 with how many actions the roll has. Nothing is written.
-pub fn check(s: &[u8]) -> Answer
+fn unread(number: u64) -> Checked
+    ensures { λ r. ⌜ r ≡ checked (refusal number) ⌝ }
+{
+    Checked {
+        number,
+        actions: 0,
+        half_moves: 0,
+        full_moves: 0,
+    }
+}
+
+// What is wrong with a roll, as `read` tells it with a part that is long enough, or 0 with how many actions the roll has and its start's counters. Nothing
+// is written.
+pub fn check(s: &[u8]) -> Checked
     ensures { λ r. ⌜ r ≡ checked (readRoll limits (now (s .entry))) ⌝ }
 {
     let start = read_start(s, true);
     match start {
-        Counters::Counts(_, _, size) => {
+        Counters::Counts(half, full, size) => {
             let behind = rest(rest(s, RECORD_SIZE), size);
             let count = read_number(behind);
             match count {
                 Number::Got(n, more) => {
                     if (MAX_ACTIONS as u64) < n {
-                        return answer::refused(LOG_FULL);
+                        return unread(LOG_FULL);
                     }
                     let bad = judge_actions(rest(behind, more), n as usize, MAX_MOVES);
                     if bad != 0 {
-                        return answer::refused(bad);
+                        return unread(bad);
                     }
-                    answer::accepted(n)
+                    Checked {
+                        number: 0,
+                        actions: n,
+                        half_moves: half,
+                        full_moves: full,
+                    }
                 }
-                Number::Bad => answer::refused(BAD_ROLL),
+                Number::Bad => unread(BAD_ROLL),
             }
         }
-        Counters::Wrong(number) => answer::refused(number),
+        Counters::Wrong(number) => unread(number),
     }
 }

@@ -7,7 +7,7 @@ use Rattle.board_builder.specs.BoardBuilder.{inRange, numbers}
 use Rattle.action.specs.Layout.{actionOf}
 use Rattle.actions.specs.Part.{movesIn, actionsHeld}
 use Rattle.roll_text.specs.Number.{groups, behind, readGroups}
-use Rattle.roll_text.specs.Roll.{largestNumbers, numbersText, countsText, actionsText, textBy, isCode, putNumber, oneNumber, readNumbers}
+use Rattle.roll_text.specs.Roll.{largestNumbers, numbersText, countsText, actionText, actionsText, textBy, isCode, putNumber, oneNumber, readNumbers}
 use Rattle.roll_text.specs.Roll.{fullBy, halfBy, readCounters, movedBy, coded}
 use Rattle.roll_text.specs.Roll.{putAction, nextAction, readActions, withActions, withCount, withCounts, withFront, readBy}
 use Rattle.roll_text.specs.Calls.{rollAnswer, judgedBy, writeCheck}
@@ -19,7 +19,7 @@ numbers-at-smallest =
     record { one-group = refl; lowest-first = refl; reads = refl; cut-short = refl; needless = refl; six-groups = refl }
 
 pub reading-at-smallest : ReadingAtSmallest
-unfolding behind readGroups largestNumbers isCode putNumber oneNumber readNumbers movedBy coded putAction nextAction readActions withActions withCount
+unfolding numbers behind readGroups largestNumbers isCode putNumber oneNumber readNumbers movedBy coded putAction nextAction readActions withActions withCount
     withCounts withFront fullBy halfBy readCounters readBy rollAnswer judgedBy
 reading-at-smallest =
     record {
@@ -39,25 +39,43 @@ reading-at-smallest =
       too-short = refl;
       too-long = refl;
       accepted = refl;
+      refused = refl;
     }
 
 pub old-reading-at-smallest : OldReadingAtSmallest
-unfolding behind readGroups largestNumbers isCode putNumber oneNumber readNumbers movedBy coded putAction nextAction readActions withActions withCount
+unfolding numbers behind readGroups largestNumbers isCode putNumber oneNumber readNumbers movedBy coded putAction nextAction readActions withActions withCount
     withCounts withFront fullBy halfBy readCounters readBy rollAnswer judgedBy
 old-reading-at-smallest =
-    record { accepted = refl; is-not-new = refl; new-is-not-old = refl; begins = refl; counted = refl; both-old = refl; both-new = refl }
+    record {
+      accepted = refl;
+      refused = refl;
+      empty-is-not-new = refl;
+      is-not-new = refl;
+      move-for-count = refl;
+      new-is-not-old = refl;
+      begins = refl;
+      counted = refl;
+      both-old = refl;
+      both-new = refl;
+    }
 
 pub writing-at-smallest : WritingAtSmallest
-unfolding writeAnswer allAtMost inRange numbers actionOf movesIn actionsHeld groups numbersText countsText actionsText textBy writeCheck
+unfolding writeAnswer allAtMost inRange numbers actionOf movesIn actionsHeld groups behind readGroups largestNumbers numbersText countsText actionText
+    actionsText textBy isCode putNumber oneNumber readNumbers coded putAction nextAction readActions withActions withCount withCounts withFront readCounters
+    readBy rollAnswer judgedBy writeCheck
 writing-at-smallest =
     record {
       gives-16 = refl;
       gives-5 = refl;
+      clock-gives-5 = refl;
+      move-number-gives-5 = refl;
       count-gives-13 = refl;
       move-gives-13 = refl;
       gives-17 = refl;
       gives-7 = refl;
       accepted = refl;
+      counters-behind = refl;
+      written-anew = refl;
       counters-two-groups = refl;
       counters-gives-7 = refl;
     }

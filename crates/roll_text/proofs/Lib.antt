@@ -9,7 +9,7 @@ pub mod Counted
 pub mod ReadsBack
 pub mod Refusals
 pub mod WritesBack
-pub mod Anew
+pub mod OldRolls
 pub mod OfGood
 pub mod Hollow
 pub mod AtSmallest

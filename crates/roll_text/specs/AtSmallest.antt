@@ -7,7 +7,7 @@ use mathlib.Core.List.{List, [], _∷_, _++_}
 use lib.ListN.{replicate}
 use Rattle.answer.specs.Answer.{outOfRange, outputTooShort, logFull, partTooShort, badRoll, writeAnswer}
 use Rattle.board_builder.specs.declared.BoardBuilder.{BoardBuilder}
-use Rattle.board_builder.specs.BoardBuilder.{board, withCounters, recordSize, squares, emptyBoard}
+use Rattle.board_builder.specs.BoardBuilder.{board, withCounters, allNumbers, recordSize, squares, emptyBoard, noBoard}
 use Rattle.game_rules.specs.Limits.{Limits}
 use Rattle.roll_text.specs.declared.Number.the-variants.{Got, Bad}
 use Rattle.roll_text.specs.Number.{numberText, readNumber}
@@ -63,11 +63,18 @@ pub record ReadingAtSmallest : Type 0 where
   pub too-short : readingGives (startedWith (1 ∷ [])) ≡ badRoll
   pub too-long : readingGives (startedWith (1 ∷ 4 ∷ 0 ∷ [])) ≡ badRoll
   pub accepted : readingGives (startedWith (1 ∷ 4 ∷ [])) ≡ 0
+  -- a refused roll hands out zeros, 70 of them
+  pub refused : allNumbers (rollAnswer (judged fewest [] 8) .board) ≡ replicate 70 0
 
 -- 68 numbers and the count
 pub record OldReadingAtSmallest : Type 0 where
   pub accepted : oldReadingGives (placedWith (1 ∷ 4 ∷ [])) ≡ 0
+  pub refused : allNumbers (rollAnswer (judgedOld fewest [] 8) .board) ≡ replicate 70 0
+  -- on the new call: cut short, without an action and with one; or its first move's number is taken for the count
+  pub empty-is-not-new : readingGives (placedWith (0 ∷ [])) ≡ badRoll
   pub is-not-new : readingGives (placedWith (1 ∷ 4 ∷ [])) ≡ badRoll
+  pub move-for-count : readingGives (placedWith (1 ∷ 2 ∷ 3 ∷ [])) ≡ logFull
+  -- a new roll on the old call: no action, and then more
   pub new-is-not-old : oldReadingGives (startedWith (1 ∷ 4 ∷ [])) ≡ badRoll
   pub begins : rollAnswer (judgedOld fewest (placedWith (0 ∷ [])) 8) .board ≡ emptyBoard
   pub counted : rollAnswer (judged fewest (placedWith (143 ∷ 78 ∷ 2 ∷ 0 ∷ [])) 8) .board ≡ withCounters emptyBoard 9999 2
@@ -85,10 +92,16 @@ noSide = board (replicate squares 0) 2 0 0 0
 pub record WritingAtSmallest : Type 0 where
   pub gives-16 : writingGives noSide [] 3 0 ≡ partTooShort
   pub gives-5 : writingGives noSide (replicate 8 0) 3 0 ≡ outOfRange
+  pub clock-gives-5 : writingGives (withCounters emptyBoard 10000 1) (replicate 8 0) 3 0 ≡ outOfRange
+  pub move-number-gives-5 : writingGives noBoard (replicate 8 0) 3 0 ≡ outOfRange
   pub count-gives-13 : writingGives emptyBoard (replicate 8 0) 3 0 ≡ logFull
   pub move-gives-13 : writingGives emptyBoard (1 ∷ replicate 7 0) 2 0 ≡ logFull
   pub gives-17 : writingGives emptyBoard (replicate 8 0) 1 0 ≡ badRoll
   pub gives-7 : writingGives emptyBoard (replicate 8 0) 0 70 ≡ outputTooShort
   pub accepted : writingGives emptyBoard (replicate 8 0) 0 71 ≡ 0
+  -- the clock and the move number behind the 68 numbers, in that order
+  pub counters-behind : gameText (withCounters emptyBoard 5 10) [] 0 ≡ placedWith (5 ∷ 10 ∷ 0 ∷ [])
+  -- an old roll that was read is written with 0 and 1
+  pub written-anew : gameText (rollAnswer (judgedOld fewest (placedWith (1 ∷ 4 ∷ [])) 8) .board) (2 ∷ replicate 3 0) 1 ≡ startedWith (1 ∷ 4 ∷ [])
   pub counters-two-groups : writingGives (withCounters emptyBoard 128 128) (replicate 8 0) 0 73 ≡ 0
   pub counters-gives-7 : writingGives (withCounters emptyBoard 128 128) (replicate 8 0) 0 72 ≡ outputTooShort

@@ -1,7 +1,7 @@
 -- `check` of lib.rt meets its contract: r ≡ checked (readRoll limits (now (s .entry))).
 use borrow.Author.Needs.{needs}
-use native.Mathlib.Omega.{arith}
 use mathlib.Core.Bool.{true}
+use native.Mathlib.Omega.{arith}
 use Rattle.roll_reader.proofs.Answers.{bad-start, no-count, over-count, at-actions, bad-actions, accepted-actions}
 use Rattle.roll_reader.proofs.Checks.{enough, check-refused, check-accepted}
 use Rattle.roll_reader.proofs.check.Statement.{statement}
@@ -25,8 +25,8 @@ read-number-requires c κs = search needs
 enum-known-count : tie.Need-enum-known-count
 enum-known-count c = search needs
 
-refused-requires : tie.Need-refused-requires
-refused-requires c κs = search needs
+unread-requires : tie.Need-unread-requires
+unread-requires c κs = search needs
 
 returns : tie.Need-returns
 returns c =
@@ -38,7 +38,7 @@ returns c =
     let at-read-number = c .before .before .before .before .before .read-number in
     let at-count = c .before .before .before .count in
     let at-if1 = c .before .if1 in
-    check-refused (a .s .now) _ (c .refused .result) (c .refused .ensures)
+    check-refused (a .s .now) _ (c .unread .result) (c .unread .ensures)
     (over-count true (a .s .now) _ _ enough _ _ _ _ _ (omega arith) (at-read-start .ensures) (at-start .given .1) (at-rest .ensures) (at-rest2 .ensures)
     (at-read-number .ensures) _ _ (at-count .given .1) (at-if1 .taken))
 
@@ -48,58 +48,55 @@ rest-requires-3 c κs = search needs
 judge-actions-requires : tie.Need-judge-actions-requires
 judge-actions-requires c κs = search needs
 
-refused-requires-2 : tie.Need-refused-requires-2
-refused-requires-2 c κs = search needs
+unread-requires-2 : tie.Need-unread-requires-2
+unread-requires-2 c κs = search needs
 
 returns-2 : tie.Need-returns-2
 returns-2 c =
-    let a = c .before .before .before .before .before .before .before .before .before .before .before .before .before .before .before .before .args in
-    let at-read-start = c .before .before .before .before .before .before .before .before .before .before .before .before .before .before .read-start in
-    let at-start = c .before .before .before .before .before .before .before .before .before .before .before .before .start in
+    let early = c .before .before .before .before .before .before .before .before .before .before .before .before in
+    let a = early .before .before .before .before .args in
+    let at-read-start = early .before .before .read-start in
+    let at-start = early .start in
     let at-rest = c .before .before .before .before .before .before .before .before .before .before .rest in
     let at-rest2 = c .before .before .before .before .before .before .before .before .before .rest2 in
     let at-read-number = c .before .before .before .before .before .before .before .before .read-number in
     let at-count = c .before .before .before .before .before .before .count in
     let at-if1 = c .before .before .before .before .if1 in
-    let at-judge-actions = c .before .before .judge-actions in
     let at-rest3 = c .before .before .before .rest3 in
+    let at-judge-actions = c .before .before .judge-actions in
     let at-if2 = c .before .if2 in
-    check-refused (a .s .now) (at-judge-actions .result) (c .refused2 .result) (c .refused2 .ensures)
+    check-refused (a .s .now) (at-judge-actions .result) (c .unread2 .result) (c .unread2 .ensures)
     (bad-actions _ _ _ _ _ (at-actions true (a .s .now) _ _ enough _ _ _ _ _ (omega arith) (at-read-start .ensures) (at-start .given .1) (at-rest .ensures)
     (at-rest2 .ensures) (at-read-number .ensures) _ _ _ (at-count .given .1) (at-if1 .left) (at-rest3 .ensures)) (at-judge-actions .ensures) (at-if2 .taken))
-
-accepted-requires : tie.Need-accepted-requires
-accepted-requires c κs = search needs
 
 enum-told : tie.Need-enum-told
 enum-told c = search needs
 
-refused-requires-3 : tie.Need-refused-requires-3
-refused-requires-3 c κs = search needs
+unread-requires-3 : tie.Need-unread-requires-3
+unread-requires-3 c κs = search needs
 
 enum-known-start-2 : tie.Need-enum-known-start-2
 enum-known-start-2 c = search needs
 
-refused-requires-4 : tie.Need-refused-requires-4
-refused-requires-4 c κs = search needs
+unread-requires-4 : tie.Need-unread-requires-4
+unread-requires-4 c κs = search needs
 
 returns-3 : tie.Need-returns-3
 returns-3 c =
-    let a = c .before .before .before .before .before .before .before .before .before .before .before .before .before .before .before .before .args in
-    let at-read-start = c .before .before .before .before .before .before .before .before .before .before .before .before .before .before .read-start in
-    let at-start = c .before .before .before .before .before .before .before .before .before .before .before .before .start in
-    let at-rest = c .before .before .before .before .before .before .before .before .before .before .rest in
-    let at-rest2 = c .before .before .before .before .before .before .before .before .before .rest2 in
-    let at-read-number = c .before .before .before .before .before .before .before .before .read-number in
-    let at-count = c .before .before .before .before .before .before .count in
-    let at-if1 = c .before .before .before .before .if1 in
-    let at-rest3 = c .before .before .before .rest3 in
-    let at-judge-actions = c .before .before .judge-actions in
-    let at-if2 = c .before .if2 in
-    check-accepted (a .s .now) _ _ _ (c .accepted .result) (c .accepted .ensures)
-    (at-actions true (a .s .now) _ _ enough _ _ _ _ _ (omega arith) (at-read-start .ensures) (at-start .given .1) (at-rest .ensures) (at-rest2 .ensures)
-    (at-read-number .ensures) _ _ _ (at-count .given .1) (at-if1 .left) (at-rest3 .ensures))
-    (accepted-actions _ _ _ _ (at-judge-actions .ensures) (at-if2 .left))
+    let early = c .before .before .before .before .before .before .before .before .before .before .before .before in
+    let a = early .before .before .before .args in
+    let at-read-start = early .before .read-start in
+    let at-start = c .before .before .before .before .before .before .before .before .before .before .before .start in
+    let at-rest = c .before .before .before .before .before .before .before .before .before .rest in
+    let at-rest2 = c .before .before .before .before .before .before .before .before .rest2 in
+    let at-read-number = c .before .before .before .before .before .before .before .read-number in
+    let at-count = c .before .before .before .before .before .count in
+    let at-if1 = c .before .before .before .if1 in
+    let at-rest3 = c .before .before .rest3 in
+    let at-judge-actions = c .before .judge-actions in
+    check-accepted (a .s .now) _ _ _ (at-actions true (a .s .now) _ _ enough _ _ _ _ _ (omega arith) (at-read-start .ensures) (at-start .given .1)
+    (at-rest .ensures) (at-rest2 .ensures) (at-read-number .ensures) _ _ _ (at-count .given .1) (at-if1 .left) (at-rest3 .ensures))
+    (accepted-actions _ _ _ _ (at-judge-actions .ensures) (c .if2 .left))
 
 returns-4 : tie.Need-returns-4
 returns-4 c =
@@ -110,7 +107,7 @@ returns-4 c =
     let at-rest2 = c .before .before .before .before .rest2 in
     let at-read-number = c .before .before .before .read-number in
     let at-enum-told = c .before .enum-told in
-    check-refused (a .s .now) _ (c .refused3 .result) (c .refused3 .ensures)
+    check-refused (a .s .now) _ (c .unread3 .result) (c .unread3 .ensures)
     (no-count true (a .s .now) _ _ enough _ _ _ _ _ (omega arith) (at-read-start .ensures) (at-start .given .1) (at-rest .ensures) (at-rest2 .ensures)
     (at-read-number .ensures) (at-enum-told .given .1))
 
@@ -119,7 +116,7 @@ returns-5 c =
     let a = c .before .before .before .before .before .before .args in
     let at-read-start = c .before .before .before .before .read-start in
     let at-start2 = c .before .before .start2 in
-    check-refused (a .s .now) _ (c .refused4 .result) (c .refused4 .ensures)
+    check-refused (a .s .now) _ (c .unread4 .result) (c .unread4 .ensures)
     (bad-start true (a .s .now) enough _ _ (omega arith) (at-read-start .ensures) (at-start2 .given .1))
 
 pub check-spec : {M : Type 1} → statement M
@@ -132,17 +129,16 @@ check-spec =
     rest-requires-2
     read-number-requires
     enum-known-count
-    refused-requires
+    unread-requires
     returns
     rest-requires-3
     judge-actions-requires
-    refused-requires-2
+    unread-requires-2
     returns-2
-    accepted-requires
     enum-told
-    refused-requires-3
+    unread-requires-3
     enum-known-start-2
-    refused-requires-4
+    unread-requires-4
     returns-3
     returns-4
     returns-5)
