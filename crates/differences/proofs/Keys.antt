@@ -28,9 +28,19 @@ module _ (i : ℕ) (h : 64 ≤ i) where
       unfolding startKey ascii
       key-black e = simp (le-ltb _ _ h, ne-eqb _ _ a, ne-eqb _ _ b, eq-eqb _ _ e)
 
-      pub key-file : (i ≡ 66 → ⊥) → startKey i ≡ 101 ∷ 112 ∷ []
-      unfolding startKey ascii
-      key-file d = simp (le-ltb _ _ h, ne-eqb _ _ a, ne-eqb _ _ b, ne-eqb _ _ d)
+      module _ (d : i ≡ 66 → ⊥) where
+        pub key-file : i ≡ 67 → startKey i ≡ 101 ∷ 112 ∷ []
+        unfolding startKey ascii
+        key-file e = simp (le-ltb _ _ h, ne-eqb _ _ a, ne-eqb _ _ b, ne-eqb _ _ d, eq-eqb _ _ e)
+
+        module _ (f : i ≡ 67 → ⊥) where
+          pub key-half : i ≡ 68 → startKey i ≡ 104 ∷ 97 ∷ 108 ∷ 102 ∷ []
+          unfolding startKey ascii
+          key-half e = simp (le-ltb _ _ h, ne-eqb _ _ a, ne-eqb _ _ b, ne-eqb _ _ d, ne-eqb _ _ f, eq-eqb _ _ e)
+
+          pub key-full : (i ≡ 68 → ⊥) → startKey i ≡ 102 ∷ 117 ∷ 108 ∷ 108 ∷ []
+          unfolding startKey ascii
+          key-full g = simp (le-ltb _ _ h, ne-eqb _ _ a, ne-eqb _ _ b, ne-eqb _ _ d, ne-eqb _ _ f, ne-eqb _ _ g)
 
 -- a text that there is space for, in other words
 pub fits-as : {p q : List ℕ} (n l : ℕ) → p ≡ q → n + length p ≤ l → n + length q ≤ l

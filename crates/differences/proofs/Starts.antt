@@ -1,4 +1,4 @@
--- The loop over two starts: what has been put, with the lines of the numbers that are left, is the whole.
+-- The loop over two starts' 68 numbers: what has been put, with the lines of the numbers that are left, is the whole. And the lines of their counters.
 -- Assumes nothing.
 use mathlib.Core.Path.{_≡_, refl, sym, ap, _∙_}
 use mathlib.Core.List.{List, [], _++_, append-assoc, append-nil}
@@ -9,10 +9,12 @@ use native.Mathlib.Omega.{arith}
 use lib.ListN.{length, take, drop, getD, length-append}
 use lib.Seq.{length-take-le, getD-take}
 use Rattle.answer.specs.CodePushed.{Put}
+use Rattle.answer.proofs.Pushes.{put-both, put-as}
 use Rattle.board_builder.specs.BoardBuilder.{recordSize}
-use Rattle.differences_text.specs.Differences.{startKey, ifDiffers, startDifferences, linesText}
-use Rattle.differences.specs.CodeTexts.{startOf, startLines}
+use Rattle.differences_text.specs.Differences.{Difference, startKey, ifDiffers, startDifferences, linesText}
+use Rattle.differences.specs.CodeTexts.{startOf, startLines, countLines}
 use Rattle.differences_text.proofs.Lines.{lines-both, start-turn, start-end}
+use Rattle.differences.proofs.Pushing.{put-size}
 
 abbrev pub leftText : List ℕ → List ℕ → ℕ → List ℕ
 leftText s t i = linesText (startDifferences i (drop i (startOf s)) (drop i (startOf t)))
@@ -74,3 +76,28 @@ module _ (s t : List ℕ) (size : ℕ) (bytes : List ℕ) (n i : ℕ) (first : r
         pushed = record { count = sym front ∙ ap length all ∙ sym (zero-add (length (startLines s t))); bytes = all };
         long = inv .long;
       }
+
+-- ---- the counters
+
+module _ (old : List ℕ) (n half full clock number : ℕ) (fits : n + length (countLines half full clock number) ≤ length old) where
+  abbrev half-line : List ℕ
+  half-line = linesText (ifDiffers (startKey recordSize) half clock)
+
+  abbrev full-line : List ℕ
+  full-line = linesText (ifDiffers (startKey (recordSize + 1)) full number)
+
+  both-lines : countLines half full clock number ≡ half-line ++ full-line
+  unfolding startDifferences
+  both-lines =
+      lines-both (ifDiffers (startKey recordSize) half clock) (ifDiffers (startKey (recordSize + 1)) full number ++ [])
+      ∙ ap (λ (ds : List Difference). half-line ++ linesText ds) (append-nil (ifDiffers (startKey (recordSize + 1)) full number))
+
+  pub half-fits : n + length half-line ≤ length old
+  half-fits = omega (arith, ap length both-lines, length-append half-line full-line)
+
+  module _ (t : List ℕ) (r : ℕ) (p : Put (length old) old n half-line t r) where
+    pub full-fits : r + length full-line ≤ length t
+    full-fits = omega (arith, ap length both-lines, length-append half-line full-line, p .pushed .count, p .long)
+
+    pub counters-put : (u : List ℕ) (q : ℕ) → Put (length t) t r full-line u q → Put (length old) old n (countLines half full clock number) u q
+    counters-put u q f = put-as (sym both-lines) (put-both p (put-size (p .long) f))

@@ -105,11 +105,10 @@ text-numbers (suc n) bs e =
     let left : drop (entrySize (text ++ behind)) (text ++ behind) ≡ behind = drop-at text behind (entrySize (text ++ behind)) (sym (f .size)) in
     ap₂ _∷_ (f .told) (ap (textNumbers n) left ∙ text-numbers n (drop actionSize bs) (rest-in-range n bs e))
 
--- ---- behind a count of one group and of two
+-- ---- how many bytes a number takes
 
-module _ (s : List ℕ) (n : ℕ) (behind text : List ℕ) where
-  pub behind-one : n < 128 → behind ≡ drop 68 s → text ≡ drop 1 behind → text ≡ drop (length (numberText n)) (drop 68 s)
-  behind-one h e f = f ∙ ap (drop 1) e ∙ ap (λ (l : List ℕ). drop (length l) (drop 68 s)) (sym (one-group n h))
+pub size-one : (n : ℕ) → n < 128 → 1 ≡ length (numberText n)
+size-one n h = sym (ap length (one-group n h))
 
-  pub behind-two : 128 ≤ n → n < 16384 → behind ≡ drop 68 s → text ≡ drop 2 behind → text ≡ drop (length (numberText n)) (drop 68 s)
-  behind-two h k e f = f ∙ ap (drop 2) e ∙ ap (λ (l : List ℕ). drop (length l) (drop 68 s)) (sym (two-groups n h k))
+pub size-two : (n : ℕ) → 128 ≤ n → n < 16384 → 2 ≡ length (numberText n)
+size-two n h k = sym (ap length (two-groups n h k))

@@ -1,5 +1,5 @@
-// Tells what differs between two games (document 02, order 10): reads two rolls and writes a line for each start number and for the first action that
-// differs.
+// Tells what differs between two games (document 02, orders 10 and 12): reads two rolls and writes a line for each start number and for the first action
+// that differs.
 use answer::ACCEPTED;
 use answer::Answer;
 use answer::byte_at;
@@ -16,7 +16,7 @@ ghost use Rattle.roll_text.specs.Number.{numberText};
 ghost use Rattle.differences_text.specs.Differences.{difference, startKey, ifDiffers, actionKey, pairText, lineText, linesText};
 ghost use Rattle.differences_text.specs.Calls.{differencesAnswer, differencesRoom};
 ghost use Rattle.differences.specs.CodeEntries.{entrySize, entryNumber, twoGroups, threeGroups, sameEntry};
-ghost use Rattle.differences.specs.CodeTexts.{PutIn, startLines, actionLine};
+ghost use Rattle.differences.specs.CodeTexts.{PutIn, startLines, countLines, actionLine, actionsAt};
 
 // A move's code in a roll.
 const MOVE_CODE: u8 = 2;
@@ -69,11 +69,17 @@ fn push_key(bytes: &mut [u8], n: usize, i: usize) -> usize
     if i == 66 {
         return push_word(bytes, n, b"black");
     }
-    push_word(bytes, n, b"ep")
+    if i == 67 {
+        return push_word(bytes, n, b"ep");
+    }
+    if i == 68 {
+        return push_word(bytes, n, b"half");
+    }
+    push_word(bytes, n, b"full")
 }
 
 // The line of number `i` of two starts, or nothing if they are equal there.
-fn push_start(bytes: &mut [u8], n: usize, i: usize, x: u8, y: u8) -> usize
+fn push_start(bytes: &mut [u8], n: usize, i: usize, x: u64, y: u64) -> usize
     requires { ⌜ n + length (linesText (ifDiffers (startKey i) x y)) ≤ length (now bytes) ⌝ }
     ensures { λ r. ⌜ PutIn (now (bytes .entry)) n (linesText (ifDiffers (startKey i) x y)) (now (bytes .exit)) r ⌝ }
 {
@@ -81,10 +87,10 @@ fn push_start(bytes: &mut [u8], n: usize, i: usize, x: u8, y: u8) -> usize
         return n;
     }
     let behind = push_key(bytes, n, i);
-    push_pair(bytes, behind, x as u64, y as u64)
+    push_pair(bytes, behind, x, y)
 }
 
-// The lines of two starts, which a roll has in front, one byte per number.
+// The lines of two starts' 68 numbers before the counters, which a roll has in front, one byte per number.
 fn push_starts(first: &[u8], second: &[u8], bytes: &mut [u8]) -> usize
     requires { ⌜ (recordSize ≤ length (now first)) × (recordSize ≤ length (now second)) ⌝ }
     requires { ⌜ length (startLines (now first) (now second)) ≤ length (now bytes) ⌝ }
@@ -93,10 +99,19 @@ fn push_starts(first: &[u8], second: &[u8], bytes: &mut [u8]) -> usize
     let mut n: usize = 0;
     let mut i: usize = 0;
     while i < RECORD_SIZE {
-        n = push_start(bytes, n, i, first[i], second[i]);
+        n = push_start(bytes, n, i, first[i] as u64, second[i] as u64);
         i += 1;
     }
     n
+}
+
+// The lines of two starts' counters: `half` and `full` are the first's, `clock` and `number` the second's.
+fn push_counters(bytes: &mut [u8], n: usize, half: u16, full: u16, clock: u16, number: u16) -> usize
+    requires { ⌜ n + length (countLines half full clock number) ≤ length (now bytes) ⌝ }
+    ensures { λ r. ⌜ PutIn (now (bytes .entry)) n (countLines half full clock number) (now (bytes .exit)) r ⌝ }
+{
+    let behind = push_start(bytes, n, RECORD_SIZE, half as u64, clock as u64);
+    push_start(bytes, behind, RECORD_SIZE + 1, full as u64, number as u64)
 }
 
 // How many bytes the action at the front of a text takes.
@@ -238,16 +253,24 @@ fn push_actions(
     n
 }
 
-// What a roll has behind its start and its count.
-fn actions_text(roll: &[u8], count: u64) -> &[u8]
-    requires { ⌜ count < 16384 ⌝ }
-    ensures { λ r. ⌜ now r ≡ drop (length (numberText count)) (drop recordSize (now (roll .entry))) ⌝ }
+// How many bytes a number of one or two groups takes in a roll.
+fn number_size(number: u64) -> usize
+    requires { ⌜ number < 16384 ⌝ }
+    ensures { λ r. ⌜ (r ≡ length (numberText number)) × (r ≤ 2) ⌝ }
 {
-    let behind = rest(roll, RECORD_SIZE);
-    if count < 128 {
-        return rest(behind, 1);
+    if number < 128 {
+        return 1;
     }
-    rest(behind, 2)
+    2
+}
+
+// What a roll has behind its start, of which the counters are told, and its count.
+fn actions_text(roll: &[u8], half: u16, full: u16, count: u64) -> &[u8]
+    requires { ⌜ (half < 16384) × ((full < 16384) × (count < 16384)) ⌝ }
+    ensures { λ r. ⌜ now r ≡ drop (actionsAt half full count) (now (roll .entry)) ⌝ }
+{
+    let counters = number_size(half as u64) + number_size(full as u64);
+    rest(roll, RECORD_SIZE + counters + number_size(count))
 }
 
 // Writes a line for each start number and for the first action that differs. Checks the roll reader's numbers, first roll first, then 7.
@@ -267,14 +290,22 @@ pub fn differences(first: &[u8], second: &[u8], out: &mut [u8]) -> Answer
         return answer::refused(other.number);
     }
     let mut text = [0u8; MAX_DIFFERENCES];
-    let start = push_starts(first, second, &mut text);
+    let numbers = push_starts(first, second, &mut text);
+    let start = push_counters(
+        &mut text,
+        numbers,
+        game.half_moves,
+        game.full_moves,
+        other.half_moves,
+        other.full_moves,
+    );
     let all = push_actions(
         &mut text,
         start,
-        actions_text(first, game.value),
-        game.value as usize,
-        actions_text(second, other.value),
-        other.value as usize,
+        actions_text(first, game.half_moves, game.full_moves, game.actions),
+        game.actions as usize,
+        actions_text(second, other.half_moves, other.full_moves, other.actions),
+        other.actions as usize,
     );
     answer::write_text(&text[..all], out)
 }

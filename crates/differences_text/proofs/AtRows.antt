@@ -6,17 +6,18 @@ use Rattle.answer.specs.Answer.{writeAnswer}
 use Rattle.decimal.specs.Decimal.{digits, decimal}
 use Rattle.game_rules.specs.Rules.{firstRefusal}
 use Rattle.roll_text.specs.Number.{behind, readGroups}
-use Rattle.roll_text.specs.Roll.{largestNumbers, isCode, putNumber, oneNumber, readNumbers, movedBy, coded}
-use Rattle.roll_text.specs.Roll.{putAction, nextAction, readActions, withActions, withCount, withFront, readRoll}
+use Rattle.roll_text.specs.Roll.{largestNumbers, isCode, putNumber, oneNumber, readNumbers, fullBy, halfBy, readCounters, movedBy, coded}
+use Rattle.roll_text.specs.Roll.{putAction, nextAction, readActions, withActions, withCount, withCounts, withFront, readBy}
 use Rattle.roll_text.specs.Calls.{rollAnswer}
-use Rattle.differences_text.specs.Differences.{startKey, ifDiffers, startDifferences, actionNumbers, actionKey, actionDifference, lineText, linesText}
+use Rattle.differences_text.specs.Differences.{startNumbers, startKey, ifDiffers, startDifferences, actionNumbers, actionKey}
+use Rattle.differences_text.specs.Differences.{actionDifference, lineText, linesText}
 use Rattle.differences_text.specs.Calls.{differences, differencesCheck, differencesText}
 use Rattle.differences_text.specs.AtRows.{LinesAtSmallest, RefusalsAtSmallest}
 
 pub lines-at-smallest : LinesAtSmallest
-unfolding ascii digits decimal behind readGroups largestNumbers isCode putNumber oneNumber readNumbers movedBy coded putAction nextAction readActions
-    withActions withCount withFront readRoll startKey ifDiffers startDifferences actionNumbers actionKey actionDifference lineText linesText
-    differences differencesText
+unfolding ascii digits decimal behind readGroups largestNumbers isCode putNumber oneNumber readNumbers fullBy halfBy readCounters movedBy coded putAction
+    nextAction readActions withActions withCount withCounts withFront readBy startNumbers startKey ifDiffers startDifferences actionNumbers actionKey
+    actionDifference lineText linesText differences differencesText
 lines-at-smallest =
     record {
       on-e4 = refl;
@@ -24,7 +25,10 @@ lines-at-smallest =
       white = refl;
       black = refl;
       file = refl;
+      half = refl;
+      full = refl;
       in-order = refl;
+      counters-in-order = refl;
       equal = refl;
       an-action = refl;
       the-first = refl;
@@ -33,7 +37,7 @@ lines-at-smallest =
     }
 
 pub refusals-at-smallest : RefusalsAtSmallest
-unfolding ascii writeAnswer digits decimal firstRefusal behind readGroups largestNumbers isCode putNumber oneNumber readNumbers movedBy coded putAction
-    nextAction readActions withActions withCount withFront readRoll rollAnswer startKey ifDiffers startDifferences actionNumbers actionKey actionDifference
-    lineText linesText differences differencesCheck differencesText
+unfolding ascii writeAnswer digits decimal firstRefusal behind readGroups largestNumbers isCode putNumber oneNumber readNumbers fullBy halfBy readCounters
+    movedBy coded putAction nextAction readActions withActions withCount withCounts withFront readBy rollAnswer startNumbers startKey ifDiffers
+    startDifferences actionNumbers actionKey actionDifference lineText linesText differences differencesCheck differencesText
 refusals-at-smallest = record { first-roll-first = refl; then-the-second = refl; then-7 = refl; accepted = refl }

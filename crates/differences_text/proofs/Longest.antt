@@ -8,14 +8,16 @@ use Prim.Native.Nat.{ℕ, suc, _+_, _*_, _/_, _%_, _≤_, _<_}
 use native.Mathlib.Omega.{arith}
 use lib.Dec.{eqb, ltb, leb}
 use lib.ListN.{length, length-append}
-use borrow.Author.Tests.{ltb-true, ltb-false, leb-true}
+use borrow.Author.Tests.{ltb-true, ltb-false, leb-true, le-leb}
 use Rattle.answer.specs.Ascii.{ascii}
 use Rattle.answer.specs.Numbers.{allAtMost}
 use Rattle.answer.proofs.Numbers.{both-left, both-right, most-head, most-tail}
 use Rattle.decimal.specs.Decimal.{digits, decimal}
 use Rattle.decimal.proofs.Digits.{decimal-one, decimal-more, by-tens, decimal-in}
-use Rattle.roll_text.specs.Roll.{largestNumbers, withinBounds}
-use Rattle.differences_text.specs.Differences.{difference, startKey, ifDiffers, startDifferences, actionKey, actionDifference}
+use Rattle.board_builder.specs.BoardBuilder.{recordSize, lastCount}
+use Rattle.board_builder.proofs.Ranges.{CountersIn}
+use Rattle.roll_text.specs.Roll.{Start, largestNumbers, withinBounds}
+use Rattle.differences_text.specs.Differences.{difference, startCounts, startKey, ifDiffers, startDifferences, actionKey, actionDifference}
 use Rattle.differences_text.specs.Differences.{lineText, linesText}
 use Rattle.differences_text.proofs.Lines.{lines-both}
 use Rattle.differences_text.proofs.Numbers.{largestNumber}
@@ -98,6 +100,25 @@ all-at-bounds = refl
 pub start-long : (xs ys : List ℕ) → withinBounds largestNumbers xs ≡ true → withinBounds largestNumbers ys ≡ true
     → length (linesText (startDifferences 0 xs ys)) ≤ 602
 start-long xs ys h k = omega (arith, start-bound 0 largestNumbers xs ys h k, all-at-bounds)
+
+-- ---- its counters
+
+abbrev largestCounts : List ℕ
+largestCounts = lastCount ∷ lastCount ∷ []
+
+counts-within : (st : Start) → CountersIn (st .half) (st .full) → withinBounds largestCounts (startCounts st) ≡ true
+unfolding withinBounds
+counts-within st c = simp (le-leb _ _ (c .half-most), le-leb _ _ (c .full-most))
+
+counts-at-bounds : atBounds recordSize largestCounts ≡ 30
+unfolding atBounds startKey decimal digits ascii
+counts-at-bounds = refl
+
+pub counts-long : (st other : Start) → CountersIn (st .half) (st .full) → CountersIn (other .half) (other .full)
+    → length (linesText (startDifferences recordSize (startCounts st) (startCounts other))) ≤ 30
+counts-long st other c d =
+    let bound = start-bound recordSize largestCounts (startCounts st) (startCounts other) (counts-within st c) (counts-within other d) in
+    omega (arith, bound, counts-at-bounds)
 
 -- ---- the action
 

@@ -55,5 +55,5 @@ pub never-16 : Never16
 unfolding differencesCheck
 never-16 L s t room =
     written (differencesCheck L s t) (differencesText L s t) room
-    (first-of (rollAnswer (readRoll L s) .number) (rollAnswer (readRoll L t) .number) (number-told (readRoll L s) (roll-passes told other-passes L s))
-    (number-told (readRoll L t) (roll-passes told other-passes L t)))
+    (first-of (rollAnswer (readRoll L s) .number) (rollAnswer (readRoll L t) .number) (number-told (readRoll L s) (roll-passes told other-passes true L s))
+    (number-told (readRoll L t) (roll-passes told other-passes true L t)))

@@ -7,18 +7,22 @@ use mathlib.Core.List.{List, [], _∷_, _++_}
 use Prim.Native.Nat.{ℕ, zero, suc, _≤_, _<_}
 use native.Mathlib.Omega.{arith}
 use lib.Dec.{eqb}
-use lib.ListN.{length, length-append}
+use lib.ListN.{length, take, drop, length-append}
+use lib.Seq.{take-at, drop-at}
 use borrow.Author.Tests.{eq-eqb, eqb-true, le-leb}
 use Rattle.answer.specs.declared.Answer.{Answer}
 use Rattle.answer.specs.Answer.{accepted, writeAnswer}
 use Rattle.game_rules.specs.Limits.{Limits}
 use Rattle.roll_text.specs.Number.{numberText}
-use Rattle.roll_text.specs.Roll.{Rolled, refusal, rolled, actionsText, readRoll}
-use Rattle.differences_text.specs.Differences.{Difference, difference, startKey, ifDiffers, startDifferences, actionNumbers, actionKey}
+use Rattle.board_builder.specs.BoardBuilder.{recordSize}
+use Rattle.roll_text.specs.Roll.{Start, Rolled, refusal, rolled, actionsText, readRoll}
+use Rattle.differences_text.specs.Differences.{Difference, difference, startCounts, startNumbers, startKey, ifDiffers, startDifferences}
+use Rattle.differences_text.specs.Differences.{actionNumbers, actionKey}
 use Rattle.differences_text.specs.Differences.{actionDifference, pairText, lineText, linesText}
 use Rattle.differences_text.specs.Calls.{differences, differencesText}
 use Rattle.differences_text.specs.Promises.{teller, NoLineExactlyIfEqual}
 use Rattle.differences_text.proofs.Numbers.{same-text}
+use Rattle.differences_text.proofs.Lines.{start-numbers-long}
 use Rattle.differences_text.proofs.Games.{Read}
 use Rattle.differences_text.proofs.Refusals.{Games, games, value-told}
 
@@ -83,21 +87,37 @@ none-both : (ds es : List Difference) → ds ++ es ≡ [] → (ds ≡ []) × (es
 none-both [] es e = (refl, e)
 none-both (d ∷ ds) es e = let z : _≡_ {A = ℕ} 0 1 = cc in absurd (omega arith)
 
-same-rolls : (L : Limits) (s xs : List ℕ) (n : ℕ) (bs t ys : List ℕ) (m : ℕ) (cs : List ℕ) → Read L s xs n bs → Read L t ys m cs
-    → differences (rolled xs n bs) (rolled ys m cs) ≡ [] → s ≡ t
+-- a start's 70 numbers are the start
+same-start : (st other : Start) → length (st .numbers) ≡ recordSize → length (other .numbers) ≡ recordSize → startNumbers st ≡ startNumbers other → st ≡ other
+unfolding startNumbers
+same-start st other a b e =
+    let numbers : st .numbers ≡ other .numbers
+    = sym (take-at (st .numbers) (startCounts st) recordSize a) ∙ ap (take recordSize) e ∙ take-at (other .numbers) (startCounts other) recordSize b in
+    let counts : startCounts st ≡ startCounts other
+    = sym (drop-at (st .numbers) (startCounts st) recordSize a) ∙ ap (drop recordSize) e ∙ drop-at (other .numbers) (startCounts other) recordSize b in
+    let half : st .half ≡ other .half = cc in
+    let full : st .full ≡ other .full = cc in
+    λ i. record { numbers = numbers i; half = half i; full = full i }
+
+same-rolls : (L : Limits) (s : List ℕ) (st : Start) (n : ℕ) (bs t : List ℕ) (other : Start) (m : ℕ) (cs : List ℕ) → Read L s st n bs → Read L t other m cs
+    → differences (rolled st n bs) (rolled other m cs) ≡ [] → s ≡ t
 unfolding differences
-same-rolls L s xs n bs t ys m cs a b e =
-    let o = none-both (startDifferences 0 xs ys) (actionDifference 0 (actionNumbers n bs) (actionNumbers m cs)) e in
-    let starts : xs ≡ ys = start-equal 0 xs ys (a .numbers ∙ sym (b .numbers)) (o .0) in
+same-rolls L s st n bs t other m cs a b e =
+    let o = none-both (startDifferences 0 (startNumbers st) (startNumbers other)) (actionDifference 0 (actionNumbers n bs) (actionNumbers m cs)) e in
+    let long : length (startNumbers st) ≡ length (startNumbers other) = start-numbers-long st (a .numbers) ∙ sym (start-numbers-long other (b .numbers)) in
+    let starts : st ≡ other
+    = same-start st other (a .numbers) (b .numbers) (start-equal 0 (startNumbers st) (startNumbers other) long (o .0)) in
     let acts = same-text n bs m cs (a .held) (b .held) (actions-equal 0 (actionNumbers n bs) (actionNumbers m cs) (o .1)) in
     let texts : numberText n ++ actionsText n bs ≡ numberText m ++ actionsText m cs
     = ap₂ (λ (k : ℕ) (l : List ℕ). numberText k ++ l) (acts .counts) (acts .texts) in
-    a .text ∙ ap₂ (λ (k l : List ℕ). k ++ l) starts texts ∙ sym (b .text)
+    a .text
+    ∙ ap₂ (λ (x : Start) (l : List ℕ). x .numbers ++ ((numberText (x .half) ++ numberText (x .full)) ++ l)) starts texts
+    ∙ sym (b .text)
 
 no-differences : (x : Rolled) → differences x x ≡ []
 unfolding differences
 no-differences (refusal k) = refl
-no-differences (rolled xs n bs) = rw (start-none 0 xs, actions-none 0 (actionNumbers n bs))
+no-differences (rolled st n bs) = rw (start-none 0 (startNumbers st), actions-none 0 (actionNumbers n bs))
 
 nothing-written : (room : ℕ) → writeAnswer 0 [] room ≡ accepted 0
 unfolding writeAnswer
@@ -116,8 +136,8 @@ no-line-exactly-if-equal L s t room both = record { none = none; equal = equal }
     none : teller L .answer s t room ≡ accepted 0 → s ≡ t
     none e =
         let zero : length (differencesText L s t) ≡ 0 = sym (value-told L s t room (g .passes)) ∙ ap (λ (a : Answer). a .value) e in
-        same-rolls L s (g .xs) (g .n) (g .bs) t (g .ys) (g .m) (g .cs) (g .first) (g .second)
-        (no-text (differences (rolled (g .xs) (g .n) (g .bs)) (rolled (g .ys) (g .m) (g .cs))) (sym (ap length (g .text)) ∙ zero))
+        same-rolls L s (g .st) (g .n) (g .bs) t (g .other) (g .m) (g .cs) (g .first) (g .second)
+        (no-text (differences (rolled (g .st) (g .n) (g .bs)) (rolled (g .other) (g .m) (g .cs))) (sym (ap length (g .text)) ∙ zero))
 
     equal : s ≡ t → teller L .answer s t room ≡ accepted 0
     equal e =

@@ -12,7 +12,7 @@ use Rattle.answer.specs.Answer.{writeAnswer, writeBytes}
 use Rattle.answer.proofs.Writes.{write-refused}
 use Rattle.game_rules.specs.Limits.{Limits}
 use Rattle.game_rules.specs.Rules.{firstRefusal}
-use Rattle.roll_text.specs.Roll.{Rolled, rolled, readRoll}
+use Rattle.roll_text.specs.Roll.{Start, Rolled, rolled, readRoll}
 use Rattle.roll_text.specs.Calls.{rollAnswer}
 use Rattle.differences_text.specs.Differences.{linesText}
 use Rattle.differences_text.specs.Calls.{differences, differencesCheck, differencesText}
@@ -60,16 +60,16 @@ then-the-second L s t out e h =
 
 -- the two games, and the text of their lines
 pub record Games (L : Limits) (s t : List ℕ) : Type 0 where
-  pub xs : List ℕ
+  pub st : Start
   pub n : ℕ
   pub bs : List ℕ
-  pub ys : List ℕ
+  pub other : Start
   pub m : ℕ
   pub cs : List ℕ
-  pub first : Read L s xs n bs
-  pub second : Read L t ys m cs
+  pub first : Read L s st n bs
+  pub second : Read L t other m cs
   pub passes : differencesCheck L s t ≡ 0
-  pub text : differencesText L s t ≡ linesText (differences (rolled xs n bs) (rolled ys m cs))
+  pub text : differencesText L s t ≡ linesText (differences (rolled st n bs) (rolled other m cs))
 
 pub games : (L : Limits) (s t : List ℕ) → BothRead L s t → Games L s t
 unfolding differencesText
@@ -77,10 +77,10 @@ games L s t both =
     let a = is-rolled L s (both .first) in
     let b = is-rolled L t (both .second) in
     record {
-      xs = a .start;
+      st = a .start;
       n = a .count;
       bs = a .actions;
-      ys = b .start;
+      other = b .start;
       m = b .count;
       cs = b .actions;
       first = read-roll L s (a .start) (a .count) (a .actions) (both .first-bytes) (a .is);
@@ -104,7 +104,7 @@ value-told L s t room e = ap (λ (k : ℕ). writeAnswer k (differencesText L s t
 pub no-longer : NoLonger
 no-longer L s t room few both =
     let g = games L s t both in
-    let h = lines-within L s (g .xs) (g .n) (g .bs) t (g .ys) (g .m) (g .cs) few (g .first) (g .second) in
+    let h = lines-within L s (g .st) (g .n) (g .bs) t (g .other) (g .m) (g .cs) few (g .first) (g .second) in
     omega (arith, value-told L s t room (g .passes), ap length (g .text), h)
 
 pub limits-have-four-digits : LimitsHaveFourDigits

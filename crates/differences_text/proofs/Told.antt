@@ -14,10 +14,9 @@ use borrow.Author.Tests.{eq-eqb, ne-eqb, eqb-true, eqb-false, le-leb}
 use Rattle.action.specs.Layout.{actionSize}
 use Rattle.roll_text.specs.Roll.{kindAt, colourAt, moveNumberAt}
 use Rattle.roll_text.proofs.ByFields.{actionsInRange}
-use Rattle.board_builder.specs.BoardBuilder.{recordSize}
 use Rattle.roll_text.specs.Roll.{Rolled, refusal, rolled}
-use Rattle.differences_text.specs.Differences.{Difference, difference, startKey, ifDiffers, startDifferences, actionNumbers, actionKey}
-use Rattle.differences_text.specs.Differences.{actionDifference}
+use Rattle.differences_text.specs.Differences.{Difference, difference, startNumbers, startSize, startKey, ifDiffers, startDifferences}
+use Rattle.differences_text.specs.Differences.{actionNumbers, actionKey, actionDifference}
 use Rattle.differences_text.specs.Calls.{differences}
 use Rattle.differences_text.specs.Promises.{rising, startLine, StartTold, ActionTold, all-equal, first, swapped}
 use Rattle.differences_text.proofs.Numbers.{some-number, first-in-range, rest-in-range}
@@ -118,7 +117,7 @@ every-here all others i (x ∷ xs) (y ∷ ys) h k l j a b d =
     go false e true f left = List·Memᴰ·head (eqb-true j i f)
     go false e false f left = List·Memᴰ·tail (left (omega (arith, eqb-false j i f)) (omega arith) d)
 
-pub start-told : (xs ys : List ℕ) → length xs ≡ recordSize → length ys ≡ recordSize → StartTold xs ys (places 0 xs ys)
+pub start-told : (xs ys : List ℕ) → length xs ≡ startSize → length ys ≡ startSize → StartTold xs ys (places 0 xs ys)
 start-told xs ys a b =
     record {
       in-order = places-rise 0 0 xs ys (omega arith);
@@ -237,8 +236,10 @@ swap-action i (x ∷ xs) (y ∷ ys) = rw (same-test x y) (go (eqb x y) (swap-act
 pub swap-games : (x y : Rolled) → differences y x ≡ map swapped (differences x y)
 unfolding differences
 swap-games (refusal k) (refusal l) = refl
-swap-games (refusal k) (rolled ys m cs) = refl
-swap-games (rolled xs n bs) (refusal l) = refl
-swap-games (rolled xs n bs) (rolled ys m cs) =
+swap-games (refusal k) (rolled other m cs) = refl
+swap-games (rolled st n bs) (refusal l) = refl
+swap-games (rolled st n bs) (rolled other m cs) =
+    let xs = startNumbers st in
+    let ys = startNumbers other in
     ap₂ (λ (ds es : List Difference). ds ++ es) (swap-start 0 xs ys) (swap-action 0 (actionNumbers n bs) (actionNumbers m cs))
     ∙ sym (map-append swapped (startDifferences 0 xs ys) (actionDifference 0 (actionNumbers n bs) (actionNumbers m cs)))

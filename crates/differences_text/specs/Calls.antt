@@ -8,13 +8,14 @@ use Rattle.game_rules.specs.Limits.{Limits}
 use Rattle.game_rules.specs.Rules.{firstRefusal}
 use Rattle.roll_text.specs.Roll.{Rolled, refusal, rolled, readRoll}
 use Rattle.roll_text.specs.Calls.{rollAnswer}
-use Rattle.differences_text.specs.Differences.{Difference, startDifferences, actionNumbers, actionDifference, linesText}
+use Rattle.differences_text.specs.Differences.{Difference, startNumbers, startDifferences, actionNumbers, actionDifference, linesText}
 
 -- for two games as the roll reader reads them
 unfoldable pub differences : Rolled → Rolled → List Difference
 differences (refusal k) y = []
-differences (rolled xs n bs) (refusal k) = []
-differences (rolled xs n bs) (rolled ys m cs) = startDifferences 0 xs ys ++ actionDifference 0 (actionNumbers n bs) (actionNumbers m cs)
+differences (rolled st n bs) (refusal k) = []
+differences (rolled st n bs) (rolled other m cs) =
+    startDifferences 0 (startNumbers st) (startNumbers other) ++ actionDifference 0 (actionNumbers n bs) (actionNumbers m cs)
 
 -- for two rolls
 abbrev pub rollDifferences : Limits → List ℕ → List ℕ → List Difference

@@ -1,5 +1,5 @@
--- What differs between two games (document 02, order 10): a line for each start number that differs, "the start squares, keyed by number, `side`, `white`,
--- `black`, `ep`, then the first action that differs, keyed `action` and its index from 0".
+-- What differs between two games (document 02, orders 10 and 12): a line for each start number that differs, "the start squares, keyed by number, `side`,
+-- `white`, `black`, `ep`", then the counters, keyed "`half` and `full` after `ep`", "then the first action that differs, keyed `action` and its index from 0".
 -- Assumes nothing.
 use Prim.Native.Nat.{ℕ, zero, suc, _+_, _*_}
 use mathlib.Core.Bool.{cond}
@@ -8,9 +8,9 @@ use lib.Dec.{eqb, ltb}
 use lib.ListN.{drop}
 use Rattle.answer.specs.Ascii.{ascii}
 use Rattle.decimal.specs.Decimal.{decimal}
-use Rattle.board_builder.specs.BoardBuilder.{squares, sideAt, whiteRightsAt, blackRightsAt}
+use Rattle.board_builder.specs.BoardBuilder.{squares, recordSize, sideAt, whiteRightsAt, blackRightsAt, fileAt}
 use Rattle.action.specs.Layout.{actionSize}
-use Rattle.roll_text.specs.Roll.{codeOf, kindAt, colourAt, moveNumberAt}
+use Rattle.roll_text.specs.Roll.{Start, codeOf, kindAt, colourAt, moveNumberAt}
 
 -- what a line tells: its key, the first and the second game's number
 pub record Difference : Type 0 where
@@ -23,6 +23,16 @@ difference key x y = record { key = key; first = x; second = y }
 
 -- ---- the start's numbers
 
+-- the record's 68, then the half-move clock and the move number
+abbrev pub startCounts : Start → List ℕ
+startCounts st = st .half ∷ st .full ∷ []
+
+unfoldable pub startNumbers : Start → List ℕ
+startNumbers st = st .numbers ++ startCounts st
+
+abbrev pub startSize : ℕ
+startSize = recordSize + 2
+
 -- the key of number i of a start
 unfoldable pub startKey : ℕ → List ℕ
 startKey i =
@@ -30,7 +40,9 @@ startKey i =
     (cond (eqb i sideAt) (ascii "side")
     (cond (eqb i whiteRightsAt) (ascii "white")
     (cond (eqb i blackRightsAt) (ascii "black")
-    (ascii "ep"))))
+    (cond (eqb i fileAt) (ascii "ep")
+    (cond (eqb i recordSize) (ascii "half")
+    (ascii "full"))))))
 
 -- two numbers that are equal are not told
 unfoldable pub ifDiffers : List ℕ → ℕ → ℕ → List Difference

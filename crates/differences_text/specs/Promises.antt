@@ -9,11 +9,10 @@ use lib.ListN.{length, take, drop, getD}
 use Rattle.answer.specs.declared.Answer.{Answer}
 use Rattle.answer.specs.Answer.{accepted, refused, partTooShort}
 use Rattle.answer.specs.Numbers.{allAtMost}
-use Rattle.board_builder.specs.BoardBuilder.{recordSize}
 use Rattle.game_rules.specs.Limits.{Limits, limits, actionsLength}
-use Rattle.roll_text.specs.Roll.{rolled, readRoll}
+use Rattle.roll_text.specs.Roll.{Start, rolled, readRoll}
 use Rattle.roll_text.specs.Promises.{rollReader}
-use Rattle.differences_text.specs.Differences.{Difference, difference, startKey, actionKey, actionNumbers, linesText}
+use Rattle.differences_text.specs.Differences.{Difference, difference, startNumbers, startSize, startKey, actionKey, actionNumbers, linesText}
 use Rattle.differences_text.specs.Calls.{differencesAnswer, differencesRoom}
 
 -- any call that tells what differs: what it answers to two rolls and the length of a room, and what it leaves in the room
@@ -65,8 +64,8 @@ startLine xs ys i = difference (startKey i) (getD xs i 0) (getD ys i 0)
 -- the start numbers told are those that differ, in their order
 pub record StartTold (xs ys : List ℕ) (told : List ℕ) : Type 0 where
   pub in-order : rising 0 told ≡ true
-  pub each-differs : (i : ℕ) → List·Memᴰ i told → (i < recordSize) × (getD xs i 0 ≡ getD ys i 0 → ⊥)
-  pub each-that-differs : (i : ℕ) → i < recordSize → (getD xs i 0 ≡ getD ys i 0 → ⊥) → List·Memᴰ i told
+  pub each-differs : (i : ℕ) → List·Memᴰ i told → (i < startSize) × (getD xs i 0 ≡ getD ys i 0 → ⊥)
+  pub each-that-differs : (i : ℕ) → i < startSize → (getD xs i 0 ≡ getD ys i 0 → ⊥) → List·Memᴰ i told
 
 -- and the action told is the first that differs, or there is none
 pub data ActionTold (acts others : List ℕ) : List Difference → Type 0 where
@@ -97,10 +96,10 @@ pub record Tells (c : Teller) (s t out : List ℕ) (xs acts ys others : List ℕ
 
 abbrev pub TellsWhatDiffers : Type 0
 TellsWhatDiffers =
-    (L : Limits) (s t out xs : List ℕ) (n : ℕ) (bs ys : List ℕ) (m : ℕ) (cs : List ℕ) → allAtMost 255 s ≡ true → allAtMost 255 t ≡ true
-    → readRoll L s ≡ rolled xs n bs → readRoll L t ≡ rolled ys m cs
+    (L : Limits) (s t out : List ℕ) (st : Start) (n : ℕ) (bs : List ℕ) (other : Start) (m : ℕ) (cs : List ℕ) → allAtMost 255 s ≡ true
+    → allAtMost 255 t ≡ true → readRoll L s ≡ rolled st n bs → readRoll L t ≡ rolled other m cs
     → teller L .answer s t (length out) .number ≡ 0 → teller L .answer t s (length out) .number ≡ 0
-    → Tells (teller L) s t out xs (actionNumbers n bs) ys (actionNumbers m cs)
+    → Tells (teller L) s t out (startNumbers st) (actionNumbers n bs) (startNumbers other) (actionNumbers m cs)
 
 -- ---- refusals: the reader's number, first roll first, with the value 0; and nothing is written
 
@@ -121,7 +120,7 @@ Never16 = (L : Limits) (s t : List ℕ) (room : ℕ) → teller L .answer s t ro
 -- ---- the longest text, where an action's index has at most four digits
 
 abbrev pub longest : ℕ
-longest = 628
+longest = 658
 
 abbrev pub NoLonger : Type 0
 NoLonger = (L : Limits) (s t : List ℕ) (room : ℕ) → L .most-actions ≤ 10000 → BothRead L s t → teller L .answer s t room .value ≤ longest

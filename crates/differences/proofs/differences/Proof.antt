@@ -2,10 +2,10 @@
 -- .exit) ≡ differencesRoom limits (now (first .entry)) (now (second .entry)) (now (out .entry)).
 use borrow.Author.Needs.{needs}
 use mathlib.Core.Path.{refl, sym, _∙_}
-use native.Mathlib.Omega.{arith}
 use lib.ListN.{replicate}
 use Rattle.answer.proofs.Pushes.{whole-count, whole-within}
-use Rattle.differences.proofs.Whole.{number-told, known, few, starts-asked, action-asked, both-put}
+use Rattle.differences_text.specs.Promises.{longest}
+use Rattle.differences.proofs.Whole.{number-told, known, two-groups, starts-asked, counters-asked, start-put, action-asked, both-put}
 use Rattle.differences.proofs.Whole.{whole-answer, same-answer, first-refused, second-refused}
 use Rattle.differences.proofs.differences.Statement.{statement}
 use Rattle.differences.proofs.differences.Tie as tie
@@ -71,13 +71,13 @@ push-starts-requires c κs =
     let at-if3 = c .before .if3 in
     let one = known (a .first .now) (at-check .result) (at-check .ensures) (λ j. at-shared-slice-known .given j .fits) (at-if1 .left) in
     let two = known (a .second .now) (at-check2 .result) (at-check2 .ensures) (λ j. at-shared-slice-known2 .given j .fits) (at-if3 .left) in
-    starts-asked (a .first .now) (a .second .now) (at-check .result .value) (at-check2 .result .value) one two (replicate 628 0) refl
+    starts-asked (a .first .now) (a .second .now) (at-check .result) (at-check2 .result) one two (replicate longest 0) refl
 
-slice-aggregate-push-actions : tie.Need-slice-aggregate-push-actions
-slice-aggregate-push-actions c = search needs
+slice-aggregate-push-counters : tie.Need-slice-aggregate-push-counters
+slice-aggregate-push-counters c = search needs
 
-actions-text-requires : tie.Need-actions-text-requires
-actions-text-requires c κs =
+push-counters-requires : tie.Need-push-counters-requires
+push-counters-requires c κs =
     let early = c .before .before .before .before .before .before .before .before .before .before .before .before in
     let a = early .before .before .before .args in
     let at-shared-slice-known = early .before .before .shared-slice-known in
@@ -86,63 +86,37 @@ actions-text-requires c κs =
     let at-if1 = c .before .before .before .before .before .before .before .before .before .if1 in
     let at-check2 = c .before .before .before .before .before .before .check2 in
     let at-if3 = c .before .before .before .before .if3 in
+    let at-push-starts = c .before .before .push-starts in
     let one = known (a .first .now) (at-check .result) (at-check .ensures) (λ j. at-shared-slice-known .given j .fits) (at-if1 .left) in
     let two = known (a .second .now) (at-check2 .result) (at-check2 .ensures) (λ j. at-shared-slice-known2 .given j .fits) (at-if3 .left) in
-    omega (arith, few (a .first .now) (a .second .now) (at-check .result .value) (at-check2 .result .value) one two .0)
+    counters-asked (a .first .now) (a .second .now) (at-check .result) (at-check2 .result) one two (replicate longest 0) (at-push-starts .last .1 .1 .0)
+    (at-push-starts .result) refl (at-push-starts .ensures)
+
+slice-aggregate-push-actions : tie.Need-slice-aggregate-push-actions
+slice-aggregate-push-actions c = search needs
+
+actions-text-requires : tie.Need-actions-text-requires
+actions-text-requires c κs =
+    let early = c .before .before .before .before .before .before .before .before .before .before .before .before in
+    let a = early .before .before .before .before .before .before .args in
+    let at-shared-slice-known = early .before .before .before .before .before .shared-slice-known in
+    let at-check = early .before .before .check in
+    let at-if1 = early .if1 in
+    two-groups (a .first .now) (at-check .result)
+    (known (a .first .now) (at-check .result) (at-check .ensures) (λ j. at-shared-slice-known .given j .fits) (at-if1 .left))
 
 actions-text-requires-2 : tie.Need-actions-text-requires-2
 actions-text-requires-2 c κs =
     let early = c .before .before .before .before .before .before .before .before .before .before .before .before in
-    let a = early .before .before .before .before .args in
-    let at-shared-slice-known = early .before .before .before .shared-slice-known in
-    let at-shared-slice-known2 = early .before .before .shared-slice-known2 in
-    let at-check = early .check in
-    let at-if1 = c .before .before .before .before .before .before .before .before .before .before .if1 in
-    let at-check2 = c .before .before .before .before .before .before .before .check2 in
-    let at-if3 = c .before .before .before .before .before .if3 in
-    let one = known (a .first .now) (at-check .result) (at-check .ensures) (λ j. at-shared-slice-known .given j .fits) (at-if1 .left) in
-    let two = known (a .second .now) (at-check2 .result) (at-check2 .ensures) (λ j. at-shared-slice-known2 .given j .fits) (at-if3 .left) in
-    omega (arith, few (a .first .now) (a .second .now) (at-check .result .value) (at-check2 .result .value) one two .1)
+    let a = early .before .before .before .before .before .before .before .args in
+    let at-shared-slice-known2 = early .before .before .before .before .before .shared-slice-known2 in
+    let at-check2 = c .before .before .before .before .before .before .before .before .before .before .check2 in
+    let at-if3 = c .before .before .before .before .before .before .before .before .if3 in
+    two-groups (a .second .now) (at-check2 .result)
+    (known (a .second .now) (at-check2 .result) (at-check2 .ensures) (λ j. at-shared-slice-known2 .given j .fits) (at-if3 .left))
 
 push-actions-requires : tie.Need-push-actions-requires
 push-actions-requires c κs =
-    let early = c .before .before .before .before .before .before .before .before .before .before .before .before in
-    let a = early .before .before .before .before .before .args in
-    let at-shared-slice-known = early .before .before .before .before .shared-slice-known in
-    let at-shared-slice-known2 = early .before .before .before .shared-slice-known2 in
-    let at-check = early .before .check in
-    let at-if1 = c .before .before .before .before .before .before .before .before .before .before .before .if1 in
-    let at-check2 = c .before .before .before .before .before .before .before .before .check2 in
-    let at-if3 = c .before .before .before .before .before .before .if3 in
-    let at-push-starts = c .before .before .before .before .push-starts in
-    let at-actions-text = c .before .actions-text in
-    let one = known (a .first .now) (at-check .result) (at-check .ensures) (λ j. at-shared-slice-known .given j .fits) (at-if1 .left) in
-    let two = known (a .second .now) (at-check2 .result) (at-check2 .ensures) (λ j. at-shared-slice-known2 .given j .fits) (at-if3 .left) in
-    action-asked (a .first .now) (a .second .now) (at-check .result .value) (at-check2 .result .value) one two _ _ (at-actions-text .ensures)
-    (c .actions-text2 .ensures) (replicate 628 0) (at-push-starts .last .1 .1 .0) (at-push-starts .result) refl (at-push-starts .ensures)
-
-array-share-prefix-text : tie.Need-array-share-prefix-text
-array-share-prefix-text c =
-    let early = c .before .before .before .before .before .before .before .before .before .before .before .before in
-    let a = early .before .before .before .before .before .before .before .args in
-    let at-shared-slice-known = early .before .before .before .before .before .before .shared-slice-known in
-    let at-shared-slice-known2 = early .before .before .before .before .before .shared-slice-known2 in
-    let at-check = early .before .before .before .check in
-    let at-if1 = early .before .if1 in
-    let at-check2 = c .before .before .before .before .before .before .before .before .before .before .check2 in
-    let at-if3 = c .before .before .before .before .before .before .before .before .if3 in
-    let at-push-starts = c .before .before .before .before .before .before .push-starts in
-    let at-actions-text = c .before .before .before .actions-text in
-    let at-actions-text2 = c .before .before .actions-text2 in
-    let at-push-actions = c .before .push-actions in
-    let one = known (a .first .now) (at-check .result) (at-check .ensures) (λ j. at-shared-slice-known .given j .fits) (at-if1 .left) in
-    let two = known (a .second .now) (at-check2 .result) (at-check2 .ensures) (λ j. at-shared-slice-known2 .given j .fits) (at-if3 .left) in
-    whole-within (both-put (a .first .now) (a .second .now) (at-check .result .value) (at-check2 .result .value) one two _ _ (at-actions-text .ensures)
-    (at-actions-text2 .ensures) (replicate 628 0) (at-push-starts .last .1 .1 .0) (at-push-starts .result) refl (at-push-starts .ensures)
-    (at-push-actions .last .0) (at-push-actions .result) (at-push-actions .ensures))
-
-slice-aggregate-write-text : tie.Need-slice-aggregate-write-text
-slice-aggregate-write-text c =
     let early = c .before .before .before .before .before .before .before .before .before .before .before .before in
     let a = early .before .before .before .before .before .before .before .before .args in
     let at-shared-slice-known = early .before .before .before .before .before .before .before .shared-slice-known in
@@ -152,14 +126,63 @@ slice-aggregate-write-text c =
     let at-check2 = c .before .before .before .before .before .before .before .before .before .before .before .check2 in
     let at-if3 = c .before .before .before .before .before .before .before .before .before .if3 in
     let at-push-starts = c .before .before .before .before .before .before .before .push-starts in
+    let at-push-counters = c .before .before .before .before .push-counters in
+    let at-actions-text = c .before .actions-text in
+    let one = known (a .first .now) (at-check .result) (at-check .ensures) (λ j. at-shared-slice-known .given j .fits) (at-if1 .left) in
+    let two = known (a .second .now) (at-check2 .result) (at-check2 .ensures) (λ j. at-shared-slice-known2 .given j .fits) (at-if3 .left) in
+    let begun = start-put (a .first .now) (a .second .now) (at-check .result) (at-check2 .result) one two (replicate longest 0)
+    (at-push-starts .last .1 .1 .0) (at-push-starts .result) refl (at-push-starts .ensures) (at-push-counters .last .0) (at-push-counters .result)
+    (at-push-counters .ensures) in
+    action-asked (a .first .now) (a .second .now) (at-check .result) (at-check2 .result) one two _ _ (at-actions-text .ensures) (c .actions-text2 .ensures)
+    (replicate longest 0) (at-push-counters .last .0) (at-push-counters .result) refl begun
+
+array-share-prefix-text : tie.Need-array-share-prefix-text
+array-share-prefix-text c =
+    let early = c .before .before .before .before .before .before .before .before .before .before .before .before in
+    let a = early .before .before .before .before .before .before .before .before .before .before .args in
+    let at-shared-slice-known = early .before .before .before .before .before .before .before .before .before .shared-slice-known in
+    let at-shared-slice-known2 = early .before .before .before .before .before .before .before .before .shared-slice-known2 in
+    let at-check = early .before .before .before .before .before .before .check in
+    let at-if1 = early .before .before .before .before .if1 in
+    let at-check2 = early .before .check2 in
+    let at-if3 = c .before .before .before .before .before .before .before .before .before .before .before .if3 in
+    let at-push-starts = c .before .before .before .before .before .before .before .before .before .push-starts in
+    let at-push-counters = c .before .before .before .before .before .before .push-counters in
+    let at-actions-text = c .before .before .before .actions-text in
+    let at-actions-text2 = c .before .before .actions-text2 in
+    let at-push-actions = c .before .push-actions in
+    let one = known (a .first .now) (at-check .result) (at-check .ensures) (λ j. at-shared-slice-known .given j .fits) (at-if1 .left) in
+    let two = known (a .second .now) (at-check2 .result) (at-check2 .ensures) (λ j. at-shared-slice-known2 .given j .fits) (at-if3 .left) in
+    let begun = start-put (a .first .now) (a .second .now) (at-check .result) (at-check2 .result) one two (replicate longest 0)
+    (at-push-starts .last .1 .1 .0) (at-push-starts .result) refl (at-push-starts .ensures) (at-push-counters .last .0) (at-push-counters .result)
+    (at-push-counters .ensures) in
+    whole-within (both-put (a .first .now) (a .second .now) (at-check .result) (at-check2 .result) one two _ _ (at-actions-text .ensures)
+    (at-actions-text2 .ensures) (replicate longest 0) (at-push-counters .last .0) (at-push-counters .result) refl begun (at-push-actions .last .0)
+    (at-push-actions .result) (at-push-actions .ensures))
+
+slice-aggregate-write-text : tie.Need-slice-aggregate-write-text
+slice-aggregate-write-text c =
+    let early = c .before .before .before .before .before .before .before .before .before .before .before .before in
+    let a = early .before .before .before .before .before .before .before .before .before .before .before .args in
+    let at-shared-slice-known = early .before .before .before .before .before .before .before .before .before .before .shared-slice-known in
+    let at-shared-slice-known2 = early .before .before .before .before .before .before .before .before .before .shared-slice-known2 in
+    let at-check = early .before .before .before .before .before .before .before .check in
+    let at-if1 = early .before .before .before .before .before .if1 in
+    let at-check2 = early .before .before .check2 in
+    let at-if3 = early .if3 in
+    let at-push-starts = c .before .before .before .before .before .before .before .before .before .before .push-starts in
+    let at-push-counters = c .before .before .before .before .before .before .before .push-counters in
     let at-actions-text = c .before .before .before .before .actions-text in
     let at-actions-text2 = c .before .before .before .actions-text2 in
     let at-push-actions = c .before .before .push-actions in
     let one = known (a .first .now) (at-check .result) (at-check .ensures) (λ j. at-shared-slice-known .given j .fits) (at-if1 .left) in
     let two = known (a .second .now) (at-check2 .result) (at-check2 .ensures) (λ j. at-shared-slice-known2 .given j .fits) (at-if3 .left) in
-    whole-count (both-put (a .first .now) (a .second .now) (at-check .result .value) (at-check2 .result .value) one two _ _ (at-actions-text .ensures)
-    (at-actions-text2 .ensures) (replicate 628 0) (at-push-starts .last .1 .1 .0) (at-push-starts .result) refl (at-push-starts .ensures)
-    (at-push-actions .last .0) (at-push-actions .result) (at-push-actions .ensures))
+    let begun = start-put (a .first .now) (a .second .now) (at-check .result) (at-check2 .result) one two (replicate longest 0)
+    (at-push-starts .last .1 .1 .0) (at-push-starts .result) refl (at-push-starts .ensures) (at-push-counters .last .0) (at-push-counters .result)
+    (at-push-counters .ensures) in
+    whole-count (both-put (a .first .now) (a .second .now) (at-check .result) (at-check2 .result) one two _ _ (at-actions-text .ensures)
+    (at-actions-text2 .ensures) (replicate longest 0) (at-push-counters .last .0) (at-push-counters .result) refl begun (at-push-actions .last .0)
+    (at-push-actions .result) (at-push-actions .ensures))
 
 write-text-requires : tie.Need-write-text-requires
 write-text-requires c κs = search needs
@@ -170,24 +193,28 @@ same-length c = search needs
 returns-4 : tie.Need-returns-4
 returns-4 c =
     let early = c .before .before .before .before .before .before .before .before .before .before .before .before in
-    let a = early .before .before .before .before .before .before .before .before .before .before .before .before .args in
-    let at-shared-slice-known = early .before .before .before .before .before .before .before .before .before .before .before .shared-slice-known in
-    let at-shared-slice-known2 = early .before .before .before .before .before .before .before .before .before .before .shared-slice-known2 in
-    let at-check = early .before .before .before .before .before .before .before .before .check in
-    let at-if1 = early .before .before .before .before .before .before .if1 in
-    let at-check2 = early .before .before .before .check2 in
-    let at-if3 = early .before .if3 in
-    let at-push-starts = c .before .before .before .before .before .before .before .before .before .before .before .push-starts in
+    let entered = early .before .before .before .before .before .before .before .before .before .before .before .before .before in
+    let a = entered .before .before .args in
+    let at-shared-slice-known = entered .before .shared-slice-known in
+    let at-shared-slice-known2 = entered .shared-slice-known2 in
+    let at-check = early .before .before .before .before .before .before .before .before .before .before .before .check in
+    let at-if1 = early .before .before .before .before .before .before .before .before .before .if1 in
+    let at-check2 = early .before .before .before .before .before .before .check2 in
+    let at-if3 = early .before .before .before .before .if3 in
+    let at-push-starts = early .before .before .push-starts in
+    let at-push-counters = c .before .before .before .before .before .before .before .before .before .before .before .push-counters in
     let at-actions-text = c .before .before .before .before .before .before .before .before .actions-text in
     let at-actions-text2 = c .before .before .before .before .before .before .before .actions-text2 in
     let at-push-actions = c .before .before .before .before .before .before .push-actions in
     let at-write-text = c .before .before .write-text in
     let one = known (a .first .now) (at-check .result) (at-check .ensures) (λ j. at-shared-slice-known .given j .fits) (at-if1 .left) in
     let two = known (a .second .now) (at-check2 .result) (at-check2 .ensures) (λ j. at-shared-slice-known2 .given j .fits) (at-if3 .left) in
-    whole-answer (a .first .now) (a .second .now) (at-check .result .value) (at-check2 .result .value) one two _ _ (at-actions-text .ensures)
-    (at-actions-text2 .ensures) (replicate 628 0) (at-push-starts .last .1 .1 .0) (at-push-starts .result) refl (at-push-starts .ensures)
-    (at-push-actions .last .0) (at-push-actions .result) (at-push-actions .ensures)
-    (sym (number-told (a .first .now) (at-check .result) (at-check .ensures)) ∙ at-if1 .left)
+    let begun = start-put (a .first .now) (a .second .now) (at-check .result) (at-check2 .result) one two (replicate longest 0)
+    (at-push-starts .last .1 .1 .0) (at-push-starts .result) refl (at-push-starts .ensures) (at-push-counters .last .0) (at-push-counters .result)
+    (at-push-counters .ensures) in
+    whole-answer (a .first .now) (a .second .now) (at-check .result) (at-check2 .result) one two _ _ (at-actions-text .ensures) (at-actions-text2 .ensures)
+    (replicate longest 0) (at-push-counters .last .0) (at-push-counters .result) refl begun (at-push-actions .last .0) (at-push-actions .result)
+    (at-push-actions .ensures) (sym (number-told (a .first .now) (at-check .result) (at-check .ensures)) ∙ at-if1 .left)
     (sym (number-told (a .second .now) (at-check2 .result) (at-check2 .ensures)) ∙ at-if3 .left) (a .out .now) (at-write-text .last .1 .0)
     (at-write-text .result) (at-write-text .ensures .0) (at-write-text .ensures .1)
 
@@ -206,6 +233,8 @@ differences-spec =
     returns-3
     slice-aggregate-push-starts
     push-starts-requires
+    slice-aggregate-push-counters
+    push-counters-requires
     slice-aggregate-push-actions
     actions-text-requires
     actions-text-requires-2

@@ -2,7 +2,7 @@
 use borrow.Author.Needs.{needs}
 use mathlib.Core.Path.{sym}
 use Rattle.answer.proofs.Pushes.{put-as}
-use Rattle.differences.proofs.Keys.{key-square, key-side, key-white, key-black, key-file, fits-as}
+use Rattle.differences.proofs.Keys.{key-square, key-side, key-white, key-black, key-file, key-half, key-full, fits-as}
 use Rattle.differences.proofs.push_key.Statement.{statement}
 use Rattle.differences.proofs.push_key.Tie as tie
 
@@ -100,26 +100,88 @@ slice-aggregate-push-word-4 c = search needs
 
 push-word-requires-4 : tie.Need-push-word-requires-4
 push-word-requires-4 c κs =
-    let a = c .before .before .before .before .before .before .before .args in
-    let at-pre = c .before .before .before .before .before .before .before .pre in
-    let at-if1 = c .before .before .before .before .before .if1 in
-    let at-if2 = c .before .before .before .before .if2 in
-    let at-if3 = c .before .before .before .if3 in
-    let at-if4 = c .before .before .if4 in
-    fits-as (a .n) _ (key-file (a .i) (at-if1 .left) (at-if2 .left) (at-if3 .left) (at-if4 .left)) (at-pre)
+    let a = c .before .before .before .before .before .before .before .before .args in
+    let at-pre = c .before .before .before .before .before .before .before .before .pre in
+    let at-if1 = c .before .before .before .before .before .before .if1 in
+    let at-if2 = c .before .before .before .before .before .if2 in
+    let at-if3 = c .before .before .before .before .if3 in
+    let at-if4 = c .before .before .before .if4 in
+    let at-if5 = c .before .before .if5 in
+    fits-as (a .n) _ (key-file (a .i) (at-if1 .left) (at-if2 .left) (at-if3 .left) (at-if4 .left) (at-if5 .taken)) (at-pre)
 
 same-length-5 : tie.Need-same-length-5
 same-length-5 c = search needs
 
 returns-5 : tie.Need-returns-5
 returns-5 c =
-    let a = c .before .before .before .before .before .before .before .before .before .before .args in
-    let at-if1 = c .before .before .before .before .before .before .before .before .if1 in
-    let at-if2 = c .before .before .before .before .before .before .before .if2 in
-    let at-if3 = c .before .before .before .before .before .before .if3 in
-    let at-if4 = c .before .before .before .before .before .if4 in
+    let a = c .before .before .before .before .before .before .before .before .before .before .before .args in
+    let at-if1 = c .before .before .before .before .before .before .before .before .before .if1 in
+    let at-if2 = c .before .before .before .before .before .before .before .before .if2 in
+    let at-if3 = c .before .before .before .before .before .before .before .if3 in
+    let at-if4 = c .before .before .before .before .before .before .if4 in
+    let at-if5 = c .before .before .before .before .before .if5 in
     let at-push-word4 = c .before .before .push-word4 in
-    put-as (sym (key-file (a .i) (at-if1 .left) (at-if2 .left) (at-if3 .left) (at-if4 .left))) (at-push-word4 .ensures)
+    put-as (sym (key-file (a .i) (at-if1 .left) (at-if2 .left) (at-if3 .left) (at-if4 .left) (at-if5 .taken))) (at-push-word4 .ensures)
+
+slice-aggregate-push-word-5 : tie.Need-slice-aggregate-push-word-5
+slice-aggregate-push-word-5 c = search needs
+
+push-word-requires-5 : tie.Need-push-word-requires-5
+push-word-requires-5 c κs =
+    let a = c .before .before .before .before .before .before .before .before .before .args in
+    let at-pre = c .before .before .before .before .before .before .before .before .before .pre in
+    let at-if1 = c .before .before .before .before .before .before .before .if1 in
+    let at-if2 = c .before .before .before .before .before .before .if2 in
+    let at-if3 = c .before .before .before .before .before .if3 in
+    let at-if4 = c .before .before .before .before .if4 in
+    let at-if5 = c .before .before .before .if5 in
+    let at-if6 = c .before .before .if6 in
+    fits-as (a .n) _ (key-half (a .i) (at-if1 .left) (at-if2 .left) (at-if3 .left) (at-if4 .left) (at-if5 .left) (at-if6 .taken)) (at-pre)
+
+same-length-6 : tie.Need-same-length-6
+same-length-6 c = search needs
+
+returns-6 : tie.Need-returns-6
+returns-6 c =
+    let a = c .before .before .before .before .before .before .before .before .before .before .before .before .args in
+    let at-if1 = c .before .before .before .before .before .before .before .before .before .before .if1 in
+    let at-if2 = c .before .before .before .before .before .before .before .before .before .if2 in
+    let at-if3 = c .before .before .before .before .before .before .before .before .if3 in
+    let at-if4 = c .before .before .before .before .before .before .before .if4 in
+    let at-if5 = c .before .before .before .before .before .before .if5 in
+    let at-if6 = c .before .before .before .before .before .if6 in
+    let at-push-word5 = c .before .before .push-word5 in
+    put-as (sym (key-half (a .i) (at-if1 .left) (at-if2 .left) (at-if3 .left) (at-if4 .left) (at-if5 .left) (at-if6 .taken))) (at-push-word5 .ensures)
+
+slice-aggregate-push-word-6 : tie.Need-slice-aggregate-push-word-6
+slice-aggregate-push-word-6 c = search needs
+
+push-word-requires-6 : tie.Need-push-word-requires-6
+push-word-requires-6 c κs =
+    let a = c .before .before .before .before .before .before .before .before .before .args in
+    let at-pre = c .before .before .before .before .before .before .before .before .before .pre in
+    let at-if1 = c .before .before .before .before .before .before .before .if1 in
+    let at-if2 = c .before .before .before .before .before .before .if2 in
+    let at-if3 = c .before .before .before .before .before .if3 in
+    let at-if4 = c .before .before .before .before .if4 in
+    let at-if5 = c .before .before .before .if5 in
+    let at-if6 = c .before .before .if6 in
+    fits-as (a .n) _ (key-full (a .i) (at-if1 .left) (at-if2 .left) (at-if3 .left) (at-if4 .left) (at-if5 .left) (at-if6 .left)) (at-pre)
+
+same-length-7 : tie.Need-same-length-7
+same-length-7 c = search needs
+
+returns-7 : tie.Need-returns-7
+returns-7 c =
+    let a = c .before .before .before .before .before .before .before .before .before .before .before .before .args in
+    let at-if1 = c .before .before .before .before .before .before .before .before .before .before .if1 in
+    let at-if2 = c .before .before .before .before .before .before .before .before .before .if2 in
+    let at-if3 = c .before .before .before .before .before .before .before .before .if3 in
+    let at-if4 = c .before .before .before .before .before .before .before .if4 in
+    let at-if5 = c .before .before .before .before .before .before .if5 in
+    let at-if6 = c .before .before .before .before .before .if6 in
+    let at-push-word6 = c .before .before .push-word6 in
+    put-as (sym (key-full (a .i) (at-if1 .left) (at-if2 .left) (at-if3 .left) (at-if4 .left) (at-if5 .left) (at-if6 .left))) (at-push-word6 .ensures)
 
 pub push-key-spec : {M : Type 1} → statement M
 push-key-spec =
@@ -143,4 +205,12 @@ push-key-spec =
     slice-aggregate-push-word-4
     push-word-requires-4
     same-length-5
-    returns-5)
+    returns-5
+    slice-aggregate-push-word-5
+    push-word-requires-5
+    same-length-6
+    returns-6
+    slice-aggregate-push-word-6
+    push-word-requires-6
+    same-length-7
+    returns-7)

@@ -1,11 +1,10 @@
 -- `push_starts` of lib.rt meets its contract: PutIn (now (bytes .entry)) 0 (startLines (now (first .entry)) (now (second .entry))) (now (bytes .exit)) r.
 use Prim.Native.Nat.{_-_}
 use lib.ListN.{length}
-use Rattle.board_builder.specs.BoardBuilder.{recordSize}
 use mathlib.Core.Path.{refl}
 use native.Mathlib.Omega.{arith}
-use Rattle.differences.proofs.Starts.{start-none, line-fits, start-more, start-all}
-use Rattle.differences.proofs.Starts.{Started}
+use Rattle.board_builder.specs.BoardBuilder.{recordSize}
+use Rattle.differences.proofs.Starts.{Started, start-none, line-fits, start-more, start-all}
 use Rattle.differences.proofs.push_starts.Statement.{statement}
 use Rattle.differences.proofs.push_starts.Tie as tie
 
@@ -23,11 +22,17 @@ loop-holds c =
 shared-slice-read-push-start : tie.Need-shared-slice-read-push-start Inv-loop μ-loop
 shared-slice-read-push-start c = omega (arith, c .before .before .before .before .before .before .before .pre .0 .0, c .before .before .loop-test .taken)
 
+cast-push-start : tie.Need-cast-push-start Inv-loop μ-loop
+cast-push-start c = omega (arith, c .shared-slice-known3 .given (c .before .before .before .loop .i))
+
 shared-slice-read-push-start-2 : tie.Need-shared-slice-read-push-start-2 Inv-loop μ-loop
 shared-slice-read-push-start-2 c =
     let at-pre = c .before .before .before .before .before .before .before .before .pre in
     let at-loop-test = c .before .before .before .loop-test in
     omega (arith, at-pre .0 .1, at-loop-test .taken)
+
+cast-push-start-2 : tie.Need-cast-push-start-2 Inv-loop μ-loop
+cast-push-start-2 c = omega (arith, c .shared-slice-known4 .given (c .before .before .before .before .loop .i))
 
 push-start-requires : tie.Need-push-start-requires Inv-loop μ-loop
 push-start-requires c κs =
@@ -73,7 +78,9 @@ push-starts-spec =
     μ-loop
     loop-holds
     shared-slice-read-push-start
+    cast-push-start
     shared-slice-read-push-start-2
+    cast-push-start-2
     push-start-requires
     add-i
     loop-less
