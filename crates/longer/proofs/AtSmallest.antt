@@ -14,9 +14,10 @@ use Rattle.game_rules.specs.Rules.{current, actions, lastMade, result, firstRef
 use Rattle.game_rules.specs.Good.{callAt, historyOf, nextSound, sound, isGood}
 use Rattle.game_rules.specs.Calls.{logCheck, callAnswer, resultAnswer}
 use Rattle.roll_text.specs.Number.{groups, behind, readGroups}
-use Rattle.roll_text.specs.Roll.{largestNumbers, numbersText, actionText, actionsText, rollText, isCode, putNumber, oneNumber, readNumbers, movedBy, coded}
-use Rattle.roll_text.specs.Roll.{putAction, nextAction, readActions, withActions, withCount, withFront, readRoll}
-use Rattle.roll_text.specs.Calls.{rollAnswer, judged, writeCheck}
+use Rattle.roll_text.specs.Roll.{largestNumbers, numbersText, actionText, actionsText, countsText, textBy, isCode, putNumber, oneNumber, readNumbers}
+use Rattle.roll_text.specs.Roll.{fullBy, halfBy, readCounters, movedBy, coded}
+use Rattle.roll_text.specs.Roll.{putAction, nextAction, readActions, withActions, withCount, withCounts, withFront, readBy}
+use Rattle.roll_text.specs.Calls.{rollAnswer, judgedBy, writeCheck}
 use Rattle.longer.specs.AtSmallest.{RoomAtSmallest, RollsAtSmallest, LogsAtSmallest, Sizes}
 
 pub room-at-smallest : RoomAtSmallest
@@ -32,8 +33,9 @@ room-at-smallest =
     }
 
 pub rolls-at-smallest : RollsAtSmallest
-unfolding writeAnswer allAtMost inRange numbers actionOf movesIn actionsHeld groups behind readGroups largestNumbers numbersText actionText actionsText rollText
-    isCode putNumber oneNumber readNumbers movedBy coded putAction nextAction readActions withActions withCount withFront readRoll rollAnswer judged writeCheck
+unfolding writeAnswer allAtMost inRange numbers actionOf movesIn actionsHeld groups behind readGroups largestNumbers numbersText actionText actionsText
+    countsText textBy isCode putNumber oneNumber readNumbers fullBy halfBy readCounters movedBy coded putAction nextAction readActions withActions withCount
+    withCounts withFront readBy rollAnswer judgedBy writeCheck
 rolls-at-smallest =
     record {
       at-it = refl;
@@ -48,6 +50,10 @@ rolls-at-smallest =
       no-code-too = refl;
       hidden = refl;
       shown = refl;
+      at-it-old = refl;
+      one-action-more-old = refl;
+      one-move-more-old = refl;
+      accepted-old = refl;
       writes = refl;
       writes-too = refl;
       writes-none = refl;

@@ -5,8 +5,8 @@ use Rattle.game_rules.specs.Limits.{limits}
 use Rattle.roll_text.proofs.Entries.{reach-five}
 use Rattle.longer.specs.TwoLimits.{oldLimits}
 use Rattle.longer.specs.Promises.{AnyTwoLimits, OldAndNew, OldAreCountable}
-use Rattle.longer.proofs.Rolls.{reads-alike, old-rolls-read-alike, old-rolls-written-back, longer-rolls-are-13, other-rolls-read-alike}
-use Rattle.longer.proofs.Rolls.{writes-alike, longer-games-are-13}
+use Rattle.longer.proofs.Rolls.{reads-alike, old-rolls-read-alike, old-rolls-written-back, old-rolls-written-anew}
+use Rattle.longer.proofs.Rolls.{longer-rolls-are-13, other-rolls-read-alike, writes-alike, longer-games-are-13}
 use Rattle.longer.proofs.Logs.{same-games, same-good, starts-alike, logs-alike, longer-logs-are-9}
 
 pub any-two-limits : AnyTwoLimits
@@ -15,6 +15,7 @@ any-two-limits L M o =
       reads = reads-alike L M o;
       old-rolls = old-rolls-read-alike L M o;
       written-back = old-rolls-written-back L M o;
+      written-anew = old-rolls-written-anew L M o;
       longer-rolls = longer-rolls-are-13 L M o;
       other-rolls = other-rolls-read-alike L M o;
       writes = writes-alike L M o;

@@ -15,10 +15,12 @@ use Rattle.roll_text.specs.declared.Number.{Number}
 use Rattle.roll_text.specs.declared.Number.the-variants.{Got, Bad}
 use Rattle.roll_text.specs.declared.Entry.{Entry}
 use Rattle.roll_text.specs.declared.Entry.the-variants.{Move, Plain, Stop}
+use Rattle.roll_text.specs.declared.Counters.{Counters}
+use Rattle.roll_text.specs.declared.Counters.the-variants.{Counts, Wrong}
 use Rattle.roll_text.specs.Number.{readNumber}
 use Rattle.roll_text.specs.Roll.{Front, stopped, front, readNumbers, largestNumbers, coded, readEntry}
 use Rattle.roll_text.specs.Roll.{Acts, halted, putAction, nextAction, readActions}
-use Rattle.roll_text.specs.Roll.{refusal, withActions, withCount, withFront, readRoll}
+use Rattle.roll_text.specs.Roll.{Start, refusal, withActions, withCount, withCounts, withFront, readCounters, readBy}
 use Rattle.longer.specs.TwoLimits.{AllowsNoLess}
 
 -- ---- an entry: whether there is room for a move is tested only at a move's code, and answered with 13
@@ -70,32 +72,39 @@ actions-alike (suc n) l k s h isnt =
 
 -- ---- the roll
 
-with-actions-alike : (xs : List ℕ) (n : ℕ) (x y : Acts) → ((x ≡ halted logFull → ⊥) → x ≡ y) → (withActions xs n x ≡ refusal logFull → ⊥)
-    → withActions xs n x ≡ withActions xs n y
+with-actions-alike : (st : Start) (n : ℕ) (x y : Acts) → ((x ≡ halted logFull → ⊥) → x ≡ y) → (withActions st n x ≡ refusal logFull → ⊥)
+    → withActions st n x ≡ withActions st n y
 unfolding withActions
-with-actions-alike xs n x y h isnt = ap (withActions xs n) (h (λ e. isnt (ap (withActions xs n) e)))
+with-actions-alike st n x y h isnt = ap (withActions st n) (h (λ e. isnt (ap (withActions st n) e)))
 
 module _ (L M : Limits) (o : AllowsNoLess L M) where
-  count-alike : (xs : List ℕ) (x : Number) (s : List ℕ) → (withCount L xs x s ≡ refusal logFull → ⊥) → withCount L xs x s ≡ withCount M xs x s
+  count-alike : (st : Start) (x : Number) (s : List ℕ) → (withCount L st x s ≡ refusal logFull → ⊥) → withCount L st x s ≡ withCount M st x s
   unfolding withCount
-  count-alike xs Bad s isnt = refl
-  count-alike xs (Got n size) s isnt = by (leb n (L .most-actions)) refl
+  count-alike st Bad s isnt = refl
+  count-alike st (Got n size) s isnt = by (leb n (L .most-actions)) refl
     where
-      by : (t : Bool) → leb n (L .most-actions) ≡ t → withCount L xs (Got n size) s ≡ withCount M xs (Got n size) s
+      by : (t : Bool) → leb n (L .most-actions) ≡ t → withCount L st (Got n size) s ≡ withCount M st (Got n size) s
       by true e =
           let le : n ≤ L .most-actions = leb-true n (L .most-actions) e in
           let also : leb n (M .most-actions) ≡ true = le-leb n (M .most-actions) (omega (arith, le, o .actions)) in
           simp (e, also)
-          (with-actions-alike xs n (readActions n (L .most-moves) (drop size s)) (readActions n (M .most-moves) (drop size s))
+          (with-actions-alike st n (readActions n (L .most-moves) (drop size s)) (readActions n (M .most-moves) (drop size s))
           (actions-alike n (L .most-moves) (M .most-moves) (drop size s) (o .moves))
           (simp e at isnt))
       by false e = absurd (isnt (simp e))
 
-  front-alike : (x : Front) → (withFront L x ≡ refusal logFull → ⊥) → withFront L x ≡ withFront M x
-  unfolding withFront
-  front-alike (stopped k) isnt = refl
-  front-alike (front xs s) isnt = count-alike xs (readNumber s) s isnt
+  counts-alike : (xs : List ℕ) (x : Counters) (s : List ℕ) → (withCounts L xs x s ≡ refusal logFull → ⊥) → withCounts L xs x s ≡ withCounts M xs x s
+  unfolding withCounts
+  counts-alike xs (Wrong k) s isnt = refl
+  counts-alike xs (Counts half full size) s isnt =
+      count-alike (record { numbers = xs; half = half; full = full }) (readNumber (drop size s)) (drop size s) isnt
 
-  pub roll-alike : (s : List ℕ) → (readRoll L s ≡ refusal logFull → ⊥) → readRoll L s ≡ readRoll M s
-  unfolding readRoll
-  roll-alike s isnt = front-alike (readNumbers largestNumbers s) isnt
+  module _ (counted : Bool) where
+    front-alike : (x : Front) → (withFront counted L x ≡ refusal logFull → ⊥) → withFront counted L x ≡ withFront counted M x
+    unfolding withFront
+    front-alike (stopped k) isnt = refl
+    front-alike (front xs s) isnt = counts-alike xs (readCounters counted s) s isnt
+
+    pub roll-alike : (s : List ℕ) → (readBy counted L s ≡ refusal logFull → ⊥) → readBy counted L s ≡ readBy counted M s
+    unfolding readBy
+    roll-alike s isnt = front-alike (readNumbers largestNumbers s) isnt

@@ -19,9 +19,10 @@ use Rattle.action.specs.Layout.{actionSize}
 use Rattle.actions.specs.Part.{movesIn, actionsHeld}
 use Rattle.game_rules.specs.Limits.{Limits, actionsLength}
 use Rattle.roll_text.specs.declared.Roll.{Roll}
-use Rattle.roll_text.specs.Roll.{Rolled, refusal, rolled, readRoll}
-use Rattle.roll_text.specs.Calls.{rollAnswer, rollOver, judged, writeCheck, gameText}
-use Rattle.roll_text.specs.Promises.{Game, Countable, rollReader}
+use Rattle.roll_text.specs.Roll.{Start, Rolled, refusal, rolled, readBy}
+use Rattle.roll_text.specs.Calls.{rollAnswer, rollOver, judgedBy, writeCheck, gameText}
+use Rattle.roll_text.specs.Promises.{Game, Countable, readerBy}
+use Rattle.roll_text.proofs.OldRolls.{old-is-written-anew}
 use Rattle.roll_text.proofs.Back.{rolls-read-back}
 use Rattle.roll_text.proofs.Counted.{moves-counted}
 use Rattle.roll_text.proofs.Forth.{accepted-written-back}
@@ -29,8 +30,8 @@ use Rattle.roll_text.proofs.ReadsBack.{judged-long}
 use Rattle.roll_text.proofs.Refusals.{judged-told, IsRolled, accepted-rolled}
 use Rattle.roll_text.proofs.WritesBack.{read-is-written-back}
 use Rattle.longer.specs.TwoLimits.{AllowsNoLess, within}
-use Rattle.longer.specs.Promises.{ReadAlike, PartsOf, ReadsAlike, OldRollsReadAlike, OldRollsWrittenBack, HandsOutNothing, withinOf, LongerRollsAre13}
-use Rattle.longer.specs.Promises.{OtherRollsReadAlike, WritesAlike, LongerGamesAre13}
+use Rattle.longer.specs.Promises.{ReadAlike, PartsOf, ReadsAlike, OldRollsReadAlike, OldRollsWrittenBack, OldRollsWrittenAnew}
+use Rattle.longer.specs.Promises.{HandsOutNothing, withinOf, LongerRollsAre13, OtherRollsReadAlike, WritesAlike, LongerGamesAre13}
 use Rattle.longer.proofs.Reading.{roll-alike}
 
 -- within, as two facts
@@ -50,53 +51,63 @@ pub shorter-part : (L M : Limits) → AllowsNoLess L M → (n : ℕ) → actions
 shorter-part L M o n h = omega (arith, o .actions)
 
 -- the counted bytes of a roll that was read, whatever stood in the part
-counted : (M : Limits) (s mine theirs : List ℕ) → allAtMost 255 s ≡ true → (x : Rolled) → readRoll M s ≡ x
+counted-bytes : (counted : Bool) (M : Limits) (s mine theirs : List ℕ) → allAtMost 255 s ≡ true → (x : Rolled) → readBy counted M s ≡ x
     → take (actionSize * rollAnswer x .actions) (rollOver x mine) ≡ take (actionSize * rollAnswer x .actions) (rollOver x theirs)
 unfolding rollAnswer rollOver
-counted M s mine theirs small (refusal k) e = refl
-counted M s mine theirs small (rolled xs n bs) e =
-    let long = accepted-written-back M s xs n bs small e .game .long in
+counted-bytes counted M s mine theirs small (refusal k) e = refl
+counted-bytes counted M s mine theirs small (rolled xs n bs) e =
+    let long = accepted-written-back counted M s xs n bs small e .game .long in
     take-at bs (drop (length bs) mine) (actionSize * n) long ∙ sym (take-at bs (drop (length bs) theirs) (actionSize * n) long)
 
-module _ (L M : Limits) (o : AllowsNoLess L M) (s mine theirs : List ℕ) (small : allAtMost 255 s ≡ true) (p : PartsOf L M mine theirs) where
-  as-mine : judged L s (length mine) ≡ readRoll L s
-  as-mine = judged-long L s (length mine) (p .smaller)
+module _ (L M : Limits) (o : AllowsNoLess L M) (counted : Bool) (s mine theirs : List ℕ) (small : allAtMost 255 s ≡ true) (p : PartsOf L M mine theirs) where
+  as-mine : judgedBy counted L s (length mine) ≡ readBy counted L s
+  as-mine = judged-long counted L s (length mine) (p .smaller)
 
   -- for one roll: the answers, the counted actions and what is left
-  alike-of : readRoll L s ≡ readRoll M s → ReadAlike L M s mine theirs
+  alike-of : readBy counted L s ≡ readBy counted M s → ReadAlike counted L M s mine theirs
   alike-of e =
-      let to-mine : judged L s (length mine) ≡ readRoll M s = as-mine ∙ e in
-      let to-theirs : judged L s (length theirs) ≡ readRoll M s =
-      judged-long L s (length theirs) (shorter-part L M o (length theirs) (p .larger)) ∙ e in
-      let longer : judged M s (length theirs) ≡ readRoll M s = judged-long M s (length theirs) (p .larger) in
+      let to-mine : judgedBy counted L s (length mine) ≡ readBy counted M s = as-mine ∙ e in
+      let to-theirs : judgedBy counted L s (length theirs) ≡ readBy counted M s =
+      judged-long counted L s (length theirs) (shorter-part L M o (length theirs) (p .larger)) ∙ e in
+      let longer : judgedBy counted M s (length theirs) ≡ readBy counted M s = judged-long counted M s (length theirs) (p .larger) in
       record {
         answers = rw (to-mine, longer) refl;
-        actions = rw (to-mine, longer) (counted M s mine theirs small (readRoll M s) refl);
+        actions = rw (to-mine, longer) (counted-bytes counted M s mine theirs small (readBy counted M s) refl);
         left = rw (to-theirs, longer) refl;
       }
 
-  pub read-alike : (rollReader L .answer s (length mine) .number ≡ logFull → ⊥) → ReadAlike L M s mine theirs
+  pub read-alike : (readerBy counted L .answer s (length mine) .number ≡ logFull → ⊥) → ReadAlike counted L M s mine theirs
   unfolding rollAnswer
-  read-alike isnt = alike-of (roll-alike L M o s (λ e. isnt (ap (λ (x : Rolled). rollAnswer x .number) (as-mine ∙ e))))
+  read-alike isnt = alike-of (roll-alike L M o counted s (λ e. isnt (ap (λ (x : Rolled). rollAnswer x .number) (as-mine ∙ e))))
 
 pub reads-alike : (L M : Limits) → AllowsNoLess L M → ReadsAlike L M
-reads-alike L M o s mine theirs small p isnt = read-alike L M o s mine theirs small p isnt
+reads-alike L M o counted s mine theirs small p isnt = read-alike L M o counted s mine theirs small p isnt
 
 pub old-rolls-read-alike : (L M : Limits) → AllowsNoLess L M → OldRollsReadAlike L M
-old-rolls-read-alike L M o s mine theirs small p e = read-alike L M o s mine theirs small p (λ z. let q : _≡_ {A = ℕ} 0 13 = sym e ∙ z in omega (arith, q))
+old-rolls-read-alike L M o counted s mine theirs small p e =
+    read-alike L M o counted s mine theirs small p (λ z. let q : _≡_ {A = ℕ} 0 13 = sym e ∙ z in omega (arith, q))
+
+-- so M accepts it
+accepts-too : (L M : Limits) → AllowsNoLess L M → (counted : Bool) (s mine theirs : List ℕ) → allAtMost 255 s ≡ true → PartsOf L M mine theirs
+    → readerBy counted L .answer s (length mine) .number ≡ 0 → readerBy counted M .answer s (length theirs) .number ≡ 0
+accepts-too L M o counted s mine theirs small p e =
+    sym (ap (λ (r : Roll). r .number) (old-rolls-read-alike L M o counted s mine theirs small p e .answers)) ∙ e
 
 pub old-rolls-written-back : (L M : Limits) → AllowsNoLess L M → OldRollsWrittenBack L M
 old-rolls-written-back L M o s mine theirs out small p e room =
-    let alike = old-rolls-read-alike L M o s mine theirs small p e in
-    read-is-written-back M s theirs out small (sym (ap (λ (r : Roll). r .number) (alike .answers)) ∙ e) room
+    read-is-written-back M s theirs out small (accepts-too L M o true s mine theirs small p e) room
+
+pub old-rolls-written-anew : (L M : Limits) → AllowsNoLess L M → OldRollsWrittenAnew L M
+old-rolls-written-anew L M o s mine theirs out small p e room =
+    old-is-written-anew M s theirs out small (accepts-too L M o false s mine theirs small p e) room
 
 -- ---- a roll that M accepts
 
-module _ (L M : Limits) (o : AllowsNoLess L M) (s mine theirs : List ℕ) (small : allAtMost 255 s ≡ true) (long : actionsLength L ≤ length mine)
-    (e : rollReader M .answer s (length theirs) .number ≡ 0) where
+module _ (L M : Limits) (o : AllowsNoLess L M) (counted : Bool) (s mine theirs : List ℕ) (small : allAtMost 255 s ≡ true)
+    (long : actionsLength L ≤ length mine) (e : readerBy counted M .answer s (length theirs) .number ≡ 0) where
   -- the part that it was read into was long enough
   their-part : actionsLength M ≤ length theirs
-  unfolding judged rollAnswer
+  unfolding judgedBy rollAnswer
   their-part = by (ltb (length theirs) (actionsLength M)) refl
     where
       by : (t : Bool) → ltb (length theirs) (actionsLength M) ≡ t → actionsLength M ≤ length theirs
@@ -106,62 +117,62 @@ module _ (L M : Limits) (o : AllowsNoLess L M) (s mine theirs : List ℕ) (small
   parts : PartsOf L M mine theirs
   parts = record { smaller = long; larger = their-part }
 
-  read : IsRolled (judged M s (length theirs))
-  read = accepted-rolled (judged M s (length theirs)) (judged-told M s (length theirs)) e
+  read : IsRolled (judgedBy counted M s (length theirs))
+  read = accepted-rolled (judgedBy counted M s (length theirs)) (judged-told counted M s (length theirs)) e
 
-  is : readRoll M s ≡ rolled (read .start) (read .count) (read .actions)
-  is = sym (judged-long M s (length theirs) their-part) ∙ read .is
+  is : readBy counted M s ≡ rolled (read .start) (read .count) (read .actions)
+  is = sym (judged-long counted M s (length theirs) their-part) ∙ read .is
 
   game : Game M (read .start) (read .count) (read .actions)
-  game = accepted-written-back M s (read .start) (read .count) (read .actions) small is .game
+  game = accepted-written-back counted M s (read .start) (read .count) (read .actions) small is .game
 
   -- the moves among its actions
-  moves-of : movesIn (rollReader M .part s theirs) (rollReader M .answer s (length theirs) .actions) ≡ movesIn (read .actions) (read .count)
+  moves-of : movesIn (readerBy counted M .part s theirs) (readerBy counted M .answer s (length theirs) .actions) ≡ movesIn (read .actions) (read .count)
   unfolding rollAnswer rollOver
   moves-of = rw (read .is) (moves-counted (read .count) (read .actions) (drop (length (read .actions)) theirs) (game .long))
 
-  count-of : rollReader M .answer s (length theirs) .actions ≡ read .count
+  count-of : readerBy counted M .answer s (length theirs) .actions ≡ read .count
   unfolding rollAnswer
   count-of = rw (read .is) refl
 
-  within-of : withinOf L M s theirs ≡ within L (read .count) (movesIn (read .actions) (read .count))
+  within-of : withinOf counted L M s theirs ≡ within L (read .count) (movesIn (read .actions) (read .count))
   within-of = rw (moves-of, count-of) refl
 
   -- what L accepts is a game within L
-  accepted-within : (xs : List ℕ) (n : ℕ) (bs : List ℕ) → readRoll L s ≡ rolled xs n bs → withinOf L M s theirs ≡ true
+  accepted-within : (xs : Start) (n : ℕ) (bs : List ℕ) → readBy counted L s ≡ rolled xs n bs → withinOf counted L M s theirs ≡ true
   accepted-within xs n bs f =
-      let g = accepted-written-back L s xs n bs small f .game in
+      let g = accepted-written-back counted L s xs n bs small f .game in
       let same : rolled xs n bs ≡ rolled (read .start) (read .count) (read .actions) =
-      sym f ∙ roll-alike L M o s (λ z. let q : _≡_ {A = ℕ} 0 1 = cc in omega (arith, q)) ∙ is in
+      sym f ∙ roll-alike L M o counted s (λ z. let q : _≡_ {A = ℕ} 0 1 = cc in omega (arith, q)) ∙ is in
       let counts : n ≡ read .count = cc in
       let acts : bs ≡ read .actions = cc in
       within-of ∙ rw (← counts, ← acts) (are-within L n (movesIn bs n) (g .few) (g .few-moves))
 
-  longer-is-13 : withinOf L M s theirs ≡ false → readRoll L s ≡ refusal logFull
-  longer-is-13 f = by (readRoll L s) refl
+  longer-is-13 : withinOf counted L M s theirs ≡ false → readBy counted L s ≡ refusal logFull
+  longer-is-13 f = by (readBy counted L s) refl
     where
-      by : (x : Rolled) → readRoll L s ≡ x → readRoll L s ≡ refusal logFull
+      by : (x : Rolled) → readBy counted L s ≡ x → readBy counted L s ≡ refusal logFull
       by (rolled xs n bs) g = absurd (false≢true (sym f ∙ accepted-within xs n bs g))
       by (refusal k) g = is-13 (eqb k logFull) refl
         where
-          is-13 : (t : Bool) → eqb k logFull ≡ t → readRoll L s ≡ refusal logFull
+          is-13 : (t : Bool) → eqb k logFull ≡ t → readBy counted L s ≡ refusal logFull
           is-13 true h = g ∙ ap refusal (eqb-true k logFull h)
           is-13 false h =
               let other : k ≡ logFull → ⊥ = eqb-false k logFull h in
               let same : refusal k ≡ rolled (read .start) (read .count) (read .actions) =
-              sym g ∙ roll-alike L M o s (λ z. let q : k ≡ logFull = cc in other q) ∙ is in
+              sym g ∙ roll-alike L M o counted s (λ z. let q : k ≡ logFull = cc in other q) ∙ is in
               absurd (let q : _≡_ {A = ℕ} 0 1 = cc in omega (arith, q))
 
-  pub longer-hands-out-nothing : withinOf L M s theirs ≡ false → HandsOutNothing L s mine
+  pub longer-hands-out-nothing : withinOf counted L M s theirs ≡ false → HandsOutNothing counted L s mine
   unfolding rollAnswer rollOver
   longer-hands-out-nothing f =
-      let refuses : judged L s (length mine) ≡ refusal logFull = judged-long L s (length mine) long ∙ longer-is-13 f in
+      let refuses : judgedBy counted L s (length mine) ≡ refusal logFull = judged-long counted L s (length mine) long ∙ longer-is-13 f in
       record { answer = rw refuses refl; unchanged = rw refuses refl }
 
   -- no more than L allows: L reads it, by reading back what would be written
-  pub within-is-read : Countable L → withinOf L M s theirs ≡ true → ReadAlike L M s mine theirs
+  pub within-is-read : Countable L → withinOf counted L M s theirs ≡ true → ReadAlike counted L M s mine theirs
   within-is-read countable f =
-      let back = accepted-written-back M s (read .start) (read .count) (read .actions) small is in
+      let back = accepted-written-back counted M s (read .start) (read .count) (read .actions) small is in
       let inside : within L (read .count) (movesIn (read .actions) (read .count)) ≡ true = sym within-of ∙ f in
       let game-of-l : Game L (read .start) (read .count) (read .actions) = record {
         start = game .start;
@@ -171,14 +182,14 @@ module _ (L M : Limits) (o : AllowsNoLess L M) (s mine theirs : List ℕ) (small
         long = game .long;
         bytes = game .bytes;
       } in
-      alike-of L M o s mine theirs small parts
-      (ap (readRoll L) (back .text) ∙ rolls-read-back L (read .start) (read .count) (read .actions) countable game-of-l ∙ sym is)
+      alike-of L M o counted s mine theirs small parts
+      (ap (readBy counted L) (back .text) ∙ rolls-read-back counted L (read .start) (read .count) (read .actions) countable game-of-l (back .form) ∙ sym is)
 
 pub longer-rolls-are-13 : (L M : Limits) → AllowsNoLess L M → LongerRollsAre13 L M
-longer-rolls-are-13 L M o s mine theirs small long e f = longer-hands-out-nothing L M o s mine theirs small long e f
+longer-rolls-are-13 L M o counted s mine theirs small long e f = longer-hands-out-nothing L M o counted s mine theirs small long e f
 
 pub other-rolls-read-alike : (L M : Limits) → AllowsNoLess L M → Countable L → OtherRollsReadAlike L M
-other-rolls-read-alike L M o countable s mine theirs small long e f = within-is-read L M o s mine theirs small long e countable f
+other-rolls-read-alike L M o countable counted s mine theirs small long e f = within-is-read L M o counted s mine theirs small long e countable f
 
 -- ---- the writer
 

@@ -12,7 +12,7 @@ use Rattle.game_rules.specs.Limits.{Limits, limits, actionsLength, positionsLen
 use Rattle.game_rules.specs.Rules.{Call, makeMove, offerDraw}
 use Rattle.game_rules.specs.Calls.{callAnswer, resultAnswer}
 use Rattle.game_rules.specs.CallOrder.{onEmpty, startBytes}
-use Rattle.roll_text.specs.Promises.{rollReader, rollWriter}
+use Rattle.roll_text.specs.Promises.{rollReader, oldReader, rollWriter}
 use Rattle.longer.specs.TwoLimits.{oldLimits, within, roomAfter}
 
 abbrev pub few : Limits
@@ -28,9 +28,12 @@ actionsOfMore = replicate 8 0
 abbrev pub positionsOfMore : List ℕ
 positionsOfMore = startBytes ++ replicate positionSize 0
 
--- the answer to a roll of the empty record, given its count and actions
+-- the answer to a roll of the empty record, given its count and actions; and to one without counters
 abbrev pub reading : Limits → List ℕ → ℕ
-reading L s = rollReader L .answer (replicate recordSize 0 ++ s) (length actionsOfMore) .number
+reading L s = rollReader L .answer (replicate recordSize 0 ++ (0 ∷ 1 ∷ s)) (length actionsOfMore) .number
+
+abbrev pub readingOld : Limits → List ℕ → ℕ
+readingOld L s = oldReader L .answer (replicate recordSize 0 ++ s) (length actionsOfMore) .number
 
 pub record RollsAtSmallest : Type 0 where
   -- one offer
@@ -49,11 +52,16 @@ pub record RollsAtSmallest : Type 0 where
   pub no-code-too : reading more (1 ∷ 7 ∷ []) ≡ badRoll
   pub hidden : reading few (2 ∷ 7 ∷ []) ≡ logFull
   pub shown : reading more (2 ∷ 7 ∷ []) ≡ badRoll
+  -- without counters
+  pub at-it-old : readingOld few (1 ∷ 4 ∷ []) ≡ 0
+  pub one-action-more-old : readingOld few (2 ∷ 4 ∷ 4 ∷ []) ≡ logFull
+  pub one-move-more-old : readingOld few (1 ∷ 2 ∷ 0 ∷ []) ≡ logFull
+  pub accepted-old : readingOld more (1 ∷ 2 ∷ 0 ∷ []) ≡ 0
   -- written: an offer, and a second
-  pub writes : rollWriter few .answer emptyBoard (2 ∷ replicate 7 0) 1 70 .number ≡ 0
-  pub writes-too : rollWriter more .answer emptyBoard (2 ∷ replicate 7 0) 1 70 .number ≡ 0
-  pub writes-none : rollWriter few .answer emptyBoard (2 ∷ 0 ∷ 0 ∷ 0 ∷ 2 ∷ 0 ∷ 0 ∷ 0 ∷ []) 2 71 .number ≡ logFull
-  pub writes-longer : rollWriter more .answer emptyBoard (2 ∷ 0 ∷ 0 ∷ 0 ∷ 2 ∷ 0 ∷ 0 ∷ 0 ∷ []) 2 71 .number ≡ 0
+  pub writes : rollWriter few .answer emptyBoard (2 ∷ replicate 7 0) 1 72 .number ≡ 0
+  pub writes-too : rollWriter more .answer emptyBoard (2 ∷ replicate 7 0) 1 72 .number ≡ 0
+  pub writes-none : rollWriter few .answer emptyBoard (2 ∷ 0 ∷ 0 ∷ 0 ∷ 2 ∷ 0 ∷ 0 ∷ 0 ∷ []) 2 73 .number ≡ logFull
+  pub writes-longer : rollWriter more .answer emptyBoard (2 ∷ 0 ∷ 0 ∷ 0 ∷ 2 ∷ 0 ∷ 0 ∷ 0 ∷ []) 2 73 .number ≡ 0
 
 -- which calls the smaller limits have room for: one action, and no move
 pub record RoomAtSmallest : Type 0 where
@@ -85,9 +93,9 @@ pub record LogsAtSmallest : Type 0 where
   pub short-actions : callAnswer more (replicate 4 0) positionsOfMore 0 0 (offerDraw 0) ≡ partTooShort
   pub short-positions : callAnswer more actionsOfMore startBytes 0 0 (offerDraw 0) ≡ partTooShort
 
--- the parts of document 01, and those of the order
+-- the parts at document 01's limits, and those of the orders. Document 01's positions had 580 bytes, 594,500 in all; with the counters they have 584
 pub record Sizes : Type 0 where
   pub old-actions : actionsLength oldLimits ≡ 8192
-  pub old-positions : positionsLength oldLimits ≡ 594500
+  pub old-positions : positionsLength oldLimits ≡ 598600
   pub actions : actionsLength limits ≡ 32768
-  pub positions : positionsLength limits ≡ 2376260
+  pub positions : positionsLength limits ≡ 2392648

@@ -1,5 +1,6 @@
 -- What order 11 of document 02 promises about two programs, one with limits L and one with limits M that allow no less, each as a statement that can be read
--- by itself. They are stated for any two limits in order, and at the end for document 01's and those of the contracts.
+-- by itself. They are stated for any two limits in order, and at the end for document 01's and those of the contracts. What is said of reading holds of rolls
+-- with counters and of those without (order 12), each by its own call; "old rolls" are those within the old limits.
 -- Assumes nothing.
 use mathlib.Core.Path.{_≡_}
 use mathlib.Core.Bool.{Bool, true, false}
@@ -10,7 +11,7 @@ use lib.ListN.{length, take}
 use Rattle.answer.specs.Answer.{refused, logFull, notGood}
 use Rattle.answer.specs.Numbers.{allAtMost}
 use Rattle.board_builder.specs.declared.BoardBuilder.{BoardBuilder}
-use Rattle.board_builder.specs.BoardBuilder.{inRange, emptyBoard}
+use Rattle.board_builder.specs.BoardBuilder.{inRange, noBoard}
 use Rattle.action.specs.Layout.{actionSize}
 use Rattle.actions.specs.Part.{movesIn}
 use Rattle.position.specs.Layout.{Position}
@@ -20,18 +21,18 @@ use Rattle.game_rules.specs.Good.{Accepted, Good}
 use Rattle.game_rules.specs.Calls.{longEnough, logCheck, callAnswer, counts, resultAnswer, claimAnswer}
 use Rattle.game_rules.specs.Promises.{called, started}
 use Rattle.laws.specs.Ruling.{rulingAnswer, lawsAnswer}
-use Rattle.roll_text.specs.Promises.{Countable, rollWriter, rollReader, WrittenAgain}
+use Rattle.roll_text.specs.Promises.{Countable, anew, rollWriter, readerBy, rollReader, oldReader, WrittenAs, WrittenAgain}
 use Rattle.longer.specs.TwoLimits.{oldLimits, AllowsNoLess, within, roomAfter}
 
 -- ---- rolls read
 
--- a roll read under L into a part and under M into a part: the same answer (number, count and record), the same bytes of the counted actions; and in one
--- part of the larger size the same bytes left
-pub record ReadAlike (L M : Limits) (s mine theirs : List ℕ) : Type 0 where
-  pub answers : rollReader L .answer s (length mine) ≡ rollReader M .answer s (length theirs)
-  pub actions : take (actionSize * rollReader L .answer s (length mine) .actions) (rollReader L .part s mine)
-      ≡ take (actionSize * rollReader L .answer s (length mine) .actions) (rollReader M .part s theirs)
-  pub left : rollReader L .part s theirs ≡ rollReader M .part s theirs
+-- a roll, with counters or without, read under L into a part and under M into a part: the same answer (number, count and record), the same bytes of the
+-- counted actions; and in one part of the larger size the same bytes left
+pub record ReadAlike (counted : Bool) (L M : Limits) (s mine theirs : List ℕ) : Type 0 where
+  pub answers : readerBy counted L .answer s (length mine) ≡ readerBy counted M .answer s (length theirs)
+  pub actions : take (actionSize * readerBy counted L .answer s (length mine) .actions) (readerBy counted L .part s mine)
+      ≡ take (actionSize * readerBy counted L .answer s (length mine) .actions) (readerBy counted M .part s theirs)
+  pub left : readerBy counted L .part s theirs ≡ readerBy counted M .part s theirs
 
 -- the parts are as long as each program asks
 pub record PartsOf (L M : Limits) (mine theirs : List ℕ) : Type 0 where
@@ -41,41 +42,48 @@ pub record PartsOf (L M : Limits) (mine theirs : List ℕ) : Type 0 where
 -- whatever L does not refuse with 13 is read alike: what it accepts is accepted, what it refuses is refused with the same number
 abbrev pub ReadsAlike : Limits → Limits → Type 0
 ReadsAlike L M =
-    (s mine theirs : List ℕ) → allAtMost 255 s ≡ true → PartsOf L M mine theirs → (rollReader L .answer s (length mine) .number ≡ logFull → ⊥)
-    → ReadAlike L M s mine theirs
+    (counted : Bool) (s mine theirs : List ℕ) → allAtMost 255 s ≡ true → PartsOf L M mine theirs
+    → (readerBy counted L .answer s (length mine) .number ≡ logFull → ⊥) → ReadAlike counted L M s mine theirs
 
 -- so every roll that L accepts
 abbrev pub OldRollsReadAlike : Limits → Limits → Type 0
 OldRollsReadAlike L M =
-    (s mine theirs : List ℕ) → allAtMost 255 s ≡ true → PartsOf L M mine theirs → rollReader L .answer s (length mine) .number ≡ 0
-    → ReadAlike L M s mine theirs
+    (counted : Bool) (s mine theirs : List ℕ) → allAtMost 255 s ≡ true → PartsOf L M mine theirs → readerBy counted L .answer s (length mine) .number ≡ 0
+    → ReadAlike counted L M s mine theirs
 
--- .. and what M gives back of it is written by M to the same bytes
+-- .. and what M gives back of it is written by M to the same bytes, if the roll carries both counters ..
 abbrev pub OldRollsWrittenBack : Limits → Limits → Type 0
 OldRollsWrittenBack L M =
     (s mine theirs out : List ℕ) → allAtMost 255 s ≡ true → PartsOf L M mine theirs → rollReader L .answer s (length mine) .number ≡ 0
     → length s ≤ length out → WrittenAgain (rollWriter M) (rollReader M) s theirs out
 
--- 13 before anything is handed out: no actions, the empty record, and no byte of the part is changed
-pub record HandsOutNothing (L : Limits) (s mine : List ℕ) : Type 0 where
-  pub answer : rollReader L .answer s (length mine) ≡ record { number = logFull; actions = 0; board = emptyBoard }
-  pub unchanged : rollReader L .part s mine ≡ mine
+-- .. and with 0 and 1 put in, if it carries none
+abbrev pub OldRollsWrittenAnew : Limits → Limits → Type 0
+OldRollsWrittenAnew L M =
+    (s mine theirs out : List ℕ) → allAtMost 255 s ≡ true → PartsOf L M mine theirs → oldReader L .answer s (length mine) .number ≡ 0
+    → length (anew s) ≤ length out → WrittenAs (rollWriter M) (oldReader M) s (anew s) theirs out
+
+-- 13 before anything is handed out: no actions, a record of zeros, and no byte of the part is changed
+pub record HandsOutNothing (counted : Bool) (L : Limits) (s mine : List ℕ) : Type 0 where
+  pub answer : readerBy counted L .answer s (length mine) ≡ record { number = logFull; actions = 0; board = noBoard }
+  pub unchanged : readerBy counted L .part s mine ≡ mine
 
 -- the count and the moves that a roll read under M has are within L, or not
-abbrev pub withinOf : Limits → Limits → List ℕ → List ℕ → Bool
-withinOf L M s theirs =
-    within L (rollReader M .answer s (length theirs) .actions) (movesIn (rollReader M .part s theirs) (rollReader M .answer s (length theirs) .actions))
+abbrev pub withinOf : Bool → Limits → Limits → List ℕ → List ℕ → Bool
+withinOf counted L M s theirs =
+    within L (readerBy counted M .answer s (length theirs) .actions)
+    (movesIn (readerBy counted M .part s theirs) (readerBy counted M .answer s (length theirs) .actions))
 
 -- a roll that M accepts is refused by L with 13 if it has more actions or moves, and is read alike if not
 abbrev pub LongerRollsAre13 : Limits → Limits → Type 0
 LongerRollsAre13 L M =
-    (s mine theirs : List ℕ) → allAtMost 255 s ≡ true → actionsLength L ≤ length mine → rollReader M .answer s (length theirs) .number ≡ 0
-    → withinOf L M s theirs ≡ false → HandsOutNothing L s mine
+    (counted : Bool) (s mine theirs : List ℕ) → allAtMost 255 s ≡ true → actionsLength L ≤ length mine
+    → readerBy counted M .answer s (length theirs) .number ≡ 0 → withinOf counted L M s theirs ≡ false → HandsOutNothing counted L s mine
 
 abbrev pub OtherRollsReadAlike : Limits → Limits → Type 0
 OtherRollsReadAlike L M =
-    (s mine theirs : List ℕ) → allAtMost 255 s ≡ true → actionsLength L ≤ length mine → rollReader M .answer s (length theirs) .number ≡ 0
-    → withinOf L M s theirs ≡ true → ReadAlike L M s mine theirs
+    (counted : Bool) (s mine theirs : List ℕ) → allAtMost 255 s ≡ true → actionsLength L ≤ length mine
+    → readerBy counted M .answer s (length theirs) .number ≡ 0 → withinOf counted L M s theirs ≡ true → ReadAlike counted L M s mine theirs
 
 -- ---- rolls written
 
@@ -140,6 +148,7 @@ pub record BothAlike (L M : Limits) : Type 0 where
   pub reads : ReadsAlike L M
   pub old-rolls : OldRollsReadAlike L M
   pub written-back : OldRollsWrittenBack L M
+  pub written-anew : OldRollsWrittenAnew L M
   pub longer-rolls : LongerRollsAre13 L M
   pub other-rolls : Countable L → OtherRollsReadAlike L M
   pub writes : WritesAlike L M
