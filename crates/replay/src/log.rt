@@ -1,13 +1,16 @@
 // The lines of a script that play the game log: its calls and queries, and what is set up for them.
 use crate::part;
+use crate::run::Given;
 use crate::run::Run;
 use crate::run::bad_line;
 use crate::run::called;
+use crate::run::moved_to;
 use crate::run::put;
 use crate::run::put_answer;
 use crate::run::put_number;
 use crate::run::read_position;
 use crate::run::unpoked;
+use crate::run::with_number;
 use crate::text;
 use action::ACTION_SIZE;
 use game_rules::MAX_ACTIONS;
@@ -16,44 +19,39 @@ use laws::Ruled;
 use position::POSITION_SIZE;
 
 fn start(line: &[u8], acts: &[u8], ps: &mut [u8], list: &mut [u16], run: Run) -> Run {
-    let g = read_position(line, 1, list, run);
+    let g = read_position(line, 1, list);
     let next = unpoked(run);
     if !g.is_read {
         return bad_line(next);
     }
     let listed = g.listed;
-    let board = g.board;
+    let board = with_number(g.board, run.poked, run.poke);
     called(
         next,
         game::start(acts, ps, board, g.in_check, &list[..listed]),
     )
 }
 
+fn move_to(acts: &mut [u8], ps: &mut [u8], list: &[u16], run: Run, m: u64, g: Given) -> Run {
+    let in_check = g.in_check;
+    let board = moved_to(g, ps, run, m);
+    called(
+        unpoked(run),
+        game::make_move(acts, ps, run.actions, run.moves, m, board, in_check, list),
+    )
+}
+
 fn make_move(line: &[u8], acts: &mut [u8], ps: &mut [u8], list: &mut [u16], run: Run) -> Run {
     let x = text::read_number(text::word(line, 1));
-    let g = read_position(line, 2, list, run);
-    let next = unpoked(run);
+    let g = read_position(line, 2, list);
     if !x.is_read {
-        return bad_line(next);
+        return bad_line(unpoked(run));
     }
     if !g.is_read {
-        return bad_line(next);
+        return bad_line(unpoked(run));
     }
     let listed = g.listed;
-    let board = g.board;
-    called(
-        next,
-        game::make_move(
-            acts,
-            ps,
-            run.actions,
-            run.moves,
-            x.value,
-            board,
-            g.in_check,
-            &list[..listed],
-        ),
-    )
+    move_to(acts, ps, &list[..listed], run, x.value, g)
 }
 
 fn offer_draw(line: &[u8], acts: &mut [u8], ps: &[u8], run: Run) -> Run {
@@ -149,16 +147,19 @@ fn lend(line: &[u8], run: Run) -> Run {
 
 fn poke(line: &[u8], run: Run) -> Run {
     let at = text::read_byte(text::word(line, 1));
-    let value = text::read_byte(text::word(line, 2));
+    let value = text::read_number(text::word(line, 2));
     if !at.is_read {
         return bad_line(run);
     }
     if !value.is_read {
         return bad_line(run);
     }
+    if 65_535 < value.value {
+        return bad_line(run);
+    }
     let mut next = run;
     next.poked = at.value as usize;
-    next.poke = value.value;
+    next.poke = value.value as u16;
     next
 }
 

@@ -2,13 +2,15 @@
 //   # TEXT                  printed as it is
 // Texts:
 //   F TEXT                  reads a FEN: its number, and the key of the board that was read or the place of what is wrong
+//   G TEXT                  the same with its counters: its number, and the full FEN of the board that was read or the place of what is wrong
+//   A MOVE FEN              the board after a move: its number, and its full FEN
 //   C TEXT                  reads a move in coordinates: its number, and its value and the move written again or the place of what is wrong
 //   p CHECK LIST FEN        the position that S and N are asked about; LIST is moves joined by `,`, or `-` for none
 //   S TEXT                  reads a move in SAN: number and value
 //   N MOVE                  names a move: number and value, and the name
 // One game log:
 //   s CHECK LIST FEN        start
-//   m MOVE CHECK LIST FEN   make_move; the position after it
+//   m MOVE CHECK LIST FEN   make_move; the position after it, with the counters that the move gives if the FEN has none
 //   o C, r C, a, d          offer_draw and resign by a colour, accept_draw, declare_draw
 //   ?                       result and can_declare_draw: two answers, each a number and a value
 //   L                       can_claim_by_laws, a number and a value, and the eight numbers of the ruling
@@ -17,7 +19,7 @@
 //   b a|p OFFSET VALUE      sets a byte of the actions or the positions
 //   l A P                   how many bytes of each part the calls are lent from now on
 //   f VALUE                 fills both parts past what the counts say is used
-//   k AT VALUE              sets one of the 68 numbers of the next board, so that it need not be one that a FEN can say
+//   k AT VALUE              sets one of the 70 numbers of the next board, so that it need not be one that a FEN can say
 // A call prints its number and its counts, and the next call is given these counts. A line that is not understood prints `bad line`.
 mod input;
 mod log;
@@ -27,7 +29,6 @@ mod text;
 mod texts;
 
 use board_builder::BoardBuilder;
-use board_builder::RECORD_SIZE;
 use game_rules::ACTIONS_LENGTH;
 use game_rules::POSITIONS_LENGTH;
 use input::Input;
@@ -71,7 +72,7 @@ fn first_run() -> Run {
         moves: 0,
         actions_lent: ACTIONS_LENGTH as u64,
         positions_lent: POSITIONS_LENGTH as u64,
-        poked: RECORD_SIZE,
+        poked: run::NOT_POKED,
         poke: 0,
         board: BoardBuilder::new(),
         listed: 0,

@@ -100,7 +100,8 @@ pub(crate) fn letter(line: &[u8]) -> u8 {
 pub(crate) fn has_its_words(line: &[u8]) -> bool {
     let n = spaces(line);
     match letter(line) {
-        b'F' | b'C' | b'S' => 1 <= n,
+        b'F' | b'G' | b'C' | b'S' => 1 <= n,
+        b'A' => 2 <= n,
         b'a' | b'd' | b'?' | b'L' | b't' => n == 0,
         b'o' | b'r' | b'f' | b'N' => n == 1,
         b'c' | b'l' | b'k' => n == 2,
@@ -114,7 +115,7 @@ pub(crate) fn has_its_words(line: &[u8]) -> bool {
 // Whether the line is one about texts.
 pub(crate) fn is_text(line: &[u8]) -> bool {
     match letter(line) {
-        b'F' | b'C' | b'p' | b'S' | b'N' => true,
+        b'F' | b'G' | b'A' | b'C' | b'p' | b'S' | b'N' => true,
         _ => false,
     }
 }

@@ -1,7 +1,7 @@
 -- `make_move` of log.rt is safe and ends.
 use borrow.Author.Needs.{needs}
-use mathlib.Core.Path.{sym}
 use lib.Seq.{length-take-le}
+use mathlib.Core.Path.{sym}
 use Rattle.replay.proofs.log.make_move.Statement.{statement}
 use Rattle.replay.proofs.log.make_move.Tie as tie
 
@@ -26,6 +26,9 @@ same-length c = search needs
 returns : tie.Need-returns
 returns c = search needs
 
+unpoked-requires-2 : tie.Need-unpoked-requires-2
+unpoked-requires-2 c κs = search needs
+
 bad-line-requires-2 : tie.Need-bad-line-requires-2
 bad-line-requires-2 c κs = search needs
 
@@ -35,17 +38,14 @@ same-length-2 c = search needs
 returns-2 : tie.Need-returns-2
 returns-2 c = search needs
 
-slice-reshare-prefix-make-move : tie.Need-slice-reshare-prefix-make-move
-slice-reshare-prefix-make-move c = search needs
+slice-reshare-prefix-move-to : tie.Need-slice-reshare-prefix-move-to
+slice-reshare-prefix-move-to c = search needs
 
-slice-aggregate-make-move : tie.Need-slice-aggregate-make-move
-slice-aggregate-make-move c = sym (length-take-le _ _ (search needs))
+slice-aggregate-move-to : tie.Need-slice-aggregate-move-to
+slice-aggregate-move-to c = sym (length-take-le _ _ (search needs))
 
-make-move-requires : tie.Need-make-move-requires
-make-move-requires c κs = search needs
-
-called-requires : tie.Need-called-requires
-called-requires c κs = search needs
+move-to-requires : tie.Need-move-to-requires
+move-to-requires c κs = search needs
 
 same-length-3 : tie.Need-same-length-3
 same-length-3 c = search needs
@@ -70,13 +70,13 @@ make-move-spec =
     bad-line-requires
     same-length
     returns
+    unpoked-requires-2
     bad-line-requires-2
     same-length-2
     returns-2
-    slice-reshare-prefix-make-move
-    slice-aggregate-make-move
-    make-move-requires
-    called-requires
+    slice-reshare-prefix-move-to
+    slice-aggregate-move-to
+    move-to-requires
     same-length-3
     same-length-4
     same-length-5

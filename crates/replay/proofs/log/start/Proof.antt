@@ -1,7 +1,7 @@
 -- `start` of log.rt is safe and ends.
 use borrow.Author.Needs.{needs}
-use mathlib.Core.Path.{sym}
 use lib.Seq.{length-take-le}
+use mathlib.Core.Path.{sym}
 use Rattle.replay.proofs.log.start.Statement.{statement}
 use Rattle.replay.proofs.log.start.Tie as tie
 
@@ -19,6 +19,9 @@ same-length c = search needs
 
 returns : tie.Need-returns
 returns c = search needs
+
+with-number-requires : tie.Need-with-number-requires
+with-number-requires c κs = search needs
 
 slice-reshare-prefix-start : tie.Need-slice-reshare-prefix-start
 slice-reshare-prefix-start c = search needs
@@ -50,6 +53,7 @@ start-spec =
     bad-line-requires
     same-length
     returns
+    with-number-requires
     slice-reshare-prefix-start
     slice-aggregate-start
     start-requires
