@@ -1,9 +1,9 @@
 /* The host's side of target/staticlib/libmenkhodur.a, for C (from C99) and C++ (from C++11).
  *
  * Numbers, records, moves, logs and texts are those of docs/papers/01-scope.md ("document 01"), rolls, the refusals of FEN texts, the
- * offsets in texts, the ruling of the Laws, the standard's form of SAN, pages of FENs, PGN move text, the board after a move and what differs between
- * two rolls those of docs/papers/02-change-requests.md ("document 02"); the names and the order of the parameters are those of
- * docs/papers/HOST-ABI.md. tools/abi compares them, and the constants below, with the crates.
+ * offsets in texts, the ruling of the Laws, the standard's form of SAN, pages of FENs, PGN move text, the board after a move, what differs between
+ * two rolls and the counters of a FEN those of docs/papers/02-change-requests.md ("document 02"); the names and the order of the parameters are
+ * those of docs/papers/HOST-ABI.md. tools/abi compares them, and the constants below, with the crates.
  *
  * What every function does: it answers for every value of its numbers, it ends, it keeps nothing between calls and allocates
  * nothing, and it reads and writes only what it was lent. A refused call (a number other than 0) changes no lent byte.
@@ -32,7 +32,7 @@
 
 /* Rises by one with each landing that adds or changes a function. CHANGELOG.md tells what a host must change, and a struct that has
  * changed says beside it since which version it is so. */
-#define MENKHODUR_VERSION 11
+#define MENKHODUR_VERSION 12
 
 #ifdef __cplusplus
 extern "C" {
@@ -63,7 +63,8 @@ enum {
     MENKHODUR_LEFT_OPEN = 21,       /* in PGN move text: a comment or bracket left open */
     MENKHODUR_TOO_DEEP = 22,        /* in PGN move text: brackets deeper than 8, or a place that is */
     MENKHODUR_UNKNOWN_TOKEN = 23,   /* in PGN move text: also a result in brackets, a stray closing bracket, an offset past the text */
-    MENKHODUR_WRONG_RECORD = 24     /* a logged move came with another record than menkhodur_board_after gives */
+    MENKHODUR_WRONG_RECORD = 24,    /* a logged move came with another record than menkhodur_board_after gives */
+    MENKHODUR_BAD_COUNTER = 25      /* in a FEN text, menkhodur_fen_read_full only: a fifth or sixth token that is no counter */
 };
 
 /* Results of a game: the order of `GameResult`, 0 for none. */
@@ -92,6 +93,7 @@ enum {
     MENKHODUR_MAX_MOVES = 4096,
     MENKHODUR_LONGEST_LIST = 255,
     MENKHODUR_LAST_MOVE = 28671,
+    MENKHODUR_LAST_COUNT = 9999, /* the largest that either counter of a record may be */
     MENKHODUR_CLAIM_COUNT = 100, /* moves of either side, fifty of each, from which on a count lets a draw be claimed */
     MENKHODUR_DEEPEST_LEVEL = 8  /* of variations in PGN move text */
 };
@@ -163,27 +165,31 @@ enum {
 };
 
 /* Bytes of the log. Action i lies from byte 4 * i of its part on: its kind, a colour, and a move of two bytes, low byte first; fields
- * that its kind does not use are 0. Position k, the start for 0 and else the one after k moves, lies from byte 580 * k of its part on:
- * the record in the order of menkhodur_board, an in-check byte 0 or 1, the length of its list, and 255 moves of two bytes, low byte first,
- * unused ones 0. The two parts that are lent may be longer than the lengths here. */
+ * that its kind does not use are 0. Position k, the start for 0 and else the one after k moves, lies from byte 584 * k of its part on:
+ * the record in the order of menkhodur_board, each of its two counters in two bytes, low byte first (since version 12), an in-check byte 0 or
+ * 1, the length of its list, and 255 moves of two bytes, low byte first, unused ones 0. The two parts that are lent may be longer than the
+ * lengths here. */
 enum {
     MENKHODUR_ACTION_SIZE = 4,
     MENKHODUR_ACTION_KIND = 0,
     MENKHODUR_ACTION_COLOUR = 1,        /* of an offer or a resignation */
     MENKHODUR_ACTION_MOVE = 2,          /* of a move */
-    MENKHODUR_POSITION_SIZE = 580,
+    MENKHODUR_POSITION_SIZE = 584,
     MENKHODUR_POSITION_RECORD = 0,
-    MENKHODUR_POSITION_IN_CHECK = 68,
-    MENKHODUR_POSITION_ENTRIES = 69,
-    MENKHODUR_POSITION_MOVES = 70,
+    MENKHODUR_POSITION_HALF_MOVES = 68,
+    MENKHODUR_POSITION_FULL_MOVES = 70,
+    MENKHODUR_POSITION_IN_CHECK = 72,
+    MENKHODUR_POSITION_ENTRIES = 73,
+    MENKHODUR_POSITION_MOVES = 74,
     MENKHODUR_ACTIONS_LENGTH = 32768,    /* 8,192 actions */
-    MENKHODUR_POSITIONS_LENGTH = 2376260 /* 4,097 positions */
+    MENKHODUR_POSITIONS_LENGTH = 2392648 /* 4,097 positions */
 };
 
 /* Bytes of texts. No text ends in a 0 byte: its length is the answer's value. A coordinate text has 4 bytes, or 5 with a promotion. */
 enum {
     MENKHODUR_SHORTEST_FEN = 25,
     MENKHODUR_LONGEST_FEN = 85,
+    MENKHODUR_LONGEST_FULL_FEN = 91,     /* of menkhodur_fen_write_full; its shortest has MENKHODUR_SHORTEST_FEN bytes too */
     MENKHODUR_SHORTEST_NAME = 2,
     MENKHODUR_LONGEST_NAME = 11,
     MENKHODUR_LONGEST_STANDARD_NAME = 8, /* of menkhodur_san_name_standard; its shortest has MENKHODUR_SHORTEST_NAME bytes too */
@@ -191,29 +197,35 @@ enum {
     MENKHODUR_LONGEST_COORDINATE = 5
 };
 
-/* Bytes of the longest roll: 68 numbers of one byte, a count of two, 4,096 moves of four and 4,096 other actions of one. */
+/* Bytes of the longest roll: 68 numbers of one byte, two counters and a count of two, 4,096 moves of four and 4,096 other actions of one. */
 enum {
-    MENKHODUR_LONGEST_ROLL = 20550
+    MENKHODUR_LONGEST_ROLL = 20554
 };
 
 /* Bytes of the longest text that menkhodur_roll_differences writes: a room of so many is never too short. */
 enum {
-    MENKHODUR_MAX_DIFFERENCES = 628
+    MENKHODUR_MAX_DIFFERENCES = 658
 };
 
 /* What a page of FENs takes of its two rooms for each line. */
 enum {
-    MENKHODUR_PAGE_RECORD = 68, /* bytes: a record, in the order of menkhodur_board */
+    MENKHODUR_PAGE_RECORD = 68, /* bytes: a record without its counters, in the order of menkhodur_board */
     MENKHODUR_PAGE_NUMBERS = 2  /* the answer's number, then its offset */
 };
 
-/* The board record: 68 numbers in document 01's order. A square is a rank of 0 to 7 times 8 plus a file of 0 to 7, a1 = 0. */
+/* The board record: 68 numbers in document 01's order, which are what a key names, what a page holds and what repetition compares, and the
+ * two counters of a FEN: 70 numbers, 72 bytes, aligned to 2. A square is a rank of 0 to 7 times 8 plus a file of 0 to 7, a1 = 0. Since
+ * version 12 the counters are there, and a record of zeros is not in range: set `full_moves` to 1. The structs that hold a board are as
+ * large as before, so a program that was compiled with an older header links and hands over whatever lies behind its 68 bytes: only
+ * menkhodur_version() tells. */
 typedef struct {
     uint8_t pieces[64];          /* men: 0 empty, 1..6 white pawn knight bishop rook queen king, 7..12 black */
     uint8_t side_to_move;        /* 0 white, 1 black */
     uint8_t white_castle_rights; /* 0..3: 1 king side, 2 queen side, 3 both */
     uint8_t black_castle_rights; /* 0..3 */
     uint8_t en_passant;          /* 0 none, 1..8 files a..h */
+    uint16_t half_moves;         /* 0..9,999: since the last capture or pawn move */
+    uint16_t full_moves;         /* 1..9,999: the number of the move, from 1 on, one more after each move by black */
 } menkhodur_board;
 
 /* `value` is the answer with number 0, the length needed with number 7, and 0 with every other number. For a page it is the
@@ -260,13 +272,14 @@ typedef struct {
 #define MENKHODUR_ASSERT(fact, text) _Static_assert(fact, text)
 #endif
 #ifdef MENKHODUR_ASSERT
-MENKHODUR_ASSERT(sizeof(menkhodur_board) == 68, "a board record has 68 bytes");
+MENKHODUR_ASSERT(sizeof(menkhodur_board) == 72, "68 numbers of one byte and two counters");
+MENKHODUR_ASSERT(offsetof(menkhodur_board, half_moves) == 68 && offsetof(menkhodur_board, full_moves) == 70, "the counters are last");
 MENKHODUR_ASSERT(sizeof(menkhodur_answer) == 16, "a number and a value");
 MENKHODUR_ASSERT(sizeof(menkhodur_placed) == 24, "a number, a value and an offset");
-MENKHODUR_ASSERT(offsetof(menkhodur_stepped, board) == 8 && sizeof(menkhodur_stepped) == 80, "a number and a board, filled up to 8 bytes");
-MENKHODUR_ASSERT(offsetof(menkhodur_fen, board) == 16 && sizeof(menkhodur_fen) == 88, "two numbers and a board, filled up to 8 bytes");
+MENKHODUR_ASSERT(offsetof(menkhodur_stepped, board) == 8 && sizeof(menkhodur_stepped) == 80, "a number and a board");
+MENKHODUR_ASSERT(offsetof(menkhodur_fen, board) == 16 && sizeof(menkhodur_fen) == 88, "two numbers and a board");
 MENKHODUR_ASSERT(sizeof(menkhodur_counts) == 24, "a number and two counts");
-MENKHODUR_ASSERT(offsetof(menkhodur_roll, board) == 16 && sizeof(menkhodur_roll) == 88, "two numbers and a board, filled up to 8 bytes");
+MENKHODUR_ASSERT(offsetof(menkhodur_roll, board) == 16 && sizeof(menkhodur_roll) == 88, "two numbers and a board");
 MENKHODUR_ASSERT(sizeof(menkhodur_ruling) == 64, "eight numbers");
 MENKHODUR_ASSERT(sizeof(menkhodur_pgn_count) == 24, "three numbers");
 MENKHODUR_ASSERT(sizeof(menkhodur_pgn_move) == 48, "six numbers");
@@ -295,8 +308,8 @@ menkhodur_answer menkhodur_rights_remove(uint8_t rights, uint8_t removed);
 menkhodur_answer menkhodur_square_rights(uint8_t colour, uint8_t square);
 
 /* ---- The board record --------------------------------------------------------------------------------------------------------- */
-/* Each of the first five, a step, answers 0 with the record in which one number is set, or 5 with the record exactly as given: if one of the
- * record's own 68 numbers is out of range, or a parameter is. */
+/* Each of the first seven, a step, answers 0 with the record in which one number is set, or 5 with the record exactly as given: if one of the
+ * record's own 70 numbers is out of range, or a parameter is. All other numbers, the counters too, stay. */
 
 /* Sets a square to the code of a man. 5 also: square over 63; code 0 or over 12 (menkhodur_clear_square empties a square). */
 menkhodur_stepped menkhodur_piece(menkhodur_board b, uint8_t square, uint8_t code);
@@ -313,6 +326,12 @@ menkhodur_stepped menkhodur_castle_rights(menkhodur_board b, uint8_t colour, uin
 /* Sets the en passant file 1 to 8, or clears it with 0. 5 also: file over 8. */
 menkhodur_stepped menkhodur_en_passant(menkhodur_board b, uint8_t file);
 
+/* Sets the half-move clock (document 02, order 12), of any 64-bit value, which is never cut. 5 also: over 9,999. */
+menkhodur_stepped menkhodur_half_moves(menkhodur_board b, uint64_t half_moves);
+
+/* Sets the move number, likewise. 5 also: 0 or over 9,999. No relation between the two counters is asked. */
+menkhodur_stepped menkhodur_full_moves(menkhodur_board b, uint64_t full_moves);
+
 /* The board after a move (document 02, order 9): what menkhodur_game_make_move asks for. 0: the record after it. For a legal move that is the
  * original's; for any other the same rule runs as written, and whether a move is legal is not asked:
  *   - The man of the source is set down, last, on the destination; with a promotion that piece of his colour is, whatever man he is. The
@@ -323,22 +342,37 @@ menkhodur_stepped menkhodur_en_passant(menkhodur_board b, uint8_t file);
  *   - The other side is to move.
  *   - The en passant file is that of a pawn that goes two ranks on one file and arrives beside a pawn of the other colour than its own; else
  *     it is 0.
+ *   - The half-move clock is 0 if a pawn stands on the source or the destination is occupied, else one more; the move number is one more if
+ *     black is to move in the record, whoever moves. Either stops at 9,999 (since version 12).
  * Refused, with the record exactly as given: 5: a record number out of range; 6: a move over 28,671, at any size. */
 menkhodur_stepped menkhodur_board_after(menkhodur_board b, uint64_t move);
 
 /* ---- FEN ---------------------------------------------------------------------------------------------------------------------- */
 
-/* Reads a FEN text, which is split at each single space, so that empty tokens count. 0: the board is what the text says, and the offset
- * is 0. Refused, in this order, with a board of 68 zeros: 18: there are fewer than four tokens; the offset is the text's length. 19: a
+/* Reads a FEN text, which is split at each single space, so that empty tokens count. 0: the board is what the first four tokens say, with
+ * the counters 0 and 1 whatever stands behind them, and the offset is 0. Refused, in this order, with a board of zeros, the move number
+ * too, which no call takes: 18: there are fewer than four tokens; the offset is the text's length. 19: a
  * byte of the first token, the placement, is none of `/12345678PNBRQKpnbrqk`; the offset is the place of the first such byte. 20: the
  * second token, the side to move, is not `w`, `W`, `b` or `B`; the offset is the place where it starts, one past the first space. The
  * text is left alone. */
 menkhodur_fen menkhodur_fen_read(const uint8_t *text, size_t length);
 
-/* 0: the record's one FEN, 25 to 85 bytes, is at the front of `out`, and the value is its length; the bytes of `out` behind it are
- * left alone. Refused, in this order: 5: a record number out of range; 7: `room` is shorter than the text, whose length is the value.
+/* 0: the record's one FEN without its counters, 25 to 85 bytes, is at the front of `out`, and the value is its length; the bytes of `out`
+ * behind it are left alone. It ends in ` 0 1` whatever the counters are: it is the key, and two records have one key exactly if they have the
+ * same 68 numbers before the counters. Refused, in this order: 5: a record number out of range; 7: `room` is shorter than the text, whose length is the value.
  * A refused call leaves all of `out` alone. */
 menkhodur_answer menkhodur_fen_write(menkhodur_board b, uint8_t *out, size_t room);
+
+/* Reads a FEN text with its two counters (document 02, order 12): the first four tokens as menkhodur_fen_read does, then the fifth as the
+ * half-move clock and the sixth as the move number, each one to four digits, the move number not 0; tokens behind the sixth are ignored.
+ * Refused, in this order, with a board of zeros: 18, 19, 20 as there; 25: the fifth token, and then the sixth, is not there (the offset is
+ * the text's length), or is not one to four digits, or is a move number of 0 (the offset is the place where it starts). The text is left
+ * alone. */
+menkhodur_fen menkhodur_fen_read_full(const uint8_t *text, size_t length);
+
+/* Writes the record's one FEN with its own counters, 25 to 91 bytes, which menkhodur_fen_read_full reads back to exactly that record; all
+ * else as menkhodur_fen_write. */
+menkhodur_answer menkhodur_fen_write_full(menkhodur_board b, uint8_t *out, size_t room);
 
 /* Reads a page of FEN texts, one per line: each as menkhodur_fen_read reads it by itself. A newline byte (10) ends a line and
  * belongs to none; a last line without one counts if it has a byte in it, so that an empty text has no line and a newline alone
@@ -402,21 +436,21 @@ menkhodur_answer menkhodur_san_read_standard(menkhodur_board b, const uint16_t *
 menkhodur_answer menkhodur_san_name_standard(menkhodur_board b, const uint16_t *list, size_t entries, uint64_t move, uint8_t *out, size_t room);
 
 /* ---- The game log ------------------------------------------------------------------------------------------------------------- */
-/* A log lies in two lent parts, actions and positions, of at least 32,768 and 2,376,260 bytes, and its two counts travel by value: hand
+/* A log lies in two lent parts, actions and positions, of at least 32,768 and 2,392,648 bytes, and its two counts travel by value: hand
  * each call the counts that the one before returned. Bytes past the used actions and positions are not looked at. In every call
  *     16  one of the parts is shorter than that;
  *      9  the log is not good (no sequence of accepted calls from a start makes it; since version 9, then, every move came with the record
  *         that menkhodur_board_after gives), or a count is over its limit, at any size;
  *     10  (not in a query) the game is over
  * stand before the call's own numbers, in this order. An accepted call writes the 4 bytes of its action behind the used ones, a move
- * also the 580 bytes of its position, and returns the counts after it. A refused call writes nothing and returns the counts as given.
+ * also the 584 bytes of its position, and returns the counts after it. A refused call writes nothing and returns the counts as given.
  * A position is a record, an in-check byte 0 or 1 and the list of its moves, which is copied into the log. Two positions are
- * equal if their records are, and their lists too, in the same order. A host that sorts must sort every list of a game alike, its
+ * equal if their records are but for the counters, and their lists too, in the same order. A host that sorts must sort every list of a game alike, its
  * start's too: or else a position that came before is not recognised, and a claim by equal positions does not stand
  * (menkhodur_game_can_declare_draw, menkhodur_game_can_claim_by_laws, menkhodur_game_declare_draw, and `equals` of
  * menkhodur_game_ruling). Nothing else depends on it. */
 
-/* Begins a log with a position, which is written over the first 580 bytes of `positions`. The counts are 0 and 0, accepted or
+/* Begins a log with a position, which is written over the first 584 bytes of `positions`. The counts are 0 and 0, accepted or
  * refused. Of `actions` only the length is looked at: it is never read or written. Refused, in this order: 16; 5: a record number or
  * the in-check byte out of range; 6: more than 255 entries, or an entry over 28,671. */
 menkhodur_counts menkhodur_game_start(uint8_t *actions, size_t actions_length, uint8_t *positions, size_t positions_length,
@@ -474,14 +508,16 @@ menkhodur_ruling menkhodur_game_ruling(const uint8_t *actions, size_t actions_le
                                        uint64_t action_count, uint64_t move_count);
 
 /* ---- Rolls -------------------------------------------------------------------------------------------------------------------- */
-/* A roll is a game without its positions, for a store (document 02, order 1): the 68 numbers of the start's record in the order of
+/* A roll is a game without its positions, for a store (document 02, orders 1 and 12): the 70 numbers of the start's record in the order of
  * menkhodur_board, the count of the actions, then for each action its kind * 2 + its colour and, for a move, the move's number. Every
  * number is written in groups of seven bits, a byte each, the lowest group first, the top bit set on all but the last, in the fewest
- * groups. So a roll has 69 to 20,550 bytes, and a code of an action is 2 for a move, 4 or 5 for an offer by white or black, 6 for an
+ * groups. So a roll has 71 to 20,554 bytes, and a code of an action is 2 for a move, 4 or 5 for an offer by white or black, 6 for an
  * accepted draw, 8 for a declared one, 10 or 11 for a resignation. One start with one list of actions has one roll, and every roll that
  * is read is written back as it came.
  * The actions lie in a part as a log has them, of at least 32,768 bytes. Only bounds are judged: whether the actions make a game, only a
- * log with its positions can tell. */
+ * log with its positions can tell.
+ * Until version 11 a roll had no counters: such an old roll is read by menkhodur_roll_read_old. A byte string can be both (the smallest has
+ * 71 bytes: 68 zeros, then 1, 2, 0), with two meanings, so never try one call after the other: a store must know which kind it keeps. */
 
 /* Writes the roll of a start and of the first `action_count` actions. 0: it is at the front of `out`, and the value is its length; the
  * bytes of `out` behind it are left alone. Refused, in this order, with all of `out` left alone: 16: `actions` is shorter than 32,768
@@ -493,16 +529,20 @@ menkhodur_answer menkhodur_roll_write(menkhodur_board b, const uint8_t *actions,
                                       uint8_t *out, size_t room);
 
 /* Reads a roll. 0: the board is the start, the answer's `actions` is the count, and that many actions of 4 bytes are at the front of the
- * part; the bytes of the part behind them are left alone. Refused, with all of the part left alone, a count of 0 and a board of 68 zeros:
+ * part; the bytes of the part behind them are left alone. Refused, with all of the part left alone, a count of 0 and a board of zeros:
  * 16: the part is shorter than 32,768 bytes; then whichever comes first from the left: 5: a record number out of range; 13: a count over
  * 8,192, or the code of a 4,097th move; 17: the roll ends too early, or goes on behind its last action; a number is not in the fewest
  * groups, or has more than five, before its size is judged; a code is no action's; a move's number is over 28,671. The roll is left
  * alone. */
 menkhodur_roll menkhodur_roll_read(const uint8_t *roll, size_t length, uint8_t *actions, size_t actions_length);
 
+/* Reads an old roll, one without counters, in which the count stands behind the 68 numbers: the start has the counters 0 and 1. All else as
+ * menkhodur_roll_read. Written by menkhodur_roll_write, what it gives is the old roll with the bytes 0 and 1 put in behind its 68th. */
+menkhodur_roll menkhodur_roll_read_old(const uint8_t *roll, size_t length, uint8_t *actions, size_t actions_length);
+
 /* What differs between two games (document 02, order 10). 0: the text is at the front of `out`, and the value is its length, 0 exactly if
  * the two rolls are equal, byte for byte; the bytes of `out` behind it are left alone. It has a line for each number of the start that
- * differs, in this order: the squares, keyed by number, `side`, `white`, `black`, `ep`; then one for the first action that differs, keyed
+ * differs, in this order: the squares, keyed by number, `side`, `white`, `black`, `ep`, `half`, `full`; then one for the first action that differs, keyed
  * `action` and its index from 0. A line is its key, the first and the second game's number, in decimal with single spaces between, and a
  * newline byte: `28 1 0`. An action's number is 0 if there is none, else its code in a roll + 16 * its move. Refused, with all of `out` left
  * alone: the numbers of menkhodur_roll_read, first roll first, but for 16, for no part is lent; then 7: `room` is shorter than the text, whose

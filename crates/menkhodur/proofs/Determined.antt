@@ -23,14 +23,22 @@ use Rattle.menkhodur.proofs.menkhodur_castle_rights.Reads as menkhodur-
 use Rattle.menkhodur.proofs.menkhodur_castle_rights.Kinds as menkhodur-castle-rights·k
 use Rattle.menkhodur.proofs.menkhodur_en_passant.Reads as menkhodur-en-passant
 use Rattle.menkhodur.proofs.menkhodur_en_passant.Kinds as menkhodur-en-passant·k
+use Rattle.menkhodur.proofs.menkhodur_half_moves.Reads as menkhodur-half-moves
+use Rattle.menkhodur.proofs.menkhodur_half_moves.Kinds as menkhodur-half-moves·k
+use Rattle.menkhodur.proofs.menkhodur_full_moves.Reads as menkhodur-full-moves
+use Rattle.menkhodur.proofs.menkhodur_full_moves.Kinds as menkhodur-full-moves·k
 use Rattle.menkhodur.proofs.menkhodur_board_after.Reads as menkhodur-board-after
 use Rattle.menkhodur.proofs.menkhodur_board_after.Kinds as menkhodur-board-after·k
 use Rattle.menkhodur.proofs.menkhodur_fen_read.Reads as menkhodur-fen-read
 use Rattle.menkhodur.proofs.menkhodur_fen_read.Kinds as menkhodur-fen-read·k
+use Rattle.menkhodur.proofs.menkhodur_fen_read_full.Reads as menkhodur-fen-read-full
+use Rattle.menkhodur.proofs.menkhodur_fen_read_full.Kinds as menkhodur-fen-read-full·k
 use Rattle.menkhodur.proofs.menkhodur_fen_page.Reads as menkhodur-fen-page
 use Rattle.menkhodur.proofs.menkhodur_fen_page.Kinds as menkhodur-fen-page·k
 use Rattle.menkhodur.proofs.menkhodur_fen_write.Reads as menkhodur-fen-write
 use Rattle.menkhodur.proofs.menkhodur_fen_write.Kinds as menkhodur-fen-write·k
+use Rattle.menkhodur.proofs.menkhodur_fen_write_full.Reads as menkhodur-fen-write-full
+use Rattle.menkhodur.proofs.menkhodur_fen_write_full.Kinds as menkhodur-fen-write-full·k
 use Rattle.menkhodur.proofs.menkhodur_move_read.Reads as menkhodur-move-read
 use Rattle.menkhodur.proofs.menkhodur_move_read.Kinds as menkhodur-move-read·k
 use Rattle.menkhodur.proofs.menkhodur_move_write.Reads as menkhodur-move-write
@@ -67,6 +75,8 @@ use Rattle.menkhodur.proofs.menkhodur_roll_write.Reads as menkhodur-rol
 use Rattle.menkhodur.proofs.menkhodur_roll_write.Kinds as menkhodur-roll-write·k
 use Rattle.menkhodur.proofs.menkhodur_roll_read.Reads as menkhodur-roll-read
 use Rattle.menkhodur.proofs.menkhodur_roll_read.Kinds as menkhodur-roll-read·k
+use Rattle.menkhodur.proofs.menkhodur_roll_read_old.Reads as menkhodur-roll-read-old
+use Rattle.menkhodur.proofs.menkhodur_roll_read_old.Kinds as menkhodur-roll-read-old·k
 use Rattle.menkhodur.proofs.menkhodur_roll_differences.Reads as menkhodur-roll-differences
 use Rattle.menkhodur.proofs.menkhodur_roll_differences.Kinds as menkhodur-roll-differences·k
 use Rattle.menkhodur.proofs.menkhodur_pgn_check.Reads as menkhodur-pgn-check
@@ -104,11 +114,20 @@ menkhodur-castle-rights-answer κs a x y e f p q = p ∙ sym q
 pub menkhodur-en-passant-answer : OneAnswer menkhodur-en-passant·k.ps menkhodur-en-passant·k.r menkhodur-en-passant.Learnt
 menkhodur-en-passant-answer κs a x y e f p q = p ∙ sym q
 
+pub menkhodur-half-moves-answer : OneAnswer menkhodur-half-moves·k.ps menkhodur-half-moves·k.r menkhodur-half-moves.Learnt
+menkhodur-half-moves-answer κs a x y e f p q = p ∙ sym q
+
+pub menkhodur-full-moves-answer : OneAnswer menkhodur-full-moves·k.ps menkhodur-full-moves·k.r menkhodur-full-moves.Learnt
+menkhodur-full-moves-answer κs a x y e f p q = p ∙ sym q
+
 pub menkhodur-board-after-answer : OneAnswer menkhodur-board-after·k.ps menkhodur-board-after·k.r menkhodur-board-after.Learnt
 menkhodur-board-after-answer κs a x y e f p q = p ∙ sym q
 
 pub menkhodur-fen-read-answer : OneAnswer menkhodur-fen-read·k.ps menkhodur-fen-read·k.r menkhodur-fen-read.Learnt
 menkhodur-fen-read-answer κs a x y e f p q = p ∙ sym q
+
+pub menkhodur-fen-read-full-answer : OneAnswer menkhodur-fen-read-full·k.ps menkhodur-fen-read-full·k.r menkhodur-fen-read-full.Learnt
+menkhodur-fen-read-full-answer κs a x y e f p q = p ∙ sym q
 
 pub menkhodur-fen-page-answer : OneAnswer menkhodur-fen-page·k.ps menkhodur-fen-page·k.r menkhodur-fen-page.Learnt
 menkhodur-fen-page-answer κs a x y e f p q = p .0 ∙ sym (q .0)
@@ -124,6 +143,12 @@ menkhodur-fen-write-answer κs a x y e f p q = p .0 ∙ sym (q .0)
 
 pub menkhodur-fen-write-out : OnePart menkhodur-fen-write·k.ps menkhodur-fen-write·k.r (λ κs x e. now (e .1 .0)) menkhodur-fen-write.Learnt
 menkhodur-fen-write-out κs a x y e f p q = p .1 ∙ sym (q .1)
+
+pub menkhodur-fen-write-full-answer : OneAnswer menkhodur-fen-write-full·k.ps menkhodur-fen-write-full·k.r menkhodur-fen-write-full.Learnt
+menkhodur-fen-write-full-answer κs a x y e f p q = p .0 ∙ sym (q .0)
+
+pub menkhodur-fen-write-full-out : OnePart menkhodur-fen-write-full·k.ps menkhodur-fen-write-full·k.r (λ κs x e. now (e .1 .0)) menkhodur-fen-write-full.Learnt
+menkhodur-fen-write-full-out κs a x y e f p q = p .1 ∙ sym (q .1)
 
 pub menkhodur-move-read-answer : OneAnswer menkhodur-move-read·k.ps menkhodur-move-read·k.r menkhodur-move-read.Learnt
 menkhodur-move-read-answer κs a x y e f p q = p ∙ sym q
@@ -220,6 +245,12 @@ menkhodur-roll-read-answer κs a x y e f p q = p .0 ∙ sym (q .0)
 
 pub menkhodur-roll-read-acts : OnePart menkhodur-roll-read·k.ps menkhodur-roll-read·k.r (λ κs x e. now (e .1 .0)) menkhodur-roll-read.Learnt
 menkhodur-roll-read-acts κs a x y e f p q = p .1 ∙ sym (q .1)
+
+pub menkhodur-roll-read-old-answer : OneAnswer menkhodur-roll-read-old·k.ps menkhodur-roll-read-old·k.r menkhodur-roll-read-old.Learnt
+menkhodur-roll-read-old-answer κs a x y e f p q = p .0 ∙ sym (q .0)
+
+pub menkhodur-roll-read-old-acts : OnePart menkhodur-roll-read-old·k.ps menkhodur-roll-read-old·k.r (λ κs x e. now (e .1 .0)) menkhodur-roll-read-old.Learnt
+menkhodur-roll-read-old-acts κs a x y e f p q = p .1 ∙ sym (q .1)
 
 pub menkhodur-roll-differences-answer : OneAnswer menkhodur-roll-differences·k.ps menkhodur-roll-differences·k.r menkhodur-roll-differences.Learnt
 menkhodur-roll-differences-answer κs a x y e f p q = p .0 ∙ sym (q .0)

@@ -15,21 +15,22 @@ ghost use Rattle.version.specs.Version.{version};
 ghost use Rattle.answer.specs.Answer.{writeAnswer, writeBytes};
 ghost use Rattle.square.specs.Square.{makeSquare};
 ghost use Rattle.castle_rights.specs.CastleRights.{addRights, removeRights, squareRights};
-ghost use Rattle.board_builder.specs.Steps.{setPiece, clearSquare, setSide, setRights, setEnPassant};
+ghost use Rattle.board_builder.specs.Steps.{setPiece, clearSquare, setSide, setRights, setEnPassant, setHalfMoves, setFullMoves};
 ghost use Rattle.fen_text.specs.Read.{readFen};
+ghost use Rattle.fen_text.specs.Full.{readFull};
 ghost use Rattle.fen_text.specs.Page.{pageAnswer, recordsLeft, toldLeft};
 ghost use Rattle.move_rules.specs.After.{afterAnswer};
 ghost use Rattle.chess_move.specs.Coordinate.{readMove, moveText, moveCheck};
 ghost use Rattle.san_text.specs.Paper.{fromSan, nameAnswer, nameBytes};
 ghost use Rattle.san_text.specs.Standard.{fromSanStandard, standardNameAnswer, standardNameBytes};
-ghost use Rattle.fen_text.specs.Write.{fenText, fenCheck};
+ghost use Rattle.fen_text.specs.Write.{fenText, fullText, fenCheck};
 ghost use Rattle.stored_position.specs.Bytes.{positionGiven};
 ghost use Rattle.game_rules.specs.Limits.{limits};
 ghost use Rattle.game_rules.specs.Rules.{makeMove, offerDraw, acceptDraw, declareDraw, resign};
 ghost use Rattle.game_rules.specs.Calls.{callAnswer, counts, countsAfter, actionsAfter, positionsAfter, startAnswer, positionsBegun, resultAnswer, claimAnswer};
 ghost use Rattle.laws.specs.Ruling.{rulingAnswer, lawsAnswer};
 ghost use Rattle.pgn_text.specs.Walk.{check, nextMove};
-ghost use Rattle.roll_text.specs.Calls.{writeCheck, gameText, judged, rollAnswer, rollOver};
+ghost use Rattle.roll_text.specs.Calls.{writeCheck, gameText, judged, judgedOld, rollAnswer, rollOver};
 ghost use Rattle.differences_text.specs.Calls.{differencesAnswer, differencesRoom};
 
 #[no_mangle]
@@ -103,6 +104,20 @@ pub extern "C" fn menkhodur_en_passant(b: BoardBuilder, file: u8) -> Stepped
 }
 
 #[no_mangle]
+pub extern "C" fn menkhodur_half_moves(b: BoardBuilder, count: u64) -> Stepped
+    ensures { λ r. ⌜ r ≡ setHalfMoves b count ⌝ }
+{
+    b.half_moves(count)
+}
+
+#[no_mangle]
+pub extern "C" fn menkhodur_full_moves(b: BoardBuilder, count: u64) -> Stepped
+    ensures { λ r. ⌜ r ≡ setFullMoves b count ⌝ }
+{
+    b.full_moves(count)
+}
+
+#[no_mangle]
 pub extern "C" fn menkhodur_board_after(b: BoardBuilder, m: u64) -> Stepped
     ensures { λ r. ⌜ r ≡ afterAnswer b m ⌝ }
 {
@@ -114,6 +129,13 @@ pub extern "C" fn menkhodur_fen_read(text: &[u8]) -> Fen
     ensures { λ r. ⌜ r ≡ readFen (now (text .entry)) ⌝ }
 {
     fen_reader::read_fen(text)
+}
+
+#[no_mangle]
+pub extern "C" fn menkhodur_fen_read_full(text: &[u8]) -> Fen
+    ensures { λ r. ⌜ r ≡ readFull (now (text .entry)) ⌝ }
+{
+    fen_reader::full::read_full(text)
 }
 
 #[no_mangle]
@@ -131,6 +153,14 @@ pub extern "C" fn menkhodur_fen_write(b: BoardBuilder, out: &mut [u8]) -> Answer
     ensures bytes { λ r. ⌜ now (out .exit) ≡ writeBytes (fenCheck b) (fenText b) (now (out .entry)) ⌝ }
 {
     fen_writer::write_fen(b, out)
+}
+
+#[no_mangle]
+pub extern "C" fn menkhodur_fen_write_full(b: BoardBuilder, out: &mut [u8]) -> Answer
+    ensures answer { λ r. ⌜ r ≡ writeAnswer (fenCheck b) (fullText b) (length (now (out .entry))) ⌝ }
+    ensures bytes { λ r. ⌜ now (out .exit) ≡ writeBytes (fenCheck b) (fullText b) (now (out .entry)) ⌝ }
+{
+    fen_writer::write_full(b, out)
 }
 
 #[no_mangle]
@@ -327,6 +357,14 @@ pub extern "C" fn menkhodur_roll_read(roll: &[u8], acts: &mut [u8]) -> Roll
     ensures bytes { λ r. ⌜ now (acts .exit) ≡ rollOver (judged limits (now (roll .entry)) (length (now (acts .entry)))) (now (acts .entry)) ⌝ }
 {
     roll_reader::read(roll, acts)
+}
+
+#[no_mangle]
+pub extern "C" fn menkhodur_roll_read_old(roll: &[u8], acts: &mut [u8]) -> Roll
+    ensures answer { λ r. ⌜ r ≡ rollAnswer (judgedOld limits (now (roll .entry)) (length (now (acts .entry)))) ⌝ }
+    ensures bytes { λ r. ⌜ now (acts .exit) ≡ rollOver (judgedOld limits (now (roll .entry)) (length (now (acts .entry)))) (now (acts .entry)) ⌝ }
+{
+    roll_reader::read_old(roll, acts)
 }
 
 #[no_mangle]
