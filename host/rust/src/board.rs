@@ -1,7 +1,7 @@
 //! The board record and its texts.
 
 use crate::error::{Error, certain};
-use crate::lent::{self, Record};
+use crate::lent::{self, MAX_FEN, MAX_FULL_FEN, Numbers, Record};
 use crate::moves::{Move, text_of};
 use crate::piece::{ALL_COLORS, ALL_PIECES, CastleRights, Color, Piece};
 use crate::square::{ALL_FILES, File, Square};
@@ -10,11 +10,20 @@ use std::str::FromStr;
 
 const INITIAL: &str = "rnbqkbnr/pppppppp/8/8/8/8/PPPPPPPP/RNBQKBNR w KQkq - 0 1";
 
-/// A position's record: 64 squares, the side to move, both sides' rights and the en passant file, every one in range.
+// Where the numbers have what comes after the squares: the side to move, white's rights, then black's, and the en passant file.
+const SIDE: usize = 64;
+const RIGHTS: usize = 65;
+const FILE: usize = 67;
+
+/// A position's record: 64 squares, the side to move, both sides' rights, the en passant file and the two counters of a FEN, every one in
+/// range.
 ///
 /// As with the original's `BoardBuilder`, nothing asks whether such a position can come up in a game. The steps take the board and hand
 /// back the next one. Boards are ordered by their numbers, the first that differs deciding, so that they can be kept in sorted lists and
 /// trees; the order says nothing about the game.
+///
+/// Two boards are equal if all 70 numbers are, the counters too. Those that differ in the counters alone are one position, with the same
+/// [`Board::numbers`] and one key, [`Board::to_fen`].
 ///
 /// ```
 /// use menkhodur::{Board, Color, Piece, Square};
@@ -29,7 +38,7 @@ const INITIAL: &str = "rnbqkbnr/pppppppp/8/8/8/8/PPPPPPPP/RNBQKBNR w KQkq - 0 1"
 pub struct Board(Record);
 
 impl Board {
-    /// The empty board, white to move.
+    /// The empty board, white to move, with the counters 0 and 1.
     ///
     /// ```
     /// assert_eq!(menkhodur::Board::new().to_fen(), "8/8/8/8/8/8/8/8 w - - 0 1");
@@ -38,23 +47,25 @@ impl Board {
     #[allow(clippy::new_without_default)]
     #[must_use]
     pub fn new() -> Board {
-        Board([0; 68])
+        Board(Record::from([0; lent::PAGE_RECORD]))
     }
 
-    /// The board that a FEN text says, the text being any bytes. Refused: [`Error::TooFewTokens`], [`Error::BadPlacement`],
-    /// [`Error::BadSide`], in this order and each with the place in the text.
+    /// The board that a FEN text says, the text being any bytes, with the counters 0 and 1 whatever stands behind its fourth token;
+    /// [`Board::from_fen_full`] reads them. Refused: [`Error::TooFewTokens`], [`Error::BadPlacement`], [`Error::BadSide`], in this order and
+    /// each with the place in the text.
     ///
     /// ```
     /// use menkhodur::{Board, Error};
     ///
     /// assert_eq!(Board::from_fen(" w - -"), Ok(Board::new()));
+    /// assert_eq!(Board::from_fen(" w - - 12 34"), Ok(Board::new()));
     /// assert_eq!(Board::from_fen(b"K\xff w - -"), Err(Error::BadPlacement { offset: 1 }));
     /// ```
     pub fn from_fen(text: impl AsRef<[u8]>) -> Result<Board, Error> {
         lent::fen_read(text.as_ref()).map(Board)
     }
 
-    /// The board's one FEN, 25 to 85 bytes: the key that the position is filed under.
+    /// The position's one FEN, 25 to 85 bytes: the key that it is filed under. It ends in ` 0 1` whatever the counters are.
     ///
     /// ```
     /// use menkhodur::Board;
@@ -64,12 +75,45 @@ impl Board {
     /// ```
     #[must_use]
     pub fn to_fen(&self) -> String {
-        let mut room = [0; 85];
+        let mut room = [0; MAX_FEN];
         let length = certain(lent::fen_write(&self.0, &mut room));
         text_of(&room[..length])
     }
 
-    /// The board with these 68 numbers, in the order of [`lent::Record`]. Refused: [`Error::OutOfRange`].
+    /// The board that a FEN text says with its counters, the text being any bytes: the fifth token is the half-move clock and the sixth the
+    /// move number, each of one to four digits; tokens behind the sixth are ignored. Refused: [`Error::TooFewTokens`],
+    /// [`Error::BadPlacement`], [`Error::BadSide`] as for [`Board::from_fen`], then [`Error::BadCounter`] for the fifth token and then for
+    /// the sixth.
+    ///
+    /// ```
+    /// use menkhodur::{Board, Error};
+    ///
+    /// let board = Board::from_fen_full(" w - - 12 34").unwrap();
+    /// assert_eq!((board.get_half_moves(), board.get_full_moves()), (12, 34));
+    /// assert_eq!(Board::from_fen_full(" w - - 12 0"), Err(Error::BadCounter { offset: 10 }));
+    /// assert_eq!(Board::from_fen_full(" w - - 12"), Err(Error::BadCounter { offset: 9 }));
+    /// ```
+    pub fn from_fen_full(text: impl AsRef<[u8]>) -> Result<Board, Error> {
+        lent::fen_read_full(text.as_ref()).map(Board)
+    }
+
+    /// The board's one FEN with its own counters, 25 to 91 bytes, which [`Board::from_fen_full`] reads as exactly this board.
+    ///
+    /// ```
+    /// use menkhodur::Board;
+    ///
+    /// let board = Board::new().half_moves(12).unwrap().full_moves(34).unwrap();
+    /// assert_eq!(board.to_fen_full(), "8/8/8/8/8/8/8/8 w - - 12 34");
+    /// assert_eq!(board.to_fen(), "8/8/8/8/8/8/8/8 w - - 0 1");
+    /// ```
+    #[must_use]
+    pub fn to_fen_full(&self) -> String {
+        let mut room = [0; MAX_FULL_FEN];
+        let length = certain(lent::fen_write_full(&self.0, &mut room));
+        text_of(&room[..length])
+    }
+
+    /// The board with these 68 numbers, in the order of [`lent::Numbers`], and the counters 0 and 1. Refused: [`Error::OutOfRange`].
     ///
     /// ```
     /// use menkhodur::{Board, Error};
@@ -77,18 +121,46 @@ impl Board {
     /// assert_eq!(Board::from_numbers(&[0; 68]), Ok(Board::new()));
     /// assert_eq!(Board::from_numbers(&[13; 68]), Err(Error::OutOfRange));
     /// ```
-    pub fn from_numbers(numbers: &Record) -> Result<Board, Error> {
-        // A step judges its whole record, so the range is asked of the archive and not said here again; this one changes nothing.
-        lent::side_to_move(numbers, numbers[64]).map(Board)
+    pub fn from_numbers(numbers: &Numbers) -> Result<Board, Error> {
+        Board::from_record(&Record::from(*numbers))
     }
 
-    /// The board's 68 numbers.
+    /// The board with the numbers of a record, its counters too. Refused: [`Error::OutOfRange`].
+    ///
+    /// ```
+    /// use menkhodur::lent::Record;
+    /// use menkhodur::{Board, Error};
+    ///
+    /// let record = Record { numbers: [0; 68], half_moves: 12, full_moves: 34 };
+    /// assert_eq!(Board::from_record(&record), Board::from_fen_full(" w - - 12 34"));
+    /// assert_eq!(Board::from_record(&Record { full_moves: 0, ..record }), Err(Error::OutOfRange));
+    /// ```
+    pub fn from_record(record: &Record) -> Result<Board, Error> {
+        // A step judges its whole record, so the range is asked of the archive and not said here again; this one changes nothing.
+        lent::side_to_move(record, record.numbers[SIDE]).map(Board)
+    }
+
+    /// The board's 68 numbers, which are all but the counters: what its key names.
     ///
     /// ```
     /// assert_eq!(menkhodur::Board::default().numbers()[..5], [4, 2, 3, 5, 6]);
     /// ```
     #[must_use]
-    pub fn numbers(&self) -> &Record {
+    pub fn numbers(&self) -> &Numbers {
+        &self.0.numbers
+    }
+
+    /// The board's record, as [`lent`] has it.
+    ///
+    /// ```
+    /// use menkhodur::{Board, lent};
+    ///
+    /// let board = Board::default();
+    /// assert_eq!(board.record(), &lent::Record::from(*board.numbers()));
+    /// assert_eq!(lent::full_moves(board.record(), 40).unwrap().full_moves, 40);
+    /// ```
+    #[must_use]
+    pub fn record(&self) -> &Record {
         &self.0
     }
 
@@ -157,19 +229,48 @@ impl Board {
         Board(certain(lent::en_passant(&self.0, file.map_or(0, |file| file as u8 + 1))))
     }
 
+    /// Sets the half-move clock, 0 to 9,999: how many moves of either side there were since the last capture or pawn move. The number is judged
+    /// as it is and never cut. Refused: [`Error::OutOfRange`].
+    ///
+    /// ```
+    /// use menkhodur::{Board, Error};
+    ///
+    /// assert_eq!(Board::new().half_moves(9_999).unwrap().get_half_moves(), 9_999);
+    /// assert_eq!(Board::new().half_moves(10_000), Err(Error::OutOfRange));
+    /// ```
+    pub fn half_moves(self, half_moves: u64) -> Result<Board, Error> {
+        lent::half_moves(&self.0, half_moves).map(Board)
+    }
+
+    /// Sets the move number, 1 to 9,999, which is one more after each move by black. The number is judged as it is and never cut. Refused:
+    /// [`Error::OutOfRange`].
+    ///
+    /// ```
+    /// use menkhodur::{Board, Error};
+    ///
+    /// assert_eq!(Board::new().full_moves(9_999).unwrap().get_full_moves(), 9_999);
+    /// assert_eq!(Board::new().full_moves(0), Err(Error::OutOfRange));
+    /// ```
+    pub fn full_moves(self, full_moves: u64) -> Result<Board, Error> {
+        lent::full_moves(&self.0, full_moves).map(Board)
+    }
+
     /// The board after a move: the man moved or promoted, the rook in castling, the pawn gone in en passant, castling rights that are lost,
     /// the other side to move, and the en passant file if a double step arrives beside an enemy pawn (document 02, order 9). For a legal
     /// move it is the original's `make_move_new`; any other goes by the same rule, and whether one is legal is not asked.
     ///
+    /// The counters go on too (order 12): the clock is 0 if a pawn stands on the source or anything on the destination, and else one more; the
+    /// move number is one more if black was to move. Both stop at 9,999.
+    ///
     /// ```
     /// use menkhodur::{Board, Move, Square};
     ///
-    /// let board = Board::from_fen("r3k3/8/8/8/3p4/8/4P3/4K2R w Kq -").unwrap();
-    /// let after = |text: &str| board.after(Move::from_text(text).unwrap()).to_fen();
-    /// assert_eq!(after("e1g1"), "r3k3/8/8/8/3p4/8/4P3/5RK1 b q - 0 1");
-    /// assert_eq!(after("e2e4"), "r3k3/8/8/8/3pP3/8/8/4K2R b Kq e3 0 1");
-    /// assert_eq!(board.after(Move::new(Square::E2, Square::E3, None)).after(Move::new(Square::D4, Square::E3, None)).to_fen(),
-    ///     "r3k3/8/8/8/8/4p3/8/4K2R w Kq - 0 1");
+    /// let board = Board::from_fen_full("r3k3/8/8/8/3p4/8/4P3/4K2R w Kq - 7 20").unwrap();
+    /// let after = |text: &str| board.after(Move::from_text(text).unwrap()).to_fen_full();
+    /// assert_eq!(after("e1g1"), "r3k3/8/8/8/3p4/8/4P3/5RK1 b q - 8 20");
+    /// assert_eq!(after("e2e4"), "r3k3/8/8/8/3pP3/8/8/4K2R b Kq e3 0 20");
+    /// assert_eq!(board.after(Move::new(Square::E2, Square::E3, None)).after(Move::new(Square::D4, Square::E3, None)).to_fen_full(),
+    ///     "r3k3/8/8/8/8/4p3/8/4K2R w Kq - 0 21");
     /// ```
     #[must_use = "a step leaves its board as it is and hands back the next one"]
     #[doc(alias = "make_move_new")]
@@ -203,7 +304,7 @@ impl Board {
     }
 
     fn index_on(&self, square: Square) -> Option<usize> {
-        usize::from(self.0[square.to_index()]).checked_sub(1)
+        usize::from(self.numbers()[square.to_index()]).checked_sub(1)
     }
 
     /// The side to move.
@@ -215,7 +316,7 @@ impl Board {
     /// ```
     #[must_use]
     pub fn get_side_to_move(&self) -> Color {
-        ALL_COLORS[usize::from(self.0[64])]
+        ALL_COLORS[usize::from(self.numbers()[SIDE])]
     }
 
     /// A colour's castling rights.
@@ -227,7 +328,7 @@ impl Board {
     /// ```
     #[must_use]
     pub fn get_castle_rights(&self, color: Color) -> CastleRights {
-        CastleRights::numbered(self.0[65 + color.to_index()])
+        CastleRights::numbered(self.numbers()[RIGHTS + color.to_index()])
     }
 
     /// The en passant file. The original's `get_en_passant` gives a square on the pawn's own rank, which a FEN does not have.
@@ -240,7 +341,27 @@ impl Board {
     /// ```
     #[must_use]
     pub fn en_passant_file(&self) -> Option<File> {
-        usize::from(self.0[67]).checked_sub(1).map(|index| ALL_FILES[index])
+        usize::from(self.numbers()[FILE]).checked_sub(1).map(|index| ALL_FILES[index])
+    }
+
+    /// The half-move clock.
+    ///
+    /// ```
+    /// assert_eq!(menkhodur::Board::from_fen_full(" w - - 12 34").unwrap().get_half_moves(), 12);
+    /// ```
+    #[must_use]
+    pub fn get_half_moves(&self) -> u16 {
+        self.0.half_moves
+    }
+
+    /// The move number.
+    ///
+    /// ```
+    /// assert_eq!(menkhodur::Board::from_fen_full(" w - - 12 34").unwrap().get_full_moves(), 34);
+    /// ```
+    #[must_use]
+    pub fn get_full_moves(&self) -> u16 {
+        self.0.full_moves
     }
 
     /// The one listed move that a SAN text names, the text being any bytes. Refused: [`Error::ListOutOfRange`] for more than 255 moves,
@@ -336,7 +457,7 @@ impl FromStr for Board {
     }
 }
 
-/// Writes the FEN, as [`Board::to_fen`] does.
+/// Writes the key, as [`Board::to_fen`] does.
 impl fmt::Display for Board {
     fn fmt(&self, f: &mut fmt::Formatter<'_>) -> fmt::Result {
         f.pad(&self.to_fen())
@@ -345,6 +466,7 @@ impl fmt::Display for Board {
 
 impl fmt::Debug for Board {
     fn fmt(&self, f: &mut fmt::Formatter<'_>) -> fmt::Result {
-        write!(f, "Board({self})")
+        // With the counters, or else two boards that differ would be shown alike.
+        write!(f, "Board({})", self.to_fen_full())
     }
 }

@@ -10,7 +10,7 @@ use std::iter::FusedIterator;
 
 /// One thing that differs between two games: what it is, and what it is in the first and in the second.
 ///
-/// It is shown as its line of document 02, order 10: a key and two numbers, without the newline.
+/// It is shown as its line of document 02, orders 10 and 12: a key and two numbers, without the newline.
 ///
 /// ```
 /// use menkhodur::{Color, Difference, Piece, Square};
@@ -57,6 +57,20 @@ pub enum Difference {
         /// In the second game, if there is one.
         second: Option<File>,
     },
+    /// The half-move clock of the start.
+    HalfMoves {
+        /// In the first game.
+        first: u16,
+        /// In the second game.
+        second: u16,
+    },
+    /// The move number of the start.
+    FullMoves {
+        /// In the first game.
+        first: u16,
+        /// In the second game.
+        second: u16,
+    },
     /// The first action that differs. Of the actions behind it nothing is told.
     Action {
         /// How many actions come before it.
@@ -94,9 +108,10 @@ pub struct Refused {
     pub error: Error,
 }
 
-/// What differs between two games (document 02, order 10): the squares of the start by number, the side to move, white's rights, black's
-/// rights, the en passant file, and then the first action that differs. Refused: a roll that [`Roll::from_bytes`](crate::Roll::from_bytes)
-/// refuses, first roll first.
+/// What differs between two games (document 02, orders 10 and 12): the squares of the start by number, the side to move, white's rights,
+/// black's rights, the en passant file, the half-move clock, the move number, and then the first action that differs. Refused: a roll that
+/// [`Roll::from_bytes`](crate::Roll::from_bytes) refuses, first roll first. An old roll, one without counters, is read by
+/// [`Roll::from_old_bytes`](crate::Roll::from_old_bytes) and written before it is compared.
 ///
 /// ```
 /// use menkhodur::{Action, Board, Color, Difference, Error, Move, Roll, Which, differences};
@@ -128,9 +143,10 @@ impl Differences {
     /// The lines that are left, each with its newline, as the archive wrote them.
     ///
     /// ```
-    /// let (plain, mut pawn) = ([0; 69], [0; 69]);
-    /// pawn[28] = 1;
-    /// assert_eq!(menkhodur::differences(pawn, plain).unwrap().as_str(), "28 1 0\n");
+    /// let plain = [&[0; 68][..], &[0, 1, 0]].concat();
+    /// let mut other = plain.clone();
+    /// (other[28], other[68]) = (1, 99);
+    /// assert_eq!(menkhodur::differences(other, plain).unwrap().as_str(), "28 1 0\nhalf 99 0\n");
     /// ```
     #[must_use]
     pub fn as_str(&self) -> &str {
@@ -167,6 +183,8 @@ fn told(line: &str) -> Option<Difference> {
         "white" => Difference::White { first: rights(number()?), second: rights(number()?) },
         "black" => Difference::Black { first: rights(number()?), second: rights(number()?) },
         "ep" => Difference::EnPassant { first: file(number()?), second: file(number()?) },
+        "half" => Difference::HalfMoves { first: counter(number()?), second: counter(number()?) },
+        "full" => Difference::FullMoves { first: counter(number()?), second: counter(number()?) },
         "action" => Difference::Action { index: number()? as usize, first: action(number()?), second: action(number()?) },
         square => {
             Difference::Square { square: Square::try_from(square.parse::<u8>().ok()?).ok()?, first: man(number()?), second: man(number()?) }
@@ -174,7 +192,7 @@ fn told(line: &str) -> Option<Difference> {
     })
 }
 
-// The numbers of a roll that was read are in range, so the indices are.
+// The numbers of a roll that was read are in range, so the indices are, and nothing is cut.
 
 fn man(code: u32) -> Option<(Piece, Color)> {
     let code = code.checked_sub(1)? as usize;
@@ -191,6 +209,10 @@ fn rights(number: u32) -> CastleRights {
 
 fn file(number: u32) -> Option<File> {
     ALL_FILES.get(number.checked_sub(1)? as usize).copied()
+}
+
+fn counter(number: u32) -> u16 {
+    number as u16
 }
 
 fn action(number: u32) -> Option<Action> {
@@ -214,6 +236,8 @@ impl fmt::Display for Difference {
             Difference::White { first, second } => write!(f, "white {} {}", first as u8, second as u8),
             Difference::Black { first, second } => write!(f, "black {} {}", first as u8, second as u8),
             Difference::EnPassant { first, second } => write!(f, "ep {} {}", file(first), file(second)),
+            Difference::HalfMoves { first, second } => write!(f, "half {first} {second}"),
+            Difference::FullMoves { first, second } => write!(f, "full {first} {second}"),
             Difference::Action { index, first, second } => write!(f, "action {index} {} {}", action(first), action(second)),
         }
     }

@@ -1,7 +1,7 @@
 //! What a log holds: its actions and positions, and how they are read where they lie.
 
 use crate::board::Board;
-use crate::lent::{ACTION_BYTES, Given, POSITION_BYTES, Record};
+use crate::lent::{ACTION_BYTES, Given, PAGE_RECORD, POSITION_BYTES, Record};
 use crate::moves::Move;
 use crate::piece::{ALL_COLORS, Color};
 use std::fmt;
@@ -65,8 +65,9 @@ impl Action {
 /// A position as a log is given it and gives it back: the board, whether its side to move is in check, and the moves that can be made.
 /// The library has no move generator: an empty list is what ends a game.
 ///
-/// Two positions of a log are equal if their boards are and their lists are in the same order too. Whoever sorts must sort every list of a
-/// game alike, the start's too: otherwise a position that came before is not recognised, and a claim by equal positions does not stand.
+/// Two positions of a log are equal, so that the later one repeats the other, if their boards are, counters aside, and their lists are in the
+/// same order too; `==` compares the counters as well. Whoever sorts must sort every list of a game alike, the start's too: otherwise a
+/// position that came before is not recognised, and a claim by equal positions does not stand.
 ///
 /// ```
 /// use menkhodur::{Board, GameResult, Log, Position};
@@ -86,15 +87,13 @@ pub struct Position<'a> {
 
 impl<'a> Position<'a> {
     pub(crate) fn given(&self) -> Given<'_> {
-        Given { record: self.board.numbers(), in_check: u8::from(self.in_check), list: Move::numbers(self.list) }
+        Given { record: self.board.record(), in_check: u8::from(self.in_check), list: Move::numbers(self.list) }
     }
 
     pub(crate) fn of_good_log(pairs: &'a [u16]) -> Position<'a> {
         let bytes = bytes(pairs);
-        let mut record = [0; 68];
-        record.copy_from_slice(&bytes[..IN_CHECK]);
         let list = &pairs[LIST / 2..][..usize::from(bytes[ENTRIES])];
-        Position { board: Board::of_good_log(record), in_check: bytes[IN_CHECK] == 1, list: Move::list(list) }
+        Position { board: Board::of_good_log(record_at(bytes)), in_check: bytes[IN_CHECK] == 1, list: Move::list(list) }
     }
 }
 
@@ -106,10 +105,12 @@ compile_error!("the archive is made for x86-64, and a log lends its lists low by
 /// Pairs of bytes that one position has.
 pub(crate) const POSITION_PAIRS: usize = POSITION_BYTES / 2;
 
-// Where a position has what comes after its record: the in-check byte, the length of its list, and the list.
-const IN_CHECK: usize = 68;
-const ENTRIES: usize = 69;
-const LIST: usize = 70;
+// Where a position has what comes after the numbers of its record: the two counters, the in-check byte, the length of its list, and the list.
+const HALF_MOVES: usize = PAGE_RECORD;
+const FULL_MOVES: usize = HALF_MOVES + 2;
+const IN_CHECK: usize = FULL_MOVES + 2;
+const ENTRIES: usize = IN_CHECK + 1;
+const LIST: usize = ENTRIES + 1;
 
 /// The kind of an action that is a move.
 const MAKE_MOVE: u8 = 1;
@@ -136,22 +137,32 @@ impl StoredPosition {
 /// The position of a part after so many moves, or `None` if the part ends before it does. Nothing is judged.
 ///
 /// ```
-/// use menkhodur::lent::{self, ACTIONS_PART, Given, POSITION_BYTES, POSITIONS_PART};
+/// use menkhodur::lent::{self, ACTIONS_PART, Given, POSITION_BYTES, POSITIONS_PART, Record};
 ///
 /// let mut positions = vec![0; POSITIONS_PART];
-/// lent::game_start(&[0; ACTIONS_PART], &mut positions, Given { record: &[1; 68], in_check: 1, list: &[1153, 7] }).unwrap();
+/// let record = Record { numbers: [1; 68], half_moves: 300, full_moves: 400 };
+/// lent::game_start(&[0; ACTIONS_PART], &mut positions, Given { record: &record, in_check: 1, list: &[1153, 7] }).unwrap();
 /// let start = lent::stored_position(&positions, 0).unwrap();
-/// assert_eq!((start.record, start.in_check, start.list), ([1; 68], 1, vec![1153, 7]));
+/// assert_eq!((start.record, start.in_check, start.list), (record, 1, vec![1153, 7]));
 /// assert_eq!(lent::stored_position(&positions[..POSITION_BYTES - 1], 0), None);
 /// ```
 #[must_use]
 pub fn stored_position(positions: &[u8], moves: usize) -> Option<StoredPosition> {
     let position = positions.chunks_exact(POSITION_BYTES).nth(moves)?;
-    let mut record = [0; 68];
-    record.copy_from_slice(&position[..IN_CHECK]);
-    let pairs = position[LIST..].chunks_exact(2).take(usize::from(position[ENTRIES]));
-    let list = pairs.map(|pair| u16::from_le_bytes([pair[0], pair[1]])).collect();
-    Some(StoredPosition { record, in_check: position[IN_CHECK], list })
+    let list = (0..usize::from(position[ENTRIES])).map(|entry| pair_at(position, LIST + 2 * entry)).collect();
+    Some(StoredPosition { record: record_at(position), in_check: position[IN_CHECK], list })
+}
+
+/// The record that a position's bytes begin with.
+fn record_at(position: &[u8]) -> Record {
+    let mut numbers = [0; PAGE_RECORD];
+    numbers.copy_from_slice(&position[..PAGE_RECORD]);
+    Record { numbers, half_moves: pair_at(position, HALF_MOVES), full_moves: pair_at(position, FULL_MOVES) }
+}
+
+/// A number of two bytes, low byte first.
+fn pair_at(bytes: &[u8], at: usize) -> u16 {
+    u16::from_le_bytes([bytes[at], bytes[at + 1]])
 }
 
 /// How many of the first `count` actions of a part are moves, by their kind alone: the second of the counts of that much of a log.

@@ -100,6 +100,12 @@ pub enum Error {
     },
     /// 24: the position after the move is not the one that the move leads to, as [`Board::after`](crate::Board::after) gives it.
     WrongRecord,
+    /// 25: the FEN text's fifth token, the half-move clock, or its sixth, the move number, is missing or is not one to four digits, or the
+    /// move number is 0. Only the full reader asks, [`Board::from_fen_full`](crate::Board::from_fen_full).
+    BadCounter {
+        /// The text's length if the token is missing, and else the place where it starts.
+        offset: usize,
+    },
     /// Any other number: the archive is of a version that this package does not know.
     Unknown(u64),
 }
@@ -139,11 +145,12 @@ impl Error {
             Error::TooDeep { .. } => 22,
             Error::UnknownToken { .. } => 23,
             Error::WrongRecord => 24,
+            Error::BadCounter { .. } => 25,
             Error::Unknown(number) => number,
         }
     }
 
-    /// The place in the text of what is wrong with it, for the numbers that come with one: 2, 3 and 18 to 23.
+    /// The place in the text of what is wrong with it, for the numbers that come with one: 2, 3, 18 to 23 and 25.
     ///
     /// ```
     /// use menkhodur::{Board, Error, Move};
@@ -157,6 +164,7 @@ impl Error {
         match *self {
             Error::InvalidSquare { offset } | Error::InvalidUciMove { offset } => Some(offset),
             Error::TooFewTokens { offset } | Error::BadPlacement { offset } | Error::BadSide { offset } => Some(offset),
+            Error::BadCounter { offset } => Some(offset),
             Error::LeftOpen { offset } | Error::TooDeep { offset } | Error::UnknownToken { offset } => Some(offset),
             _ => None,
         }
@@ -164,9 +172,8 @@ impl Error {
 
     /// `detail` is what an answer tells of a refusal besides its number: the length needed, or the place in the text.
     pub(crate) fn judge(number: u64, detail: u64) -> Result<(), Error> {
-        // No text that is written has more than 85 bytes and no roll more than 20,550, and a place is at most the length of a text that was
-        // lent, or an offset that was a `usize` when it was handed in, so nothing is cut here on any target with 64 bits, the only ones that
-        // the archive is for.
+        // A text or a roll that is written has a bounded length, and a place is at most the length of a text that was lent, or an offset that
+        // was a `usize` when it was handed in, so nothing is cut here on any target with 64 bits, the only ones that the archive is for.
         let detail = detail as usize;
         Err(match number {
             0 => return Ok(()),
@@ -193,6 +200,7 @@ impl Error {
             22 => Error::TooDeep { offset: detail },
             23 => Error::UnknownToken { offset: detail },
             24 => Error::WrongRecord,
+            25 => Error::BadCounter { offset: detail },
             other => Error::Unknown(other),
         })
     }
@@ -232,6 +240,7 @@ impl Error {
             Error::TooDeep { .. } => "the brackets of the move text go deeper than 8 levels",
             Error::UnknownToken { .. } => "the move text has something that is no token of it, or not there",
             Error::WrongRecord => "the position after the move is not the one that the move leads to",
+            Error::BadCounter { .. } => "a counter of the FEN text is missing, is not one to four digits, or is a move number of 0",
             Error::Unknown(_) => "the archive refused for a reason that this package does not know",
         }
     }
@@ -272,7 +281,7 @@ mod tests {
     #[test]
     fn every_number_has_its_own_variant_and_text() {
         let mut texts = HashSet::new();
-        for number in 2..=24 {
+        for number in 2..=25 {
             let error = Error::judge(number, 85).unwrap_err();
             assert_eq!(error.number(), number);
             assert!(!matches!(error, Error::Unknown(_)));
@@ -286,7 +295,7 @@ mod tests {
     fn accepted_is_no_error_and_an_unknown_number_is_kept() {
         assert_eq!(Error::judge(0, 7), Ok(()));
         // 1 was that of every refused FEN before version 3.
-        for number in [1, 25, 26, u64::MAX] {
+        for number in [1, 26, 27, u64::MAX] {
             assert_eq!(Error::judge(number, 7), Err(Error::Unknown(number)));
             assert_eq!((Error::Unknown(number).number(), Error::Unknown(number).offset()), (number, None));
         }
@@ -309,8 +318,8 @@ mod tests {
 
     #[test]
     fn the_place_in_the_text_is_kept_and_told() {
-        for number in 2..=24 {
-            let (error, has) = (Error::judge(number, 85).unwrap_err(), [2, 3, 18, 19, 20, 21, 22, 23].contains(&number));
+        for number in 2..=25 {
+            let (error, has) = (Error::judge(number, 85).unwrap_err(), [2, 3, 18, 19, 20, 21, 22, 23, 25].contains(&number));
             assert_eq!(error.offset(), has.then_some(85));
             assert_eq!(error.to_string().contains(", at byte 85 (answer "), has, "{error}");
         }
@@ -324,6 +333,8 @@ mod tests {
         assert_eq!(words(22, 8), "the brackets of the move text go deeper than 8 levels, at byte 8 (answer 22)");
         assert_eq!(words(23, 3), "the move text has something that is no token of it, or not there, at byte 3 (answer 23)");
         assert_eq!(words(24, 3), "the position after the move is not the one that the move leads to (answer 24)");
+        let counter = "a counter of the FEN text is missing, is not one to four digits, or is a move number of 0";
+        assert_eq!(words(25, 8), format!("{counter}, at byte 8 (answer 25)"));
     }
 
     #[test]

@@ -11,6 +11,8 @@ pub(crate) struct Board {
     pub(crate) white_castle_rights: u8,
     pub(crate) black_castle_rights: u8,
     pub(crate) en_passant: u8,
+    pub(crate) half_moves: u16,
+    pub(crate) full_moves: u16,
 }
 
 #[repr(C)]
@@ -93,15 +95,17 @@ pub(crate) struct Ruled {
 
 impl Board {
     pub(crate) fn of(record: &lent::Record) -> Board {
-        let [pieces @ .., side_to_move, white_castle_rights, black_castle_rights, en_passant] = *record;
-        Board { pieces, side_to_move, white_castle_rights, black_castle_rights, en_passant }
+        let lent::Record { numbers, half_moves, full_moves } = *record;
+        let [pieces @ .., side_to_move, white_castle_rights, black_castle_rights, en_passant] = numbers;
+        Board { pieces, side_to_move, white_castle_rights, black_castle_rights, en_passant, half_moves, full_moves }
     }
 
     pub(crate) fn record(&self) -> lent::Record {
-        let mut record = [0; 68];
-        record[..64].copy_from_slice(&self.pieces);
-        record[64..].copy_from_slice(&[self.side_to_move, self.white_castle_rights, self.black_castle_rights, self.en_passant]);
-        record
+        let mut numbers = [0; lent::PAGE_RECORD];
+        let (pieces, others) = numbers.split_at_mut(self.pieces.len());
+        pieces.copy_from_slice(&self.pieces);
+        others.copy_from_slice(&[self.side_to_move, self.white_castle_rights, self.black_castle_rights, self.en_passant]);
+        lent::Record { numbers, half_moves: self.half_moves, full_moves: self.full_moves }
     }
 }
 
@@ -169,10 +173,14 @@ unsafe extern "C" {
     pub(crate) safe fn menkhodur_side_to_move(board: Board, colour: u8) -> Stepped;
     pub(crate) safe fn menkhodur_castle_rights(board: Board, colour: u8, rights: u8) -> Stepped;
     pub(crate) safe fn menkhodur_en_passant(board: Board, file: u8) -> Stepped;
+    pub(crate) safe fn menkhodur_half_moves(board: Board, half_moves: u64) -> Stepped;
+    pub(crate) safe fn menkhodur_full_moves(board: Board, full_moves: u64) -> Stepped;
     pub(crate) safe fn menkhodur_board_after(board: Board, number: u64) -> Stepped;
 
     pub(crate) fn menkhodur_fen_read(text: *const u8, length: usize) -> Fen;
     pub(crate) fn menkhodur_fen_write(board: Board, out: *mut u8, room: usize) -> Answer;
+    pub(crate) fn menkhodur_fen_read_full(text: *const u8, length: usize) -> Fen;
+    pub(crate) fn menkhodur_fen_write_full(board: Board, out: *mut u8, room: usize) -> Answer;
     pub(crate) fn menkhodur_fen_page(
         text: *const u8,
         length: usize,
@@ -295,6 +303,7 @@ unsafe extern "C" {
         room: usize,
     ) -> Answer;
     pub(crate) fn menkhodur_roll_read(roll: *const u8, length: usize, actions: *mut u8, actions_length: usize) -> Roll;
+    pub(crate) fn menkhodur_roll_read_old(roll: *const u8, length: usize, actions: *mut u8, actions_length: usize) -> Roll;
     pub(crate) fn menkhodur_roll_differences(
         first: *const u8,
         first_length: usize,

@@ -1,14 +1,23 @@
 //! What the safe layer does not show: the layouts, and the fields that come back with a refusal.
 
 use super::*;
-use crate::lent::{ACTIONS_PART, POSITIONS_PART};
+use crate::lent::{ACTIONS_PART, MAX_FEN, MAX_FULL_FEN, POSITION_BYTES, POSITIONS_PART};
 use std::mem::{align_of, offset_of, size_of};
 
 // Out of range in its side alone, and with no two neighbours alike, so that a record that comes back shifted would show.
 fn bad_record() -> lent::Record {
-    let mut record = std::array::from_fn(|i| (i % 13) as u8);
-    record[64..].copy_from_slice(&[2, 1, 3, 8]);
-    record
+    let mut numbers = std::array::from_fn(|i| (i % 13) as u8);
+    numbers[64..].copy_from_slice(&[2, 1, 3, 8]);
+    lent::Record { numbers, half_moves: 0x1234, full_moves: 0x2345 }
+}
+
+fn empty() -> lent::Record {
+    lent::Record::from([0; 68])
+}
+
+// What a refused reader hands out, and no call takes.
+fn zeros() -> lent::Record {
+    lent::Record { full_moves: 0, ..empty() }
 }
 
 fn counts(answer: Counts) -> (u64, u64, u64) {
@@ -24,12 +33,13 @@ fn start(actions: &[u8], positions: &mut [u8], record: &lent::Record, in_check: 
 
 #[test]
 fn structs_lie_as_the_header_has_them() {
-    assert_eq!((size_of::<Board>(), align_of::<Board>()), (68, 1));
+    assert_eq!((size_of::<Board>(), align_of::<Board>()), (72, 2));
     assert_eq!(offset_of!(Board, pieces), 0);
     assert_eq!(offset_of!(Board, side_to_move), 64);
     assert_eq!(offset_of!(Board, white_castle_rights), 65);
     assert_eq!(offset_of!(Board, black_castle_rights), 66);
     assert_eq!(offset_of!(Board, en_passant), 67);
+    assert_eq!((offset_of!(Board, half_moves), offset_of!(Board, full_moves)), (68, 70));
 
     assert_eq!((size_of::<Answer>(), align_of::<Answer>()), (16, 8));
     assert_eq!((offset_of!(Answer, number), offset_of!(Answer, value)), (0, 8));
@@ -70,27 +80,31 @@ fn a_ruling_is_eight_numbers_in_the_headers_order() {
 
 #[test]
 fn the_parts_have_the_papers_lengths() {
-    assert_eq!((ACTIONS_PART, POSITIONS_PART), (32_768, 2_376_260));
+    assert_eq!((ACTIONS_PART, POSITIONS_PART), (32_768, 2_392_648));
+    assert_eq!((lent::MAX_ROLL, lent::MAX_DIFFERENCES, MAX_FEN, MAX_FULL_FEN, lent::MAX_COUNT), (20_554, 658, 85, 91, 9_999));
 }
 
 #[test]
 fn a_record_is_the_struct_and_back() {
     let record = bad_record();
     let board = Board::of(&record);
-    assert_eq!(board.pieces, record[..64]);
+    assert_eq!(board.pieces, record.numbers[..64]);
     assert_eq!([board.side_to_move, board.white_castle_rights, board.black_castle_rights, board.en_passant], [2, 1, 3, 8]);
+    assert_eq!([board.half_moves, board.full_moves], [0x1234, 0x2345]);
     assert_eq!(board.record(), record);
 }
 
 #[test]
 fn a_refused_step_hands_its_record_back() {
-    let (bad, good) = (Board::of(&bad_record()), Board::of(&[0; 68]));
+    let (bad, good) = (Board::of(&bad_record()), Board::of(&empty()));
     let of_bad = [
         menkhodur_piece(bad, 0, 1),
         menkhodur_clear_square(bad, 0),
         menkhodur_side_to_move(bad, 0),
         menkhodur_castle_rights(bad, 0, 0),
         menkhodur_en_passant(bad, 0),
+        menkhodur_half_moves(bad, 0),
+        menkhodur_full_moves(bad, 1),
         menkhodur_board_after(bad, 1153),
         menkhodur_board_after(bad, u64::MAX),
     ];
@@ -102,11 +116,17 @@ fn a_refused_step_hands_its_record_back() {
         menkhodur_side_to_move(good, 2),
         menkhodur_castle_rights(good, 0, 4),
         menkhodur_en_passant(good, 9),
+        menkhodur_half_moves(good, 10_000),
+        menkhodur_half_moves(good, 65_536),
+        menkhodur_full_moves(good, 0),
+        menkhodur_full_moves(good, 65_537),
     ];
-    assert!(of_good.iter().all(|step| step.number == 5 && step.board.record() == [0; 68]));
+    assert!(of_good.iter().all(|step| step.number == 5 && step.board.record() == empty()));
+    let of_zeros = menkhodur_piece(Board::of(&zeros()), 0, 1);
+    assert_eq!((of_zeros.number, of_zeros.board.record()), (5, zeros()));
     for number in [28_672, 65_536, 65_536 + 1153, 70_000, (1 << 32) + 1153, u64::MAX] {
         let mut good = bad_record();
-        good[64] = 1;
+        good.numbers[64] = 1;
         let step = menkhodur_board_after(Board::of(&good), number);
         assert_eq!((step.number, step.board.record()), (6, good));
     }
@@ -114,12 +134,20 @@ fn a_refused_step_hands_its_record_back() {
 
 #[test]
 fn a_refused_fen_is_all_zeros_and_an_accepted_one_has_no_offset() {
-    let texts = [(&b"8/8 w -"[..], 18, 7), (b"", 18, 0), (b"rn9q x - -", 19, 2), (b"rnbq x - -", 20, 5), (b" w - -", 0, 0)];
-    for (text, number, offset) in texts {
-        // SAFETY: pointer and length are those of one slice, and the function only reads.
-        let fen = unsafe { menkhodur_fen_read(text.as_ptr(), text.len()) };
-        assert_eq!((fen.number, fen.offset, fen.board.record()), (number, offset, [0; 68]));
+    let refused = [(&b"8/8 w -"[..], 18, 7), (b"", 18, 0), (b"rn9q x - -", 19, 2), (b"rnbq x - -", 20, 5)];
+    let both = |text: &[u8]| {
+        // SAFETY: pointer and length are those of one slice, and the functions only read.
+        let answers = unsafe { [menkhodur_fen_read(text.as_ptr(), text.len()), menkhodur_fen_read_full(text.as_ptr(), text.len())] };
+        answers.map(|fen| (fen.number, fen.offset, fen.board.record()))
+    };
+    for (text, number, offset) in refused {
+        assert_eq!(both(text), [(number, offset, zeros()); 2]);
     }
+    for (text, offset) in [(&b" w - -"[..], 6), (b" w - - 258 0", 11), (b" w - - x", 7)] {
+        assert_eq!(both(text), [(0, 0, empty()), (25, offset, zeros())]);
+    }
+    let counted = lent::Record { half_moves: 258, full_moves: 772, ..empty() };
+    assert_eq!(both(b" w - - 258 772"), [(0, 0, empty()), (0, 0, counted)]);
 }
 
 #[test]
@@ -159,53 +187,64 @@ fn a_refused_value_is_zero_but_for_the_length_needed() {
         let answer = unsafe { menkhodur_fen_write(Board::of(record), room.as_mut_ptr(), room.len()) };
         (answer.number, answer.value)
     };
-    assert_eq!(write_fen(&[0; 68]), (7, 25));
+    assert_eq!(write_fen(&empty()), (7, 25));
     assert_eq!(write_fen(&bad_record()), (5, 0));
+    let mut write_full = |record: &lent::Record| {
+        // SAFETY: pointer and length are those of one slice, borrowed mutably.
+        let answer = unsafe { menkhodur_fen_write_full(Board::of(record), room.as_mut_ptr(), room.len()) };
+        (answer.number, answer.value)
+    };
+    assert_eq!(write_full(&lent::Record { half_moves: 10, full_moves: 100, ..empty() }), (7, 28));
+    assert_eq!((write_full(&bad_record()), write_full(&zeros())), ((5, 0), (5, 0)));
     let list = [1153];
     for (number, want) in [(1153, 8), (70_000, 11)] {
         // SAFETY: each pointer and length are those of one slice; the room of none is not written.
-        let answer = unsafe { menkhodur_san_name(Board::of(&[0; 68]), list.as_ptr(), 1, number, [].as_mut_ptr(), 0) };
+        let answer = unsafe { menkhodur_san_name(Board::of(&empty()), list.as_ptr(), 1, number, [].as_mut_ptr(), 0) };
         assert_eq!((answer.number, answer.value), (want, 0));
         // SAFETY: as above.
-        let answer = unsafe { menkhodur_san_name_standard(Board::of(&[0; 68]), list.as_ptr(), 1, number, [].as_mut_ptr(), 0) };
+        let answer = unsafe { menkhodur_san_name_standard(Board::of(&empty()), list.as_ptr(), 1, number, [].as_mut_ptr(), 0) };
         assert_eq!((answer.number, answer.value), (want, 0));
     }
     // SAFETY: each pointer and length are those of one slice, and the function only reads.
-    let answer = unsafe { menkhodur_san_read(Board::of(&[0; 68]), list.as_ptr(), 1, b"Nc3".as_ptr(), 3) };
+    let answer = unsafe { menkhodur_san_read(Board::of(&empty()), list.as_ptr(), 1, b"Nc3".as_ptr(), 3) };
     assert_eq!((answer.number, answer.value), (4, 0));
     // SAFETY: as above.
-    let answer = unsafe { menkhodur_san_read_standard(Board::of(&[0; 68]), list.as_ptr(), 1, b"Nc3".as_ptr(), 3) };
+    let answer = unsafe { menkhodur_san_read_standard(Board::of(&empty()), list.as_ptr(), 1, b"Nc3".as_ptr(), 3) };
     assert_eq!((answer.number, answer.value), (4, 0));
     let squares = [menkhodur_make_square(8, 0), menkhodur_rights_add(4, 0), menkhodur_rights_remove(0, 4), menkhodur_square_rights(2, 0)];
     assert!(squares.iter().all(|answer| (answer.number, answer.value) == (5, 0)));
 }
 
-#[test]
-fn a_refused_roll_hands_out_nothing() {
+type RollReader = unsafe extern "C" fn(*const u8, usize, *mut u8, usize) -> Roll;
+
+// A roll of 68 ones, which are a start with a pawn on each square, of `counters` and of an offer; then the same, spoilt.
+fn hands_out_nothing(reader: RollReader, counters: &[u8], start: lent::Record) {
     let mut actions = vec![0xA5; ACTIONS_PART];
     let mut read = |roll: &[u8], room: usize| {
         // SAFETY: each pointer and length are those of one slice or of its front, and the one that is written is borrowed mutably.
-        let rolled = unsafe { menkhodur_roll_read(roll.as_ptr(), roll.len(), actions[..room].as_mut_ptr(), room) };
+        let rolled = unsafe { reader(roll.as_ptr(), roll.len(), actions[..room].as_mut_ptr(), room) };
         (rolled.number, rolled.actions, rolled.board.record())
     };
-    // A start with a pawn on each square, and an offer; then the same, spoilt.
-    let mut roll = [1; 70];
-    roll[69] = 5;
-    let none = |number: u64| (number, 0, [0; 68]);
-    assert_eq!(read(&roll, ACTIONS_PART - 1), none(16));
-    assert_eq!(read(&roll[..69], ACTIONS_PART), none(17));
-    assert_eq!(read(&[&roll[..], &[0]].concat(), ACTIONS_PART), none(17));
-    roll[69] = 7;
-    assert_eq!(read(&roll, ACTIONS_PART), none(17));
-    roll[64] = 2;
-    assert_eq!(read(&roll, ACTIONS_PART), none(5));
-    roll[64] = 1;
+    let roll = |side: u8, rest: &[u8]| [&[1; 64], &[side, 1, 1, 1][..], counters, rest].concat();
+    let none = |number: u64| (number, 0, zeros());
+    assert_eq!(read(&roll(1, &[1, 5]), ACTIONS_PART - 1), none(16));
+    for wrong in [&[1][..], &[1, 5, 0], &[1, 7]] {
+        assert_eq!(read(&roll(1, wrong), ACTIONS_PART), none(17));
+    }
+    assert_eq!(read(&roll(2, &[1, 7]), ACTIONS_PART), none(5));
     // A count of 8,193.
-    roll[68..].copy_from_slice(&[0x81, 0x40]);
-    assert_eq!(read(&roll, ACTIONS_PART), none(13));
-    roll[68..].copy_from_slice(&[1, 5]);
-    assert_eq!(read(&roll, ACTIONS_PART), (0, 1, [1; 68]));
+    assert_eq!(read(&roll(1, &[0x81, 0x40]), ACTIONS_PART), none(13));
+    assert_eq!(read(&roll(1, &[1, 5]), ACTIONS_PART), (0, 1, start));
     assert_eq!(actions[..5], [2, 1, 0, 0, 0xA5]);
+}
+
+#[test]
+fn a_refused_roll_hands_out_nothing_old_or_new() {
+    let pawns = lent::Record::from([1; 68]);
+    hands_out_nothing(menkhodur_roll_read_old, &[], pawns);
+    // 258 is 2 + 128 * 2, and 772 is 4 + 128 * 6.
+    let counted = lent::Record { half_moves: 258, full_moves: 772, ..pawns };
+    hands_out_nothing(menkhodur_roll_read, &[128 + 2, 2, 128 + 4, 6], counted);
 }
 
 #[test]
@@ -216,10 +255,12 @@ fn a_refused_roll_has_no_length_but_the_one_needed() {
         let answer = unsafe { menkhodur_roll_write(Board::of(record), part.as_ptr(), part.len(), count, [].as_mut_ptr(), 0) };
         (answer.number, answer.value)
     };
-    assert_eq!(write(&actions, &[0; 68], 0), (7, 69));
-    assert_eq!(write(&actions, &[0; 68], 1), (17, 0));
-    assert_eq!(write(&actions, &[0; 68], 1 << 32), (13, 0));
+    assert_eq!(write(&actions, &empty(), 0), (7, 71));
+    assert_eq!(write(&actions, &lent::Record { half_moves: 128, full_moves: 128, ..empty() }, 0), (7, 73));
+    assert_eq!(write(&actions, &empty(), 1), (17, 0));
+    assert_eq!(write(&actions, &empty(), 1 << 32), (13, 0));
     assert_eq!(write(&actions, &bad_record(), 1 << 32), (5, 0));
+    assert_eq!(write(&actions, &zeros(), 1 << 32), (5, 0));
     assert_eq!(write(&actions[1..], &bad_record(), 1 << 32), (16, 0));
 }
 
@@ -231,7 +272,9 @@ fn refused_rolls_tell_no_length_of_what_differs() {
         let answer = unsafe { menkhodur_roll_differences(one, first.len(), other, second.len(), out.as_mut_ptr(), room) };
         (answer.number, answer.value)
     };
-    let (plain, mut pawn, mut room) = ([0; 69], [0; 69], [0xA5; 8]);
+    let (mut plain, mut room) = ([0; 71], [0xA5; 8]);
+    plain[69] = 1;
+    let mut pawn = plain;
     pawn[28] = 1;
     assert_eq!(differ(&[], &[13], &mut room), (17, 0));
     assert_eq!(differ(&[13], &[], &mut room), (5, 0));
@@ -247,25 +290,27 @@ fn refused_rolls_tell_no_length_of_what_differs() {
 fn a_start_gives_no_counts_and_leaves_the_actions() {
     let actions = vec![0xA5; ACTIONS_PART];
     let mut positions = vec![0xA5; POSITIONS_PART];
-    assert_eq!(start(&actions[1..], &mut positions, &[0; 68], 0, &[]), (16, 0, 0));
-    assert_eq!(start(&actions, &mut positions[1..], &[0; 68], 0, &[]), (16, 0, 0));
+    assert_eq!(start(&actions[1..], &mut positions, &empty(), 0, &[]), (16, 0, 0));
+    assert_eq!(start(&actions, &mut positions[1..], &empty(), 0, &[]), (16, 0, 0));
     assert_eq!(start(&actions, &mut positions, &bad_record(), 0, &[]), (5, 0, 0));
-    assert_eq!(start(&actions, &mut positions, &[0; 68], 2, &[]), (5, 0, 0));
-    assert_eq!(start(&actions, &mut positions, &[0; 68], 0, &[28_672]), (6, 0, 0));
+    assert_eq!(start(&actions, &mut positions, &zeros(), 0, &[]), (5, 0, 0));
+    assert_eq!(start(&actions, &mut positions, &empty(), 2, &[]), (5, 0, 0));
+    assert_eq!(start(&actions, &mut positions, &empty(), 0, &[28_672]), (6, 0, 0));
     assert!(positions.iter().all(|&byte| byte == 0xA5));
-    assert_eq!(start(&actions, &mut positions, &[0; 68], 0, &[1153]), (0, 0, 0));
+    assert_eq!(start(&actions, &mut positions, &empty(), 0, &[1153]), (0, 0, 0));
     assert!(actions.iter().all(|&byte| byte == 0xA5));
-    assert!(positions[580..].iter().all(|&byte| byte == 0xA5));
+    assert!(positions[POSITION_BYTES..].iter().all(|&byte| byte == 0xA5));
 }
 
 #[test]
 fn a_refused_ruling_is_all_zeros() {
     // A log with a move in it, whose ruling has something to lose.
     let (mut actions, mut positions) = (vec![0; ACTIONS_PART], vec![0; POSITIONS_PART]);
-    assert_eq!(start(&actions, &mut positions, &[0; 68], 0, &[1153]), (0, 0, 0));
+    assert_eq!(start(&actions, &mut positions, &empty(), 0, &[1153]), (0, 0, 0));
     actions[..4].copy_from_slice(&[1, 0, 129, 4]);
-    // The record after the only move of an empty board: the other side is to move.
-    positions[580 + 64] = 1;
+    // The record after the only move of an empty board: the other side is to move, at a clock of 1 and in move 1.
+    let next = &mut positions[POSITION_BYTES..];
+    (next[64], next[68], next[70]) = (1, 1, 1);
     let rule = |actions: &[u8], positions: &[u8], n: u64, m: u64| {
         // SAFETY: each pointer and length are those of one slice, and the function only reads.
         let r = unsafe { menkhodur_game_ruling(actions.as_ptr(), actions.len(), positions.as_ptr(), positions.len(), n, m) };
@@ -283,7 +328,7 @@ fn a_refused_ruling_is_all_zeros() {
 fn counts_of_a_refused_call_come_back_as_given() {
     let mut actions = vec![0; ACTIONS_PART];
     let mut positions = vec![0; POSITIONS_PART];
-    assert_eq!(start(&actions, &mut positions, &[0; 68], 0, &[1153]), (0, 0, 0));
+    assert_eq!(start(&actions, &mut positions, &empty(), 0, &[1153]), (0, 0, 0));
     let mut offer = |n: u64, m: u64, colour: u8| {
         let (part, room) = (actions.as_mut_ptr(), actions.len());
         // SAFETY: each pointer and length are those of one slice, and the one that is written is borrowed mutably.

@@ -19,20 +19,54 @@ use crate::ffi;
 
 pub use crate::entry::{StoredPosition, moves_among, stored_position};
 
-/// A board record: 64 squares from a1 (0 empty, 1 to 6 white pawn, knight, bishop, rook, queen, king, 7 to 12 black), the side to move
-/// (0 white, 1 black), white's rights, black's rights, and the en passant file (0 none, 1 to 8).
-pub type Record = [u8; 68];
+/// What a key names, a page holds and repetition compares: 64 squares from a1 (0 empty, 1 to 6 white pawn, knight, bishop, rook, queen, king,
+/// 7 to 12 black), the side to move (0 white, 1 black), white's rights, black's rights, and the en passant file (0 none, 1 to 8).
+pub type Numbers = [u8; 68];
+
+/// A board record: 68 numbers of one byte, and the two counters of a FEN. A record of zeros is not in range, for the move number is 0;
+/// [`Record::from`] gives the one with the counters 0 and 1. Records are ordered by their numbers, the first that differs deciding.
+///
+/// ```
+/// use menkhodur::Error;
+/// use menkhodur::lent::{self, Record};
+///
+/// let empty = Record::from([0; 68]);
+/// assert_eq!(empty, Record { numbers: [0; 68], half_moves: 0, full_moves: 1 });
+/// assert_eq!(lent::side_to_move(&Record { full_moves: 0, ..empty }, 1), Err(Error::OutOfRange));
+/// ```
+#[derive(Clone, Copy, Debug, PartialEq, Eq, PartialOrd, Ord, Hash)]
+pub struct Record {
+    /// The numbers of the position.
+    pub numbers: Numbers,
+    /// The half-move clock, 0 to 9,999: moves of either side since the last capture or pawn move.
+    pub half_moves: u16,
+    /// The number of the move, 1 to 9,999: one more after each move by black.
+    pub full_moves: u16,
+}
+
+/// The record with the counters 0 and 1, as a game begins.
+impl From<Numbers> for Record {
+    fn from(numbers: Numbers) -> Record {
+        Record { numbers, half_moves: 0, full_moves: 1 }
+    }
+}
 
 /// Bytes of one action in its part.
 pub const ACTION_BYTES: usize = 4;
 /// Bytes of one position in its part.
-pub const POSITION_BYTES: usize = 580;
+pub const POSITION_BYTES: usize = 584;
 /// The most actions that a log holds.
 pub const MAX_ACTIONS: usize = 8_192;
 /// The most moves that a log holds.
 pub const MAX_MOVES: usize = 4_096;
 /// The most moves that a list holds.
 pub const MAX_LIST: usize = 255;
+/// The largest that either counter of a record may be.
+pub const MAX_COUNT: u64 = 9_999;
+/// The most bytes that a FEN has whose counters are not the record's own: the key.
+pub const MAX_FEN: usize = 85;
+/// The most bytes that a FEN has with the record's own counters.
+pub const MAX_FULL_FEN: usize = 91;
 /// The moves of either side from which on a count lets a draw be claimed: fifty of each.
 pub const CLAIM_COUNT: usize = 100;
 /// The most levels of variations in PGN move text.
@@ -41,15 +75,15 @@ pub const DEEPEST_LEVEL: usize = 8;
 pub const ACTIONS_PART: usize = MAX_ACTIONS * ACTION_BYTES;
 /// The length that the part of the positions must have: a start and one after each move.
 pub const POSITIONS_PART: usize = (MAX_MOVES + 1) * POSITION_BYTES;
-/// The bytes of a page's room of records that each line has: a [`Record`].
+/// The bytes of a page's room of records that each line has: its [`Numbers`].
 pub const PAGE_RECORD: usize = 68;
 /// The numbers of a page's other room that each line has: the answer's number, then its offset.
 pub const PAGE_NUMBERS: usize = 2;
-/// The most bytes that a roll has: the record's, two of the count, one of each action, and three more of each move.
-pub const MAX_ROLL: usize = 68 + 2 + MAX_ACTIONS + 3 * MAX_MOVES;
+/// The most bytes that a roll has: the record's numbers, two of each counter and of the count, one of each action, and three more of each move.
+pub const MAX_ROLL: usize = PAGE_RECORD + 4 + 2 + MAX_ACTIONS + 3 * MAX_MOVES;
 
 /// The most bytes that the text of what differs between two rolls has.
-pub const MAX_DIFFERENCES: usize = 628;
+pub const MAX_DIFFERENCES: usize = 658;
 
 /// How many actions a log has, and how many of them are moves: what the next call on its parts is handed.
 #[must_use = "the next call on the log's parts must be handed these counts"]
@@ -83,7 +117,7 @@ pub struct MovePart {
     pub level: u64,
 }
 
-/// What a roll says besides the actions themselves, as [`roll_read`] gives it.
+/// What a roll says besides the actions themselves, as [`roll_read`] and [`roll_read_old`] give it.
 #[must_use = "the start is given here alone, and only the count tells which bytes of the part are the roll's"]
 #[derive(Clone, Copy, Debug, PartialEq, Eq, Hash)]
 pub struct Rolled {
@@ -94,16 +128,16 @@ pub struct Rolled {
 }
 
 /// What the two rulings on a draw rest on (document 02, order 5), as [`game_ruling`] gives it. The counts are of moves of either side, from
-/// the start if nothing has emptied them. A pawn move, a capture and a change of either side's castling rights each empty the run of
-/// positions, which then begins with the position after that move; a position's number is the number of moves that led to it.
-/// [`Ruling`](crate::Ruling) has the same in types.
+/// the start if nothing has emptied them, whatever the start's clock says. A pawn move, a capture and a change of either side's castling
+/// rights each empty the run of positions, which then begins with the position after that move; a position's number is the number of moves
+/// that led to it. [`Ruling`](crate::Ruling) has the same in types.
 #[derive(Clone, Copy, Debug, PartialEq, Eq, Hash)]
 pub struct Ruled {
     /// The moves since a pawn move, a capture or a change of rights: the reversible count of document 01.
     pub count: u64,
     /// The moves since a pawn move or a capture: the count of article 9.3 of the Laws.
     pub laws_count: u64,
-    /// How many earlier positions of the run equal the last.
+    /// How many earlier positions of the run equal the last, counters aside.
     pub equals: u64,
     /// The number of the earliest of them; 0 is the start, or none if `equals` is 0.
     pub first: u64,
@@ -170,8 +204,8 @@ pub fn square_rights(colour: u8, square: u8) -> Result<u8, Error> {
 /// ```
 /// use menkhodur::{Error, lent};
 ///
-/// let record = lent::piece(&[0; 68], 63, 12).unwrap();
-/// assert_eq!(record[63], 12);
+/// let record = lent::piece(&[0; 68].into(), 63, 12).unwrap();
+/// assert_eq!(record.numbers[63], 12);
 /// assert_eq!(lent::piece(&record, 63, 0), Err(Error::OutOfRange));
 /// ```
 pub fn piece(record: &Record, square: u8, code: u8) -> Result<Record, Error> {
@@ -181,9 +215,11 @@ pub fn piece(record: &Record, square: u8, code: u8) -> Result<Record, Error> {
 /// The record with a square empty. Refused: 5, also for a record that is out of range itself.
 ///
 /// ```
-/// let mut record = [0; 68];
-/// record[63] = 12;
-/// assert_eq!(menkhodur::lent::clear_square(&record, 63), Ok([0; 68]));
+/// use menkhodur::lent;
+///
+/// let king = lent::fen_read(b"7k w - -").unwrap();
+/// assert_eq!(king.numbers[63], 12);
+/// assert_eq!(lent::clear_square(&king, 63), Ok([0; 68].into()));
 /// ```
 pub fn clear_square(record: &Record, square: u8) -> Result<Record, Error> {
     ffi::menkhodur_clear_square(ffi::Board::of(record), square).judged()
@@ -192,7 +228,7 @@ pub fn clear_square(record: &Record, square: u8) -> Result<Record, Error> {
 /// The record with a side (0 or 1) to move. Refused: 5, also for a record that is out of range itself.
 ///
 /// ```
-/// assert_eq!(menkhodur::lent::side_to_move(&[0; 68], 1).unwrap()[64], 1);
+/// assert_eq!(menkhodur::lent::side_to_move(&[0; 68].into(), 1).unwrap().numbers[64], 1);
 /// ```
 pub fn side_to_move(record: &Record, colour: u8) -> Result<Record, Error> {
     ffi::menkhodur_side_to_move(ffi::Board::of(record), colour).judged()
@@ -201,7 +237,7 @@ pub fn side_to_move(record: &Record, colour: u8) -> Result<Record, Error> {
 /// The record with a colour's rights (0 to 3). Refused: 5, also for a record that is out of range itself.
 ///
 /// ```
-/// assert_eq!(menkhodur::lent::castle_rights(&[0; 68], 1, 3).unwrap()[64..], [0, 0, 3, 0]);
+/// assert_eq!(menkhodur::lent::castle_rights(&[0; 68].into(), 1, 3).unwrap().numbers[64..], [0, 0, 3, 0]);
 /// ```
 pub fn castle_rights(record: &Record, colour: u8, rights: u8) -> Result<Record, Error> {
     ffi::menkhodur_castle_rights(ffi::Board::of(record), colour, rights).judged()
@@ -210,32 +246,65 @@ pub fn castle_rights(record: &Record, colour: u8, rights: u8) -> Result<Record, 
 /// The record with an en passant file (1 to 8), or with none (0). Refused: 5, also for a record that is out of range itself.
 ///
 /// ```
-/// assert_eq!(menkhodur::lent::en_passant(&[0; 68], 5).unwrap()[67], 5);
+/// assert_eq!(menkhodur::lent::en_passant(&[0; 68].into(), 5).unwrap().numbers[67], 5);
 /// ```
 pub fn en_passant(record: &Record, file: u8) -> Result<Record, Error> {
     ffi::menkhodur_en_passant(ffi::Board::of(record), file).judged()
 }
 
+/// The record with a half-move clock (0 to 9,999), the number being judged as it is and never cut. Refused: 5, also for a record that is out
+/// of range itself.
+///
+/// ```
+/// use menkhodur::Error;
+/// use menkhodur::lent::{self, MAX_COUNT, Record};
+///
+/// let empty = Record::from([0; 68]);
+/// assert_eq!(lent::half_moves(&empty, MAX_COUNT), Ok(Record { half_moves: 9_999, ..empty }));
+/// assert_eq!(lent::half_moves(&empty, 65_536), Err(Error::OutOfRange));
+/// ```
+pub fn half_moves(record: &Record, half_moves: u64) -> Result<Record, Error> {
+    ffi::menkhodur_half_moves(ffi::Board::of(record), half_moves).judged()
+}
+
+/// The record with a move number (1 to 9,999), the number being judged as it is and never cut. Refused: 5, also for a record that is out of
+/// range itself.
+///
+/// ```
+/// use menkhodur::Error;
+/// use menkhodur::lent::{self, MAX_COUNT, Record};
+///
+/// let empty = Record::from([0; 68]);
+/// assert_eq!(lent::full_moves(&empty, MAX_COUNT), Ok(Record { full_moves: 9_999, ..empty }));
+/// assert_eq!(lent::full_moves(&empty, 0), Err(Error::OutOfRange));
+/// ```
+pub fn full_moves(record: &Record, full_moves: u64) -> Result<Record, Error> {
+    ffi::menkhodur_full_moves(ffi::Board::of(record), full_moves).judged()
+}
+
 /// The record after a move (document 02, order 9), which is the one that [`game_make_move`] asks for. For a legal move it is the
-/// original's; whether the move is legal is not asked. Refused: 5 for a record that is out of range, 6 for a number over 28,671.
+/// original's; whether the move is legal is not asked. The counters go on (order 12): the clock is 0 if a pawn stands on the move's source or
+/// anything on its destination, and else one more; the move number is one more if the record's side to move is black; both stop at 9,999.
+/// Refused: 5 for a record that is out of range, 6 for a number over 28,671.
 ///
 /// ```
 /// use menkhodur::{Error, lent};
 ///
-/// let castles = lent::fen_read(b"4k3/8/8/8/8/8/8/4K2R w K -").unwrap();
-/// assert_eq!(lent::board_after(&castles, 388), lent::fen_read(b"4k3/8/8/8/8/8/8/5RK1 b - -"));
+/// let castles = lent::fen_read_full(b"4k3/8/8/8/8/8/8/4K2R w K - 7 20").unwrap();
+/// assert_eq!(lent::board_after(&castles, 388), lent::fen_read_full(b"4k3/8/8/8/8/8/8/5RK1 b - - 8 20"));
 /// assert_eq!(lent::board_after(&castles, 70_000), Err(Error::ListOutOfRange));
 /// ```
 pub fn board_after(record: &Record, number: u64) -> Result<Record, Error> {
     ffi::menkhodur_board_after(ffi::Board::of(record), number).judged()
 }
 
-/// The record that a FEN text says. Refused: 18, 19, 20, with the place in the text.
+/// The record that a FEN text says, with the counters 0 and 1 whatever stands behind its fourth token. Refused: 18, 19, 20, with the place in
+/// the text.
 ///
 /// ```
 /// use menkhodur::{Error, lent};
 ///
-/// assert_eq!(lent::fen_read(b" w - -"), Ok([0; 68]));
+/// assert_eq!(lent::fen_read(b" w - - 5 10"), Ok([0; 68].into()));
 /// assert_eq!(lent::fen_read(&[255]), Err(Error::TooFewTokens { offset: 1 }));
 /// ```
 pub fn fen_read(text: &[u8]) -> Result<Record, Error> {
@@ -243,21 +312,61 @@ pub fn fen_read(text: &[u8]) -> Result<Record, Error> {
     unsafe { ffi::menkhodur_fen_read(text.as_ptr(), text.len()) }.judged()
 }
 
-/// Writes the record's FEN, 25 to 85 bytes, and gives its length. Refused: 5, 7.
+/// Writes the record's key, 25 to [`MAX_FEN`] bytes, and gives its length: the FEN that ends in ` 0 1` whatever the counters are. Two records
+/// have one key exactly if they have the same [`Numbers`]. Refused: 5, 7.
 ///
 /// ```
-/// use menkhodur::{Error, lent};
+/// use menkhodur::Error;
+/// use menkhodur::lent::{self, MAX_FEN, Record};
 ///
-/// assert_eq!(lent::fen_write(&[0; 68], &mut [0; 85]), Ok(25));
-/// assert_eq!(lent::fen_write(&[0; 68], &mut [0; 24]), Err(Error::OutputTooShort { needed: 25 }));
+/// let record = Record { numbers: [0; 68], half_moves: 5, full_moves: 10 };
+/// let mut room = [0; MAX_FEN];
+/// assert_eq!(lent::fen_write(&record, &mut room), Ok(25));
+/// assert_eq!(&room[..25], b"8/8/8/8/8/8/8/8 w - - 0 1");
+/// assert_eq!(lent::fen_write(&record, &mut [0; 24]), Err(Error::OutputTooShort { needed: 25 }));
 /// ```
 pub fn fen_write(record: &Record, out: &mut [u8]) -> Result<usize, Error> {
     // SAFETY: pointer and length are those of one slice, borrowed mutably for the call; nothing else that is passed points into it.
     length(unsafe { ffi::menkhodur_fen_write(ffi::Board::of(record), out.as_mut_ptr(), out.len()) })
 }
 
-/// Reads a page of FEN texts, one per line, and gives the number of lines. Each has the next 68 bytes of `records`, its record, or zeros if
-/// it is refused, and the next two of `numbers`, its answer number and its offset from the line's start, as [`fen_read`] gives them for the
+/// The record that a FEN text says with its counters (document 02, order 12): the fifth token is the half-move clock and the sixth the move
+/// number, each of one to four digits; tokens behind the sixth are ignored. Refused: 18, 19, 20 as [`fen_read`] gives them, then 25 for the
+/// fifth token and then for the sixth, with the place in the text.
+///
+/// ```
+/// use menkhodur::Error;
+/// use menkhodur::lent::{self, Record};
+///
+/// assert_eq!(lent::fen_read_full(b" w - - 5 10"), Ok(Record { numbers: [0; 68], half_moves: 5, full_moves: 10 }));
+/// assert_eq!(lent::fen_read_full(b" w - - 5 0"), Err(Error::BadCounter { offset: 9 }));
+/// assert_eq!(lent::fen_read_full(b" w - -"), Err(Error::BadCounter { offset: 6 }));
+/// ```
+pub fn fen_read_full(text: &[u8]) -> Result<Record, Error> {
+    // SAFETY: pointer and length are those of one slice, borrowed for the call, and the function only reads.
+    unsafe { ffi::menkhodur_fen_read_full(text.as_ptr(), text.len()) }.judged()
+}
+
+/// Writes the record's one FEN with its own counters, 25 to [`MAX_FULL_FEN`] bytes, and gives its length; [`fen_read_full`] reads it as
+/// exactly this record. Refused: 5, 7.
+///
+/// ```
+/// use menkhodur::Error;
+/// use menkhodur::lent::{self, MAX_FULL_FEN, Record};
+///
+/// let record = Record { numbers: [0; 68], half_moves: 5, full_moves: 10 };
+/// let mut room = [0; MAX_FULL_FEN];
+/// assert_eq!(lent::fen_write_full(&record, &mut room), Ok(26));
+/// assert_eq!(&room[..26], b"8/8/8/8/8/8/8/8 w - - 5 10");
+/// assert_eq!(lent::fen_write_full(&record, &mut [0; 25]), Err(Error::OutputTooShort { needed: 26 }));
+/// ```
+pub fn fen_write_full(record: &Record, out: &mut [u8]) -> Result<usize, Error> {
+    // SAFETY: pointer and length are those of one slice, borrowed mutably for the call; nothing else that is passed points into it.
+    length(unsafe { ffi::menkhodur_fen_write_full(ffi::Board::of(record), out.as_mut_ptr(), out.len()) })
+}
+
+/// Reads a page of FEN texts, one per line, and gives the number of lines. Each has the next 68 bytes of `records`, its [`Numbers`], or zeros
+/// if it is refused, and the next two of `numbers`, its answer number and its offset from the line's start, as [`fen_read`] gives them for the
 /// line alone; what lies behind the last line's is left alone. A newline byte ends a line; an unended last line counts if it has a byte in
 /// it. Refused: 7, with the number of lines, if either room is too short. [`Page`](crate::Page) has the same in types.
 ///
@@ -378,9 +487,11 @@ pub fn san_name_standard(record: &Record, list: &[u16], number: u64, out: &mut [
 ///
 /// let actions = vec![0; ACTIONS_PART];
 /// let mut positions = vec![0; POSITIONS_PART];
-/// let start = Given { record: &[0; 68], in_check: 0, list: &[1153] };
+/// let start = lent::fen_read_full(b" w - - 258 3").unwrap();
+/// let start = Given { record: &start, in_check: 0, list: &[1153] };
 /// assert_eq!(lent::game_start(&actions, &mut positions, start), Ok(Counts { actions: 0, moves: 0 }));
-/// assert_eq!(positions[68..72], [0, 1, 129, 4]);
+/// // The two counters, the in-check byte, the length of the list, and the move.
+/// assert_eq!(positions[68..76], [2, 1, 3, 0, 0, 1, 129, 4]);
 /// ```
 pub fn game_start(actions: &[u8], positions: &mut [u8], start: Given<'_>) -> Result<Counts, Error> {
     let board = ffi::Board::of(start.record);
@@ -436,7 +547,7 @@ pub fn game_make_move(actions: &mut [u8], positions: &mut [u8], counts: Counts, 
 /// use menkhodur::lent::{self, ACTIONS_PART, Given, POSITIONS_PART};
 ///
 /// let (mut actions, mut positions) = (vec![0; ACTIONS_PART], vec![0; POSITIONS_PART]);
-/// let start = Given { record: &[0; 68], in_check: 0, list: &[1153] };
+/// let start = Given { record: &[0; 68].into(), in_check: 0, list: &[1153] };
 /// let counts = lent::game_start(&actions, &mut positions, start).unwrap();
 /// let counts = lent::game_offer_draw(&mut actions, &positions, counts, 1).unwrap();
 /// assert_eq!((counts.actions, counts.moves), (1, 0));
@@ -457,7 +568,7 @@ pub fn game_offer_draw(actions: &mut [u8], positions: &[u8], counts: Counts, col
 /// use menkhodur::lent::{self, ACTIONS_PART, Given, POSITIONS_PART};
 ///
 /// let (mut actions, mut positions) = (vec![0; ACTIONS_PART], vec![0; POSITIONS_PART]);
-/// let start = Given { record: &[0; 68], in_check: 0, list: &[1153] };
+/// let start = Given { record: &[0; 68].into(), in_check: 0, list: &[1153] };
 /// let counts = lent::game_start(&actions, &mut positions, start).unwrap();
 /// let counts = lent::game_resign(&mut actions, &positions, counts, 1).unwrap();
 /// assert_eq!(lent::game_result(&actions, &positions, counts), Ok(4));
@@ -486,7 +597,7 @@ pub fn game_accept_draw(actions: &mut [u8], positions: &[u8], counts: Counts) ->
 /// use menkhodur::lent::{self, ACTIONS_PART, Given, POSITIONS_PART};
 ///
 /// let (mut actions, mut positions) = (vec![0; ACTIONS_PART], vec![0; POSITIONS_PART]);
-/// let start = Given { record: &[0; 68], in_check: 0, list: &[1153] };
+/// let start = Given { record: &[0; 68].into(), in_check: 0, list: &[1153] };
 /// let counts = lent::game_start(&actions, &mut positions, start).unwrap();
 /// assert_eq!(lent::game_can_declare_draw(&actions, &positions, counts), Ok(false));
 /// assert_eq!(lent::game_declare_draw(&mut actions, &positions, counts), Err(Error::NoClaim));
@@ -533,7 +644,7 @@ pub fn game_can_claim_by_laws(actions: &[u8], positions: &[u8], counts: Counts) 
 ///
 /// let (mut actions, mut positions) = (vec![0; ACTIONS_PART], vec![0; POSITIONS_PART]);
 /// let start = lent::fen_read(b"8/8/8/8/8/8/8/4K2R w K -").unwrap();
-/// let next = lent::fen_read(b"8/8/8/8/8/8/8/4K1R1 b - -").unwrap();
+/// let next = lent::fen_read_full(b"8/8/8/8/8/8/8/4K1R1 b - - 1 1").unwrap();
 /// let counts = lent::game_start(&actions, &mut positions, Given { record: &start, in_check: 0, list: &[391] }).unwrap();
 /// let next = Given { record: &next, in_check: 0, list: &[1153] };
 /// let counts = lent::game_make_move(&mut actions, &mut positions, counts, 391, next).unwrap();
@@ -549,20 +660,23 @@ pub fn game_ruling(actions: &[u8], positions: &[u8], counts: Counts) -> Result<R
     unsafe { ffi::menkhodur_game_ruling(actions.as_ptr(), actions.len(), positions.as_ptr(), positions.len(), n, m) }.judged()
 }
 
-/// Writes the roll of a start and of the first `count` actions of a part, 69 to 20,550 bytes, and gives its length. Refused: 16, 5, 13, 17,
-/// 7.
+/// Writes the roll of a start and of the first `count` actions of a part, 71 to [`MAX_ROLL`] bytes, and gives its length. Refused: 16, 5, 13,
+/// 17, 7.
 ///
 /// ```
 /// use menkhodur::Error;
-/// use menkhodur::lent::{self, ACTIONS_PART, MAX_ROLL};
+/// use menkhodur::lent::{self, ACTIONS_PART, MAX_ROLL, Record};
 ///
 /// let (mut actions, mut room) = (vec![0; ACTIONS_PART], [0; MAX_ROLL]);
 /// actions[..8].copy_from_slice(&[1, 0, 12, 7, 5, 1, 0, 0]);
-/// assert_eq!(lent::roll_write(&[0; 68], &actions, 2, &mut room), Ok(73));
+/// let start = Record { numbers: [0; 68], half_moves: 130, full_moves: 20 };
+/// assert_eq!(lent::roll_write(&start, &actions, 2, &mut room), Ok(76));
 /// assert_eq!(room[..68], [0; 68]);
+/// // The clock 130, which is 2 + 128 * 1, and the move number 20.
+/// assert_eq!(room[68..71], [128 + 2, 1, 20]);
 /// // Two actions: the move 1,804, which is 12 + 128 * 14, and black resigns.
-/// assert_eq!(room[68..73], [2, 2, 128 + 12, 14, 11]);
-/// assert_eq!(lent::roll_write(&[0; 68], &actions, 3, &mut room), Err(Error::BadRoll));
+/// assert_eq!(room[71..76], [2, 2, 128 + 12, 14, 11]);
+/// assert_eq!(lent::roll_write(&start, &actions, 3, &mut room), Err(Error::BadRoll));
 /// ```
 pub fn roll_write(record: &Record, actions: &[u8], count: u64, out: &mut [u8]) -> Result<usize, Error> {
     let (board, part, room) = (ffi::Board::of(record), actions.as_ptr(), out.len());
@@ -571,18 +685,18 @@ pub fn roll_write(record: &Record, actions: &[u8], count: u64, out: &mut [u8]) -
     length(unsafe { ffi::menkhodur_roll_write(board, part, actions.len(), count, out.as_mut_ptr(), room) })
 }
 
-/// Reads a roll: the start and the count are given, and the actions are written to the front of the part. Refused: 16, then the first
-/// from the left of 5, 13 and 17.
+/// Reads a roll: the start and the count are given, and the actions are written to the front of the part. A roll without counters is
+/// [`roll_read_old`]'s. Refused: 16, then the first from the left of 5, 13 and 17.
 ///
 /// ```
 /// use menkhodur::Error;
-/// use menkhodur::lent::{self, ACTIONS_PART};
+/// use menkhodur::lent::{self, ACTIONS_PART, Record};
 ///
 /// let mut roll = vec![0; 68];
-/// roll.extend([2, 2, 128 + 12, 14, 11]);
+/// roll.extend([7, 20, 2, 2, 128 + 12, 14, 11]);
 /// let mut actions = vec![0xA5; ACTIONS_PART];
 /// let rolled = lent::roll_read(&roll, &mut actions).unwrap();
-/// assert_eq!((rolled.record, rolled.actions), ([0; 68], 2));
+/// assert_eq!((rolled.record, rolled.actions), (Record { numbers: [0; 68], half_moves: 7, full_moves: 20 }, 2));
 /// assert_eq!(actions[..9], [1, 0, 12, 7, 5, 1, 0, 0, 0xA5]);
 /// assert_eq!(lent::roll_read(&roll[1..], &mut actions), Err(Error::BadRoll));
 /// ```
@@ -592,6 +706,29 @@ pub fn roll_read(roll: &[u8], actions: &mut [u8]) -> Result<Rolled, Error> {
     unsafe { ffi::menkhodur_roll_read(roll.as_ptr(), roll.len(), actions.as_mut_ptr(), actions.len()) }.judged()
 }
 
+/// Reads an old roll, one from before version 12, which has no counters: the start gets 0 and 1. All else is as for [`roll_read`]. Written by
+/// [`roll_write`], what it gives is the old roll with the bytes 0 and 1 put in behind its 68th.
+///
+/// Bytes can be both an old roll and a new one, and then they say two things. So never try one call after the other: a store must know
+/// which kind it keeps.
+///
+/// ```
+/// use menkhodur::lent::{self, ACTIONS_PART};
+///
+/// let both = [&[0; 68][..], &[1, 2, 0]].concat();
+/// let mut actions = vec![0; ACTIONS_PART];
+/// let old = lent::roll_read_old(&both, &mut actions).unwrap();
+/// // One action, the move 0.
+/// assert_eq!((old.record, old.actions, &actions[..4]), ([0; 68].into(), 1, &[1, 0, 0, 0][..]));
+/// let new = lent::roll_read(&both, &mut actions).unwrap();
+/// assert_eq!((new.record.half_moves, new.record.full_moves, new.actions), (1, 2, 0));
+/// ```
+pub fn roll_read_old(roll: &[u8], actions: &mut [u8]) -> Result<Rolled, Error> {
+    // SAFETY: each pointer and length are those of one slice. The actions, all that is written, are borrowed mutably for the call, so that
+    // the roll cannot lie in them.
+    unsafe { ffi::menkhodur_roll_read_old(roll.as_ptr(), roll.len(), actions.as_mut_ptr(), actions.len()) }.judged()
+}
+
 /// Writes what differs between two rolls (document 02, order 10), at most [`MAX_DIFFERENCES`] bytes, and gives the text's length: 0 exactly
 /// if the rolls are equal. Refused: 5, 13 or 17 as [`roll_read`] gives it, first roll first, then 7.
 ///
@@ -599,13 +736,14 @@ pub fn roll_read(roll: &[u8], actions: &mut [u8]) -> Result<Rolled, Error> {
 /// use menkhodur::Error;
 /// use menkhodur::lent::{self, MAX_DIFFERENCES};
 ///
-/// let (plain, mut pawn, mut room) = ([0; 69], [0; 69], [0; MAX_DIFFERENCES]);
+/// let plain = [&[0; 68][..], &[0, 1, 0]].concat();
+/// let (mut pawn, mut room) = (plain.clone(), [0; MAX_DIFFERENCES]);
 /// pawn[28] = 1;
 /// assert_eq!(lent::roll_differences(&pawn, &plain, &mut room), Ok(7));
 /// assert_eq!(&room[..7], b"28 1 0\n");
 /// assert_eq!(lent::roll_differences(&plain, &plain, &mut room), Ok(0));
 /// assert_eq!(lent::roll_differences(&pawn, &plain, &mut []), Err(Error::OutputTooShort { needed: 7 }));
-/// assert_eq!(lent::roll_differences(&plain, &pawn[1..], &mut room), Err(Error::BadRoll));
+/// assert_eq!(lent::roll_differences(&plain, &pawn[..70], &mut room), Err(Error::BadRoll));
 /// ```
 pub fn roll_differences(first: &[u8], second: &[u8], out: &mut [u8]) -> Result<usize, Error> {
     let (one, other, room) = (first.as_ptr(), second.as_ptr(), out.len());
@@ -648,8 +786,8 @@ pub fn pgn_next(text: &[u8], offset: u64, level: u64) -> Result<Option<MovePart>
     Ok((next.found == 1).then_some(MovePart { start: next.start as usize, length: next.length as usize, level: next.level }))
 }
 
-// The contracts bound the values: squares to 63, rights to 3, results to 7, moves to 28,671, lengths to 20,550,
-// the lines of a page to the bytes of its text. The casts cut nothing.
+// The contracts bound the values: squares to 63, rights to 3, results to 7, moves to 28,671, lengths to those of the longest roll, the lines
+// of a page to the bytes of its text. The casts cut nothing.
 
 fn byte(answer: ffi::Answer) -> Result<u8, Error> {
     answer.judged().map(|value| value as u8)

@@ -20,6 +20,9 @@
 //! # }
 //! ```
 //!
+//! A board has the two counters of a FEN, the half-move clock and the move number, and [`Board::to_fen_full`] writes them. Its key,
+//! [`Board::to_fen`], does not have them: a position is filed once, however it was reached.
+//!
 //! The archive is linked at build time and is part of the program from then on. `build.rs` takes the one in the directory that
 //! `MENKHODUR_ARCHIVE_DIR` names; without that variable it takes the repository's own, and first has `rt staticlib menkhodur` build it if
 //! it is missing or older than a source. An archive of another version than [`VERSION`] is refused there.

@@ -79,7 +79,7 @@ impl fmt::Display for GameResult {
 }
 
 /// A game from its start: what was done, and each position that came up. A log is always good: some sequence of accepted calls has made
-/// it. A refused call leaves it as it was. Each log keeps the two parts whole on the heap, 602,692 bytes.
+/// it. A refused call leaves it as it was. Each log keeps the two parts whole on the heap, 2,425,416 bytes.
 ///
 /// ```
 /// use menkhodur::{Board, Color, Error, GameResult, Log, Move, Position};
@@ -89,7 +89,7 @@ impl fmt::Display for GameResult {
 ///
 /// let replies = [Move::from_text("b8c6").unwrap()];
 /// log.play(list[0], false, &replies).unwrap();
-/// assert_eq!(log.current_position().to_fen(), "rnbqkbnr/pppppppp/8/8/8/2N5/PPPPPPPP/R1BQKBNR b KQkq - 0 1");
+/// assert_eq!(log.current_position().to_fen_full(), "rnbqkbnr/pppppppp/8/8/8/2N5/PPPPPPPP/R1BQKBNR b KQkq - 1 1");
 ///
 /// log.resign(Color::Black).unwrap();
 /// assert_eq!(log.result(), Some(GameResult::BlackResigns));
@@ -141,7 +141,7 @@ impl Log {
     /// ```
     pub fn from_parts(actions: &[u8], positions: &[u8], counts: Counts) -> Result<Log, Error> {
         let (actions_used, positions_used) = used(counts);
-        // Zeros in place of a missing position could pass for one, so what is missing is refused before anything is copied.
+        // Zeros in place of missing bytes could pass for the end of a list, so what is missing is refused before anything is copied.
         let actions = actions.get(..actions_used).ok_or(Error::PartTooShort)?;
         let positions = positions.get(..positions_used).ok_or(Error::PartTooShort)?;
         let mut log = Log::blank();
@@ -160,9 +160,9 @@ impl Log {
         }
     }
 
-    /// Makes a move of the current position's list; `next` is the position after it, and its board is the one that [`Board::after`] gives.
-    /// [`Log::play`] computes it instead. Refused, in this order: [`Error::GameOver`], [`Error::MoveNotListed`], [`Error::ListOutOfRange`]
-    /// for more than 255 moves in `next`, [`Error::WrongSideToMove`], [`Error::WrongRecord`], [`Error::LogFull`].
+    /// Makes a move of the current position's list; `next` is the position after it, and its board is the one that [`Board::after`] gives, with
+    /// its counters. [`Log::play`] computes it instead. Refused, in this order: [`Error::GameOver`], [`Error::MoveNotListed`],
+    /// [`Error::ListOutOfRange`] for more than 255 moves in `next`, [`Error::WrongSideToMove`], [`Error::WrongRecord`], [`Error::LogFull`].
     ///
     /// ```
     /// use menkhodur::{Board, Color, Error, Log, Move, Position};
@@ -195,7 +195,7 @@ impl Log {
     /// let mut log = Log::start(&Position { board, in_check: false, list: &list }).unwrap();
     /// assert_eq!(log.play(Move::from_text("h1h8").unwrap(), true, &[]), Err(Error::MoveNotListed));
     /// log.play(list[0], false, &[Move::from_text("e8e7").unwrap()]).unwrap();
-    /// assert_eq!(log.current_position().to_fen(), "4k3/8/8/8/8/8/8/5RK1 b - - 0 1");
+    /// assert_eq!(log.current_position().to_fen_full(), "4k3/8/8/8/8/8/8/5RK1 b - - 1 1");
     /// ```
     pub fn play(&mut self, chess_move: Move, in_check: bool, list: &[Move]) -> Result<(), Error> {
         let board = self.current_position().after(chess_move);
@@ -326,7 +326,7 @@ impl Log {
     /// let list = [Move::from_text("b1c3").unwrap()];
     /// let mut log = Log::start(&Position { board: Board::default(), in_check: false, list: &list }).unwrap();
     /// log.play(list[0], false, &[]).unwrap();
-    /// let after = Board::from_fen("rnbqkbnr/pppppppp/8/8/8/2N5/PPPPPPPP/R1BQKBNR b KQkq -").unwrap();
+    /// let after = Board::from_fen_full("rnbqkbnr/pppppppp/8/8/8/2N5/PPPPPPPP/R1BQKBNR b KQkq - 1 1").unwrap();
     /// assert_eq!(log.positions().map(|position| position.board).collect::<Vec<_>>(), [Board::default(), after]);
     ///
     /// let made = log.actions().filter_map(|action| if let Action::MakeMove(made) = action { Some(made) } else { None });
@@ -411,8 +411,8 @@ impl Log {
         self.counts
     }
 
-    /// The game's roll: its start and what was done, without the positions after it, in at most 20,550 bytes. [`Roll`](crate::Roll) reads
-    /// it again.
+    /// The game's roll: its start and what was done, without the positions after it, in at most [`lent::MAX_ROLL`] bytes.
+    /// [`Roll`](crate::Roll) reads it again.
     ///
     /// ```
     /// use menkhodur::{Action, Board, Color, Log, Move, Position, Roll};
@@ -421,7 +421,7 @@ impl Log {
     /// let mut log = Log::start(&Position { board: Board::default(), in_check: false, list: &list }).unwrap();
     /// log.resign(Color::Black).unwrap();
     /// let roll = log.to_roll();
-    /// assert_eq!(roll[68..], [1, 11]);
+    /// assert_eq!(roll[68..], [0, 1, 1, 11]);
     /// assert_eq!(Roll::from_bytes(&roll).unwrap().actions, [Action::Resign(Color::Black)]);
     /// ```
     #[must_use]
@@ -436,7 +436,7 @@ impl Log {
         &self.actions[..used(self.counts).0]
     }
 
-    /// The used bytes of the positions' part, 580 for the start and for each move. [`Log::from_parts`] has an example.
+    /// The used bytes of the positions' part, 584 for the start and for each move. [`Log::from_parts`] has an example.
     #[must_use]
     pub fn used_positions(&self) -> &[u8] {
         bytes(self.used_pairs())

@@ -2,7 +2,7 @@
 
 use crate::board::Board;
 use crate::error::{Error, certain};
-use crate::lent::{self, PAGE_NUMBERS, Record};
+use crate::lent::{self, Numbers, PAGE_NUMBERS, PAGE_RECORD, Record};
 use std::fmt;
 use std::io::BufRead;
 use std::iter::FusedIterator;
@@ -20,7 +20,7 @@ use std::iter::FusedIterator;
 /// ```
 #[derive(Clone, Debug, Default)]
 pub struct PageReader {
-    records: Vec<Record>,
+    records: Vec<Numbers>,
     numbers: Vec<[u64; PAGE_NUMBERS]>,
 }
 
@@ -42,7 +42,7 @@ impl PageReader {
     /// ```
     #[must_use]
     pub fn for_lines(lines: usize) -> PageReader {
-        PageReader { records: vec![[0; 68]; lines], numbers: vec![[0; PAGE_NUMBERS]; lines] }
+        PageReader { records: vec![[0; PAGE_RECORD]; lines], numbers: vec![[0; PAGE_NUMBERS]; lines] }
     }
 
     /// Reads the lines of a text: one call, or a second one if the rooms had to grow. The text is any bytes; [`Page`] tells what a line is.
@@ -65,7 +65,8 @@ impl PageReader {
     }
 }
 
-/// What the lines of a text were read as (document 02, order 7), each as [`Board::from_fen`] reads it by itself.
+/// What the lines of a text were read as (document 02, order 7), each as [`Board::from_fen`] reads it by itself, so that every board has the
+/// counters 0 and 1.
 ///
 /// A newline byte ends a line and belongs to none. An unended last line counts if it has a byte in it, so that an empty text has no line. No
 /// other byte ends a line: a carriage return before the newline is the last byte of its line.
@@ -89,7 +90,7 @@ impl PageReader {
 #[derive(Clone, Copy)]
 pub struct Page<'a> {
     text: &'a [u8],
-    records: &'a [Record],
+    records: &'a [Numbers],
     numbers: &'a [[u64; PAGE_NUMBERS]],
 }
 
@@ -105,7 +106,7 @@ impl<'a> Page<'a> {
     /// assert_eq!((records, numbers), ([[0; 68], [9; 68]], [[0; 2], [9; 2], [9; 2]]));
     /// assert_eq!(Page::lent(b"\n\n\n", &mut records, &mut numbers).unwrap_err(), Error::PageTooShort { lines: 3 });
     /// ```
-    pub fn lent(text: &'a [u8], records: &'a mut [Record], numbers: &'a mut [[u64; PAGE_NUMBERS]]) -> Result<Page<'a>, Error> {
+    pub fn lent(text: &'a [u8], records: &'a mut [Numbers], numbers: &'a mut [[u64; PAGE_NUMBERS]]) -> Result<Page<'a>, Error> {
         let lines = lent::fen_page(text, records.as_flattened_mut(), numbers.as_flattened_mut())?;
         Ok(Page { text, records: &records[..lines], numbers: &numbers[..lines] })
     }
@@ -132,7 +133,8 @@ impl<'a> Page<'a> {
         self.text
     }
 
-    /// The records of all lines, in order, where they lie; 68 zeros for one that was refused. `as_flattened` makes one row of bytes of them.
+    /// The records of all lines, in order, where they lie and without counters; 68 zeros for one that was refused. `as_flattened` makes one row
+    /// of bytes of them.
     ///
     /// ```
     /// let mut reader = menkhodur::PageReader::new();
@@ -140,7 +142,7 @@ impl<'a> Page<'a> {
     /// assert_eq!(page.records().iter().map(|record| (record[56], record[64])).collect::<Vec<_>>(), [(6, 0), (0, 0), (0, 1)]);
     /// ```
     #[must_use]
-    pub fn records(&self) -> &'a [Record] {
+    pub fn records(&self) -> &'a [Numbers] {
         self.records
     }
 
@@ -181,8 +183,8 @@ impl<'a> Page<'a> {
     }
 }
 
-fn answer(record: &Record, &[number, offset]: &[u64; PAGE_NUMBERS]) -> Result<Board, Error> {
-    Error::judge(number, offset).map(|()| Board::of_good_log(*record))
+fn answer(record: &Numbers, &[number, offset]: &[u64; PAGE_NUMBERS]) -> Result<Board, Error> {
+    Error::judge(number, offset).map(|()| Board::of_good_log(Record::from(*record)))
 }
 
 impl<'a> IntoIterator for Page<'a> {
@@ -223,7 +225,7 @@ impl fmt::Debug for Page<'_> {
 #[derive(Clone)]
 pub struct Answers<'a> {
     rest: &'a [u8],
-    records: &'a [Record],
+    records: &'a [Numbers],
     numbers: &'a [[u64; PAGE_NUMBERS]],
 }
 

@@ -54,9 +54,9 @@ impl fmt::Display for Reason {
 /// Whether a draw may be claimed in a log, by document 01 and by the Laws (document 02, order 5), and what both rulings rest on, as
 /// [`Log::ruling`](crate::Log::ruling) gives it.
 ///
-/// Moves are those of either side. A pawn move, a capture and a change of either side's castling rights each empty the run of positions,
-/// which then begins with the position after that move. A position goes by the number of moves that led to it, 0 for the start, as
-/// [`Log::positions`](crate::Log::positions) has them.
+/// Moves are those of either side, counted from the log's start on, whatever its clock says. A pawn move, a capture and a change of either
+/// side's castling rights each empty the run of positions, which then begins with the position after that move. A position goes by the
+/// number of moves that led to it, 0 for the start, as [`Log::positions`](crate::Log::positions) has them.
 ///
 /// ```
 /// use menkhodur::{Board, Log, Move, Position, Reason};
@@ -88,7 +88,7 @@ pub struct Ruling {
     pub count: usize,
     /// The moves since a pawn move or a capture, or since the start: the count of article 9.3, never below `count`.
     pub laws_count: usize,
-    /// How many earlier positions of the run equal the last, in board and list.
+    /// How many earlier positions of the run equal the last, in board, counters aside, and list.
     pub equals: usize,
     /// The two earliest of them.
     pub earliest: [Option<usize>; 2],

@@ -1,7 +1,7 @@
 //! Accepted answers of every function, and of the types over them.
 
 use crate::common::{Numbers, Parts, moves, random_record};
-use menkhodur::lent::{self, Given};
+use menkhodur::lent::{self, Given, POSITION_BYTES, Record};
 use menkhodur::{
     ALL_CASTLE_RIGHTS, ALL_COLORS, ALL_FILES, ALL_PIECES, ALL_RANKS, Board, CastleRights, Color, Counts, Error, File, MAX_MOVE, Move,
     Piece, Square,
@@ -45,9 +45,10 @@ fn steps_set_one_number() {
         let given = random_record(&mut numbers);
         let (square, code) = (numbers.below(64) as u8, 1 + numbers.below(12) as u8);
         let (colour, rights, file) = (numbers.below(2) as u8, numbers.below(4) as u8, numbers.below(9) as u8);
+        let (half, full) = (numbers.below(10_000), 1 + numbers.below(9_999));
         let with = |place: u8, number: u8| {
             let mut record = given;
-            record[usize::from(place)] = number;
+            record.numbers[usize::from(place)] = number;
             Ok(record)
         };
         assert_eq!(lent::piece(&given, square, code), with(square, code));
@@ -55,6 +56,8 @@ fn steps_set_one_number() {
         assert_eq!(lent::side_to_move(&given, colour), with(64, colour));
         assert_eq!(lent::castle_rights(&given, colour, rights), with(65 + colour, rights));
         assert_eq!(lent::en_passant(&given, file), with(67, file));
+        assert_eq!(lent::half_moves(&given, half), Ok(Record { half_moves: half as u16, ..given }));
+        assert_eq!(lent::full_moves(&given, full), Ok(Record { full_moves: full as u16, ..given }));
     }
 }
 
@@ -94,11 +97,11 @@ fn each_record_has_one_key_that_reads_back() {
     let mut numbers = Numbers(1);
     for _ in 0..2_000 {
         let record = random_record(&mut numbers);
-        let board = Board::from_numbers(&record).unwrap();
+        let board = Board::from_record(&record).unwrap();
         let key = board.to_fen();
         assert!((25..=85).contains(&key.len()), "{key}");
-        assert_eq!(Board::from_fen(&key), Ok(board));
-        assert_eq!(board.numbers(), &record);
+        assert_eq!(Board::from_fen(&key), Board::from_numbers(&record.numbers));
+        assert_eq!((board.record(), board.numbers()), (&record, &record.numbers));
 
         let mut room = [0xA5; 100];
         assert_eq!(lent::fen_write(&record, &mut room), Ok(key.len()));
@@ -149,12 +152,12 @@ fn names_are_read_as_their_moves() {
 #[test]
 fn log_calls_write_exactly_their_bytes() {
     let knight = lent::fen_read(b"8/8/8/8/8/8/8/1N6 w - -").unwrap();
-    let moved = lent::fen_read(b"8/8/8/8/8/2N5/8/8 b - -").unwrap();
+    let (knight, moved) = (lent::half_moves(&knight, 258).unwrap(), lent::fen_read_full(b"8/8/8/8/8/2N5/8/8 b - - 259 1").unwrap());
     let mut parts = Parts::start(&knight, &[1153, 28_671]);
     let mut want = Parts::unused();
-    want.positions[..580].fill(0);
-    want.positions[..68].copy_from_slice(&knight);
-    want.positions[68..74].copy_from_slice(&[0, 2, 129, 4, 255, 111]);
+    want.positions[..584].fill(0);
+    want.positions[..68].copy_from_slice(&knight.numbers);
+    want.positions[68..78].copy_from_slice(&[2, 1, 1, 0, 0, 2, 129, 4, 255, 111]);
     assert!(parts == want);
 
     parts.counts = parts.offer_draw(1).unwrap();
@@ -164,9 +167,10 @@ fn log_calls_write_exactly_their_bytes() {
 
     parts.counts = parts.make_move(1153, Given { record: &moved, in_check: 1, list: &[66] }).unwrap();
     want.actions[4..8].copy_from_slice(&[1, 0, 129, 4]);
-    want.positions[580..1160].fill(0);
-    want.positions[580..648].copy_from_slice(&moved);
-    want.positions[648..652].copy_from_slice(&[1, 1, 66, 0]);
+    let second = &mut want.positions[POSITION_BYTES..][..584];
+    second.fill(0);
+    second[..68].copy_from_slice(&moved.numbers);
+    second[68..76].copy_from_slice(&[3, 1, 1, 0, 1, 1, 66, 0]);
     want.counts = Counts { actions: 2, moves: 1 };
     assert!(parts == want);
 
@@ -188,10 +192,10 @@ fn resigning_and_declaring_write_their_bytes() {
 
     // A move from an empty square to itself leaves every man in place, so the run is three turns of two.
     let mut parts = Parts::start(&knight, &[0]);
-    let waiting = lent::side_to_move(&knight, 1).unwrap();
-    for record in [&waiting, &knight, &waiting, &knight] {
+    for (side, half_moves, full_moves) in [(1, 1, 1), (0, 2, 2), (1, 3, 2), (0, 4, 3)] {
+        let record = Record { half_moves, full_moves, ..lent::side_to_move(&knight, side).unwrap() };
         assert_eq!(parts.can_declare_draw(), Ok(false));
-        parts.counts = parts.make_move(0, Given { record, in_check: 0, list: &[0] }).unwrap();
+        parts.counts = parts.make_move(0, Given { record: &record, in_check: 0, list: &[0] }).unwrap();
     }
     assert_eq!(parts.can_declare_draw(), Ok(true));
     parts.counts = parts.declare_draw().unwrap();

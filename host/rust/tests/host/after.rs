@@ -1,16 +1,18 @@
-//! The board after a move (document 02, order 9), by rows from the order's sentences, and logs that ask for it.
+//! The board after a move (document 02, order 9), by rows from the order's sentences, and logs that ask for it. Its counters, which each
+//! row has by their rule, are tried in `counters.rs`.
 
-use crate::common::{Numbers, Parts, moves, play, random_record};
-use menkhodur::lent::{self, Given};
+use crate::common::{Numbers, Parts, counted, counters_after, moves, out_of_range, play, random_record};
+use menkhodur::lent::{self, Given, POSITION_BYTES};
 use menkhodur::{Board, CastleRights, Color, Counts, Error, File, Log, MAX_MOVE, Move, Position, Square};
 
 /// Asks for the FEN after each move, of both layers.
 fn check(rows: &[(&str, &str, &str)]) {
     for &(before, text, want) in rows {
         let (board, made) = (Board::from_fen(before).unwrap(), Move::from_text(text).unwrap());
-        let want = Board::from_fen(want).unwrap();
+        let number = u64::from(made.number());
+        let want = counted(Board::from_fen(want).unwrap(), counters_after(board.record(), number));
         assert_eq!(board.after(made), want, "{before} {text}");
-        assert_eq!(lent::board_after(board.numbers(), u64::from(made.number())).as_ref(), Ok(want.numbers()), "{before} {text}");
+        assert_eq!(lent::board_after(board.record(), number).as_ref(), Ok(want.record()), "{before} {text}");
     }
 }
 
@@ -137,9 +139,7 @@ fn the_file_of_a_double_step_beside_an_enemy_pawn() {
 #[test]
 fn refused_are_records_and_then_moves_at_any_size() {
     let mut numbers = Numbers(9);
-    for place in 0..68 {
-        let mut record = random_record(&mut numbers);
-        record[place] = [13, 2, 4, 4, 9][usize::max(place, 63) - 63];
+    for record in out_of_range(random_record(&mut numbers)) {
         for number in [0, 28_671, 28_672, u64::MAX] {
             assert_eq!(lent::board_after(&record, number), Err(Error::OutOfRange));
         }
@@ -155,8 +155,8 @@ fn what_comes_out_is_in_range_and_reads_back() {
     let mut numbers = Numbers(90);
     for _ in 0..20_000 {
         let (record, number) = (random_record(&mut numbers), numbers.below(28_672));
-        let after = Board::from_numbers(&lent::board_after(&record, number).unwrap()).unwrap();
-        assert_eq!(Board::from_fen(after.to_fen()), Ok(after));
+        let after = Board::from_record(&lent::board_after(&record, number).unwrap()).unwrap();
+        assert_eq!(Board::from_fen_full(after.to_fen_full()), Ok(after));
     }
 }
 
@@ -169,16 +169,16 @@ fn started(fen: &str, text: &str) -> (Log, Move) {
 #[test]
 fn number_24_for_each_number_that_differs() {
     let (log, made) = started("r3k2r/8/8/8/8/8/8/R3K2R w KQkq -", "e1g1");
-    let good = *log.current_position().after(made).numbers();
+    let good = *log.current_position().after(made).record();
     for place in (0..68).filter(|&place| place != 64) {
         let bound = [13, 2, 4, 4, 9][usize::max(place, 63) - 63];
-        for number in (0..bound).filter(|&number| number != good[place]) {
+        for number in (0..bound).filter(|&number| number != good.numbers[place]) {
             let mut next = good;
-            next[place] = number;
+            next.numbers[place] = number;
             let given = Given { record: &next, in_check: 0, list: &[] };
             Parts::of(&log).refuses(Error::WrongRecord, |parts| parts.make_move(u64::from(made.number()), given));
             let mut log = log.clone();
-            let board = Board::from_numbers(&next).unwrap();
+            let board = Board::from_record(&next).unwrap();
             assert_eq!(log.make_move(made, &Position { board, in_check: false, list: &[] }).unwrap_err().number(), 24);
             assert_eq!(log.counts(), Counts { actions: 0, moves: 0 });
         }
@@ -207,9 +207,9 @@ fn number_24_comes_after_12_and_before_13() {
 #[test]
 fn a_stored_move_without_its_record_makes_no_good_log() {
     let log = play(Board::default(), "b1c3 b8c6", "", "e2e4");
-    for (position, place) in (1..3).flat_map(|position| (0..68).map(move |place| (position, place))) {
+    for (position, place) in (1..3).flat_map(|position| (0..72).map(move |place| (position, place))) {
         let mut parts = Parts::of(&log);
-        let byte = &mut parts.positions[580 * position + place];
+        let byte = &mut parts.positions[POSITION_BYTES * position + place];
         *byte = if *byte == 0 { 1 } else { 0 };
         parts.refuses_queries(Error::LogNotGood);
         parts.refuses_all(Error::LogNotGood);
@@ -225,9 +225,9 @@ fn play_computes_the_board() {
     assert_eq!(log.play(made, false, &vec![other; 256]), Err(Error::ListOutOfRange));
     let castles = moves("e8g8");
     log.play(made, false, &castles).unwrap();
-    assert_eq!(log.current_position().to_fen(), "4k2r/8/8/8/8/8/3P4/2KR4 b k - 0 1");
+    assert_eq!(log.current_position().to_fen_full(), "4k2r/8/8/8/8/8/3P4/2KR4 b k - 1 1");
     log.play(castles[0], true, &moves("d2d4")).unwrap();
-    assert_eq!((log.current_position().to_fen().as_str(), log.in_check()), ("5rk1/8/8/8/8/8/3P4/2KR4 w - - 0 1", true));
+    assert_eq!((log.current_position().to_fen_full().as_str(), log.in_check()), ("5rk1/8/8/8/8/8/3P4/2KR4 w - - 2 2", true));
     assert_eq!(log.current_moves(), moves("d2d4"));
     log.play(moves("d2d4")[0], false, &[]).unwrap();
     assert_eq!(log.play(made, false, &[]), Err(Error::GameOver));

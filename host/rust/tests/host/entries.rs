@@ -96,7 +96,7 @@ fn stored_positions_are_those_that_were_given_and_nothing_past_the_part_is() {
     for (moves, position) in positions.iter().enumerate() {
         let stored = menkhodur::lent::stored_position(bytes, moves).unwrap();
         let numbers: Vec<u16> = position.list.iter().map(|made| made.number()).collect();
-        assert_eq!((stored.record, stored.in_check, stored.list), (*position.board.numbers(), u8::from(position.in_check), numbers));
+        assert_eq!((stored.record, stored.in_check, stored.list), (*position.board.record(), u8::from(position.in_check), numbers));
     }
     assert_eq!(menkhodur::lent::stored_position(bytes, positions.len()), None);
     assert_eq!(menkhodur::lent::stored_position(&bytes[..bytes.len() - 1], positions.len() - 1), None);

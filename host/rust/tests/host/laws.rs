@@ -127,9 +127,10 @@ fn equal_positions_by_their_numbers() {
         let from = log.counts().moves as usize;
         go_on(&mut log, &rooks(from, to), false);
         assert_eq!(shown(&log), ([to, to, equals], earliest, [claim; 2]));
-        let last = log.positions().next_back();
-        for index in log.ruling().earliest.into_iter().flatten() {
-            assert_eq!(log.positions().nth(index), last);
+        let last = log.positions().next_back().unwrap();
+        for earlier in log.ruling().earliest.into_iter().flatten().map(|index| log.positions().nth(index).unwrap()) {
+            assert_eq!((earlier.board.numbers(), earlier.list), (last.board.numbers(), last.list));
+            assert_ne!(earlier.board, last.board, "each move has changed the counters");
         }
     }
 }

@@ -1,7 +1,7 @@
 //! Storing a log and loading it again.
 
 use crate::common::{Numbers, Parts, moves, play};
-use menkhodur::lent::{ACTIONS_PART, POSITIONS_PART};
+use menkhodur::lent::{ACTIONS_PART, POSITION_BYTES, POSITIONS_PART};
 use menkhodur::{Board, Color, Counts, Error, Log, Position};
 
 fn game() -> Log {
@@ -14,7 +14,7 @@ fn game() -> Log {
 fn used_bytes_are_those_of_the_counts() {
     let log = game();
     assert_eq!(log.counts(), Counts { actions: 6, moves: 5 });
-    assert_eq!((log.used_actions().len(), log.used_positions().len()), (6 * 4, 6 * 580));
+    assert_eq!((log.used_actions().len(), log.used_positions().len()), (6 * 4, 6 * 584));
 }
 
 #[test]
@@ -49,17 +49,20 @@ fn fewer_bytes_than_the_counts_use_are_refused() {
     assert_eq!(Log::from_parts(&[0; ACTIONS_PART], &vec![0; POSITIONS_PART], over), Err(Error::LogNotGood));
 }
 
-/// After a black move on an empty board 580 zeros are an empty board with white to move, which a log may hold: a position that is missing
-/// must not become one.
+/// After a black move on an empty board the position has zeros but for its counters, and nothing but zeros behind them: bytes that are
+/// missing must not become those.
 #[test]
-fn a_missing_position_is_not_taken_for_zeros() {
+fn missing_bytes_are_not_taken_for_zeros() {
     let board = Board::new().side_to_move(Color::Black);
     let list = moves("b8c6");
     let mut log = Log::start(&Position { board, in_check: false, list: &list }).unwrap();
-    log.make_move(list[0], &Position { board: Board::new(), in_check: false, list: &[] }).unwrap();
+    log.play(list[0], false, &[]).unwrap();
     let (actions, positions) = (log.used_actions(), log.used_positions());
-    assert!(positions[580..].iter().all(|&byte| byte == 0));
-    assert_eq!(Log::from_parts(actions, &positions[..580], log.counts()), Err(Error::PartTooShort));
+    let counters_end = POSITION_BYTES + 72;
+    assert!(positions[counters_end..].iter().all(|&byte| byte == 0));
+    for length in [POSITION_BYTES, counters_end, positions.len() - 1] {
+        assert_eq!(Log::from_parts(actions, &positions[..length], log.counts()), Err(Error::PartTooShort));
+    }
     assert_eq!(Log::from_parts(actions, positions, log.counts()), Ok(log.clone()));
 }
 

@@ -3,8 +3,10 @@
 mod accepted;
 mod after;
 mod common;
+mod counters;
 mod differences;
 mod entries;
+mod full_fen;
 mod keys;
 mod laws;
 mod load;

@@ -19,6 +19,10 @@ fn steps() {
     #[expect(unused_must_use)]
     board.en_passant(None);
     #[expect(unused_must_use)]
+    board.half_moves(1);
+    #[expect(unused_must_use)]
+    board.full_moves(2);
+    #[expect(unused_must_use)]
     board.after(Move::default());
     #[expect(unused_must_use)]
     rights.add(CastleRights::KingSide);
@@ -28,10 +32,27 @@ fn steps() {
 }
 
 #[test]
-fn answers() -> Result<(), Error> {
+fn what_a_board_has() {
+    let board = Board::default();
+    #[expect(unused_must_use)]
+    board.to_fen();
+    #[expect(unused_must_use)]
+    board.to_fen_full();
+    #[expect(unused_must_use)]
+    board.numbers();
+    #[expect(unused_must_use)]
+    board.record();
+    #[expect(unused_must_use)]
+    board.get_half_moves();
+    #[expect(unused_must_use)]
+    board.get_full_moves();
+}
+
+#[test]
+fn answers() {
     let log = play(Board::default(), "", "", "b1c3");
     #[expect(unused_must_use)]
-    log.current_position().to_fen();
+    log.current_position();
     #[expect(unused_must_use)]
     log.result();
     #[expect(unused_must_use)]
@@ -56,7 +77,11 @@ fn answers() -> Result<(), Error> {
     reader.read(b" w - -\n");
     #[expect(unused_must_use)]
     reader.read(b" w - -\n").iter();
+}
 
+#[test]
+fn answers_over_lent_parts() -> Result<(), Error> {
+    let log = play(Board::default(), "", "", "b1c3");
     // The counts are the new log: the question mark must not be the end of them.
     let mut parts = Parts::of(&log);
     #[expect(unused_must_use)]
@@ -64,5 +89,7 @@ fn answers() -> Result<(), Error> {
     // The start of a roll that is read is given here alone.
     #[expect(unused_must_use)]
     lent::roll_read(&log.to_roll(), &mut parts.actions)?;
+    #[expect(unused_must_use)]
+    lent::roll_read_old(&[0; 69], &mut parts.actions)?;
     Ok(())
 }

@@ -1,7 +1,7 @@
 //! Pages of FEN texts: order 7 of document 02.
 
 use crate::common::{Numbers, random_record};
-use menkhodur::lent::{self, PAGE_NUMBERS, PAGE_RECORD, Record};
+use menkhodur::lent::{self, PAGE_NUMBERS, PAGE_RECORD};
 use menkhodur::{Answers, Board, Error, Page, PageReader};
 
 type Pair = [u64; PAGE_NUMBERS];
@@ -18,9 +18,9 @@ fn lines(text: &[u8]) -> Vec<&[u8]> {
 }
 
 /// What a line's record and numbers must be: the single reader's answer.
-fn single(line: &[u8]) -> (Record, Pair) {
+fn single(line: &[u8]) -> (lent::Numbers, Pair) {
     match lent::fen_read(line) {
-        Ok(record) => (record, [0, 0]),
+        Ok(record) => (record.numbers, [0, 0]),
         Err(refused) => ([0; 68], [refused.number(), refused.offset().unwrap() as u64]),
     }
 }
@@ -156,11 +156,11 @@ fn long_lines_and_many() {
     assert_eq!(reader.read(&many).numbers().iter().filter(|&&[number, _]| number == 0).count(), 20_000);
 }
 
-/// A page of lines from records, some of them damaged, ended or not.
+/// A page of lines from records, with their counters, some of them damaged, ended or not.
 fn any_page(numbers: &mut Numbers) -> Vec<u8> {
     let mut text = Vec::new();
     for _ in 0..numbers.below(12) {
-        let mut line = Board::from_numbers(&random_record(numbers)).unwrap().to_fen().into_bytes();
+        let mut line = Board::from_record(&random_record(numbers)).unwrap().to_fen_full().into_bytes();
         for _ in 0..numbers.below(3) {
             let at = numbers.below(line.len() as u64 + 1) as usize;
             match numbers.below(4) {

@@ -1,6 +1,6 @@
 //! Pages of which the crate chess 3.2.0 was asked before: pages.txt, which tells its form. No expectation here comes from the archive.
 
-use menkhodur::lent::{self, PAGE_NUMBERS, Record};
+use menkhodur::lent::{self, Numbers, PAGE_NUMBERS};
 use menkhodur::{Board, Error, PageReader};
 
 const PAGES: &str = include_str!("pages.txt");
@@ -9,7 +9,7 @@ const PAGES: &str = include_str!("pages.txt");
 struct Line {
     /// With the newline that ends it, if one does.
     text: Vec<u8>,
-    record: Record,
+    record: Numbers,
     told: [u64; PAGE_NUMBERS],
 }
 
@@ -24,7 +24,7 @@ impl Vector {
         self.lines.iter().flat_map(|line| &line.text).copied().collect()
     }
 
-    fn records(&self) -> Vec<Record> {
+    fn records(&self) -> Vec<Numbers> {
         self.lines.iter().map(|line| line.record).collect()
     }
 
@@ -50,7 +50,7 @@ fn unescaped(shown: &str) -> Vec<u8> {
     text
 }
 
-fn record(shown: &str) -> Record {
+fn record(shown: &str) -> Numbers {
     let digits = shown.chars().filter(|&sign| sign != '/').map(|sign| sign.to_digit(16).unwrap() as u8);
     if shown == "-" { [0; 68] } else { digits.collect::<Vec<_>>().try_into().unwrap() }
 }

@@ -1,5 +1,6 @@
 //! Every refusal of the calls without a log, with the room that was lent as it was.
 
+use crate::common::{empty, out_of_range};
 use menkhodur::lent::{self, Record};
 use menkhodur::{Board, Error, Move};
 
@@ -9,16 +10,8 @@ fn record(fen: &[u8]) -> Record {
     lent::fen_read(fen).unwrap()
 }
 
-/// One record for each of the 68 numbers, out of range in that number alone, by one and by as much as a byte can.
-fn out_of_range() -> impl Iterator<Item = Record> {
-    (0..68).flat_map(|place| {
-        let over = [13, 2, 4, 4, 9][usize::max(place, 63) - 63];
-        [over, 255].map(|number| {
-            let mut record = record(b"rnbqkbnr/pppppppp/8/8/8/8/PPPPPPPP/RNBQKBNR w KQkq -");
-            record[place] = number;
-            record
-        })
-    })
+fn bad_records() -> impl Iterator<Item = Record> {
+    out_of_range(record(b"rnbqkbnr/pppppppp/8/8/8/8/PPPPPPPP/RNBQKBNR w KQkq -"))
 }
 
 /// Asks for a refusal that leaves every byte of the room.
@@ -28,11 +21,11 @@ fn refuses_room(want: Error, length: usize, call: impl FnOnce(&mut [u8]) -> Resu
     assert!(room.iter().all(|&byte| byte == 0xA5), "{want}: a refused call has written");
 }
 
-/// Asks for a refusal of each text, with the offset beside it.
+/// Asks for a refusal of each text, with the offset beside it, by both readers.
 fn refuses_fens(want: impl Fn(usize) -> Error, texts: &[(&[u8], usize)]) {
     for &(text, offset) in texts {
-        assert_eq!(lent::fen_read(text), Err(want(offset)));
-        assert_eq!(Board::from_fen(text), Err(want(offset)));
+        assert_eq!((lent::fen_read(text), lent::fen_read_full(text)), (Err(want(offset)), Err(want(offset))));
+        assert_eq!((Board::from_fen(text), Board::from_fen_full(text)), (Err(want(offset)), Err(want(offset))));
         assert_eq!(want(offset).offset(), Some(offset));
     }
 }
@@ -80,6 +73,30 @@ fn number_20_fen_side() {
 }
 
 #[test]
+fn number_25_fen_counters() {
+    let texts: [(&[u8], usize); 12] = [
+        (b"8 w - -", 7),
+        (b"8 w - - ", 8),
+        (b"8 w - - x", 8),
+        (b"8 w - -  1", 8),
+        (b"8 w - - 00000 1", 8),
+        (b"8 w - - -0 0", 8),
+        (b"8 w - - 0", 9),
+        (b"8 w - - 0 ", 10),
+        (b"8 w - - 0 0", 10),
+        (b"8 w - - 0 0000", 10),
+        (b"8 w - - 0 10000", 10),
+        (b"8 w - - 0 1\r", 10),
+    ];
+    for (text, offset) in texts {
+        assert_eq!(lent::fen_read_full(text), Err(Error::BadCounter { offset }));
+        assert_eq!(Board::from_fen_full(text), Err(Error::BadCounter { offset }));
+        assert_eq!(lent::fen_read(text), Ok(empty()), "the crate's reader looks at no counter");
+    }
+    assert_eq!((Error::BadCounter { offset: 7 }.number(), Error::BadCounter { offset: 7 }.offset()), (25, Some(7)));
+}
+
+#[test]
 fn number_2_square() {
     let texts: [(&[u8], usize); 12] = [
         (b"z9e4", 0),
@@ -115,7 +132,7 @@ fn number_4_san() {
     let board = Board::from_fen(KNIGHT).unwrap();
     let (list, other) = ([1153], [Move::from_number(1153).unwrap()]);
     for text in [&b""[..], b"N", b"Nc", b"Nc4", b"c3", b"Bc3", b"Nc3x", b"Nxc3", b"Nc3Q", b"O-O", b"\xff"] {
-        assert_eq!(lent::san_read(board.numbers(), &list, text), Err(Error::InvalidSanMove));
+        assert_eq!(lent::san_read(board.record(), &list, text), Err(Error::InvalidSanMove));
         assert_eq!(board.read_san(&other, text), Err(Error::InvalidSanMove));
     }
     assert_eq!(board.read_san(&[other[0], other[0]], "Nc3").unwrap_err().number(), 4);
@@ -140,7 +157,7 @@ fn number_5_squares_and_rights() {
 
 #[test]
 fn number_5_steps() {
-    let empty = [0; 68];
+    let empty = empty();
     let of_a_number = [
         lent::piece(&empty, 64, 1),
         lent::piece(&empty, 0, 0),
@@ -152,25 +169,32 @@ fn number_5_steps() {
         lent::en_passant(&empty, 9),
     ];
     assert_eq!(of_a_number, [Err(Error::OutOfRange); 8]);
-    for bad in out_of_range() {
+    for bad in bad_records() {
         assert_eq!(lent::piece(&bad, 0, 1), Err(Error::OutOfRange));
         assert_eq!(lent::clear_square(&bad, 0), Err(Error::OutOfRange));
         assert_eq!(lent::side_to_move(&bad, 0), Err(Error::OutOfRange));
         assert_eq!(lent::castle_rights(&bad, 0, 0), Err(Error::OutOfRange));
         assert_eq!(lent::en_passant(&bad, 0), Err(Error::OutOfRange));
+        assert_eq!(lent::half_moves(&bad, 0), Err(Error::OutOfRange));
+        assert_eq!(lent::full_moves(&bad, 1), Err(Error::OutOfRange));
         assert_eq!(lent::board_after(&bad, 28_672), Err(Error::OutOfRange));
     }
 }
 
 #[test]
 fn number_5_records() {
-    for bad in out_of_range() {
-        refuses_room(Error::OutOfRange, 85, |room| lent::fen_write(&bad, room));
-        refuses_room(Error::OutOfRange, 0, |room| lent::fen_write(&bad, room));
+    for bad in bad_records() {
+        for length in [0, 91] {
+            refuses_room(Error::OutOfRange, length, |room| lent::fen_write(&bad, room));
+            refuses_room(Error::OutOfRange, length, |room| lent::fen_write_full(&bad, room));
+        }
         refuses_room(Error::OutOfRange, 11, |room| lent::san_name(&bad, &[1153], 1153, room));
         refuses_room(Error::OutOfRange, 11, |room| lent::san_name(&bad, &[28_672], 0, room));
         assert_eq!(lent::san_read(&bad, &[28_672], b"Nc3"), Err(Error::OutOfRange));
-        assert_eq!(Board::from_numbers(&bad).unwrap_err().number(), 5);
+        assert_eq!(Board::from_record(&bad).unwrap_err().number(), 5);
+        // The 68 numbers alone are judged with the counters 0 and 1.
+        let counted = (1..=9_999).contains(&bad.full_moves) && bad.half_moves <= 9_999;
+        assert_eq!(Board::from_numbers(&bad.numbers).is_err(), counted);
     }
 }
 
@@ -180,7 +204,7 @@ fn number_6_moves_are_never_cut() {
         refuses_room(Error::ListOutOfRange, 5, |room| lent::move_write(number, room));
         refuses_room(Error::ListOutOfRange, 0, |room| lent::move_write(number, room));
         assert_eq!(Move::from_number(number).unwrap_err().number(), 6);
-        assert_eq!(lent::board_after(&[0; 68], number), Err(Error::ListOutOfRange));
+        assert_eq!(lent::board_after(&empty(), number), Err(Error::ListOutOfRange));
     }
 }
 
@@ -206,6 +230,10 @@ fn number_7_rooms() {
     let needed = lent::fen_write(&full, &mut [0; 85]).unwrap();
     for length in 0..needed {
         refuses_room(Error::OutputTooShort { needed }, length, |room| lent::fen_write(&full, room));
+    }
+    let (counted, needed) = (Record { half_moves: 9_999, full_moves: 9_999, ..full }, needed + 6);
+    for length in 0..needed {
+        refuses_room(Error::OutputTooShort { needed }, length, |room| lent::fen_write_full(&counted, room));
     }
     for (number, needed) in [(1_804, 4), (22_284, 5)] {
         for length in 0..needed {

@@ -1,17 +1,20 @@
 //! Every refusal of the log's calls, with both parts and the counts as they were.
 
-use crate::common::{Parts, after, moves, play};
-use menkhodur::lent::{self, ACTIONS_PART, Given, MAX_ACTIONS, MAX_MOVES, POSITIONS_PART, Record};
+use crate::common::{Parts, after, moves, out_of_range, play};
+use menkhodur::lent::{self, ACTIONS_PART, Given, MAX_ACTIONS, MAX_MOVES, POSITION_BYTES, POSITIONS_PART, Record};
 use menkhodur::{Board, Color, Counts, Error, Log, Move, Position};
 
 const TO_C3: u64 = 1153;
+const NOT_IN_RANGE: Record = Record { numbers: [255; 68], half_moves: 65_535, full_moves: 65_535 };
+/// The part of the positions as it was before version 12, without counters.
+const OLD_PART: usize = 4_097 * 580;
 
 fn knight() -> Record {
     lent::fen_read(b"8/8/8/8/8/8/8/1N6 w - -").unwrap()
 }
 
 fn moved() -> Record {
-    lent::fen_read(b"8/8/8/8/8/2N5/8/8 b - -").unwrap()
+    lent::fen_read_full(b"8/8/8/8/8/2N5/8/8 b - - 1 1").unwrap()
 }
 
 fn started() -> Parts {
@@ -32,10 +35,10 @@ fn refuses(log: &mut Log, want: Error, call: impl FnOnce(&mut Log) -> Result<(),
 #[test]
 fn number_5_positions_and_colours() {
     let mut parts = started();
-    let mut bad = moved();
-    bad[0] = 13;
-    for (record, in_check) in [(&bad, 0), (&moved(), 2), (&moved(), 255)] {
-        let given = Given { record, in_check, list: &[28_672] };
+    // Each comes before the list, and before the side and the record, which are those of before the move.
+    let records = out_of_range(moved()).chain(out_of_range(knight())).map(|record| (record, 0));
+    for (record, in_check) in records.chain([(moved(), 2), (moved(), 255), (knight(), 2)]) {
+        let given = Given { record: &record, in_check, list: &[28_672] };
         parts.refuses(Error::OutOfRange, |parts| parts.make_move(TO_C3, given));
         refuses_start(&mut parts, Error::OutOfRange, given);
     }
@@ -56,7 +59,7 @@ fn number_6_lists() {
         refuses_start(&mut parts, Error::ListOutOfRange, given);
     }
     let list = [Move::from_number(TO_C3).unwrap(); 256];
-    let board = Board::from_numbers(&knight()).unwrap();
+    let board = Board::from_record(&knight()).unwrap();
     assert_eq!(Log::start(&Position { board, in_check: false, list: &list }), Err(Error::ListOutOfRange));
     let mut log = Log::start(&Position { board, in_check: false, list: &list[..255] }).unwrap();
     let next = Position { board, in_check: false, list: &list };
@@ -90,11 +93,13 @@ fn number_9_counts_are_never_cut() {
 
 #[test]
 fn number_9_bytes() {
-    let log = play(Board::from_numbers(&knight()).unwrap(), "b1c3", "", "b1c3");
+    let log = play(Board::from_record(&knight()).unwrap(), "b1c3", "", "b1c3");
     // Each alters one used byte: of the action its kind, colour and move, of the start its record, check and list, and of the second
     // position its side to move and a square.
     let edits = [(true, 0, 0), (true, 0, 6), (true, 1, 1), (true, 2, 130), (true, 3, 5)];
-    let more = [(false, 0, 13), (false, 68, 2), (false, 69, 0), (false, 70, 130), (false, 72, 1), (false, 580 + 64, 0), (false, 580, 1)];
+    let start = [(0, 13), (72, 2), (73, 0), (74, 130), (76, 1)];
+    let second = [(64, 0), (0, 1)].map(|(place, byte)| (POSITION_BYTES + place, byte));
+    let more = start.into_iter().chain(second).map(|(place, byte)| (false, place, byte));
     for (action, place, byte) in edits.into_iter().chain(more) {
         let mut parts = Parts::of(&log);
         let part = if action { &mut parts.actions } else { &mut parts.positions };
@@ -108,7 +113,7 @@ fn number_9_bytes() {
 
 #[test]
 fn number_10_after_each_ending() {
-    let board = Board::from_numbers(&knight()).unwrap();
+    let board = Board::from_record(&knight()).unwrap();
     let mut resigned = play(board, "", "", "b1c3");
     resigned.resign(Color::White).unwrap();
     let mut accepted = play(board, "", "", "b1c3");
@@ -139,7 +144,7 @@ fn number_11_moves_are_never_cut() {
     for number in [0, 1154, 28_672, 65_536 + TO_C3, 70_000, (1 << 32) + TO_C3, u64::MAX] {
         parts.refuses(Error::MoveNotListed, |parts| parts.make_move(number, next));
         // Not even a position that is out of range is looked at before the move.
-        let bad = Given { record: &[255; 68], in_check: 2, list: &[65_535] };
+        let bad = Given { record: &NOT_IN_RANGE, in_check: 2, list: &[65_535] };
         parts.refuses(Error::MoveNotListed, |parts| parts.make_move(number, bad));
     }
     let mut log = play(Board::default(), "", "", "b1c3");
@@ -224,7 +229,7 @@ fn number_13_moves() {
     let mut log = play(board, &"b1c3 b8c6 c3b1 c6b8 ".repeat(MAX_MOVES / 4), "", "b1c3");
     let most = MAX_MOVES as u64;
     assert_eq!(log.counts(), Counts { actions: most, moves: most });
-    let next = Position { board: after(board, moves("b1c3")[0]), in_check: false, list: &[] };
+    let next = Position { board: after(log.current_position(), moves("b1c3")[0]), in_check: false, list: &[] };
     refuses(&mut log, Error::LogFull, |log| log.make_move(moves("b1c3")[0], &next));
     log.offer_draw(Color::White).unwrap();
     assert_eq!(log.counts(), Counts { actions: most + 1, moves: most });
@@ -253,7 +258,9 @@ fn number_15_claims() {
 #[test]
 fn number_16_parts() {
     let whole = started();
-    for (actions, positions) in [(ACTIONS_PART - 1, POSITIONS_PART), (ACTIONS_PART, POSITIONS_PART - 1), (0, 0), (4, 580)] {
+    for (actions, positions) in
+        [(ACTIONS_PART - 1, POSITIONS_PART), (ACTIONS_PART, POSITIONS_PART - 1), (ACTIONS_PART, OLD_PART), (0, 0), (4, POSITION_BYTES)]
+    {
         let mut parts = whole.clone();
         parts.actions.truncate(actions);
         parts.positions.truncate(positions);
@@ -263,7 +270,7 @@ fn number_16_parts() {
             parts.refuses_all(Error::PartTooShort);
             parts.refuses_queries(Error::PartTooShort);
         }
-        refuses_start(&mut parts, Error::PartTooShort, Given { record: &[255; 68], in_check: 2, list: &[65_535] });
+        refuses_start(&mut parts, Error::PartTooShort, Given { record: &NOT_IN_RANGE, in_check: 2, list: &[65_535] });
     }
     assert_eq!(Error::PartTooShort.number(), 16);
 }

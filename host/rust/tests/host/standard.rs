@@ -144,7 +144,7 @@ fn names_of_one_list() {
 #[test]
 fn refusals_in_their_order() {
     let (knight, mut bad) = (record(KNIGHT), record(KNIGHT));
-    bad[67] = 9;
+    bad.numbers[67] = 9;
     assert_eq!(lent::san_read_standard(&bad, &[28_672], b"Nc4"), Err(Error::OutOfRange));
     is_refused(&bad, &[28_672], 70_000, Error::OutOfRange);
     let long = [1153; 256];

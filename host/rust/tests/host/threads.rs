@@ -1,6 +1,7 @@
 //! The archive keeps nothing between calls, so what is owned can be sent and what is shared can be asked.
 
 use crate::common::play;
+use menkhodur::lent::Record;
 use menkhodur::{ALL_COLORS, Action, Actions, Board, Error, GameResult, Log, Move, Position, Positions, Reason, Roll, Ruling, Square};
 use std::thread;
 
@@ -8,6 +9,7 @@ use std::thread;
 fn everything_is_send_and_sync() {
     fn both<T: Send + Sync + 'static>() {}
     both::<Board>();
+    both::<Record>();
     both::<Move>();
     both::<Square>();
     both::<Log>();
@@ -50,7 +52,7 @@ fn many_make_their_own() {
     assert_eq!(results, [Some(GameResult::WhiteResigns), Some(GameResult::BlackResigns)]);
 }
 
-/// The two parts have over 600,000 bytes: a thread with a fifth of that would be gone if they ever lay on its stack.
+/// The two parts have over 2,400,000 bytes: a thread with an eighteenth of that would be gone if they ever lay on its stack.
 #[test]
 fn a_log_does_not_lie_on_the_stack() {
     let small = thread::Builder::new().stack_size(128 * 1024);
