@@ -1,5 +1,5 @@
-/* The board after a move: the archive beside document 02, order 9, as after_rule.h has it: over rows by hand, over every move of some boards,
- * and over random ones; and logs, which ask for it. */
+/* The board after a move: the archive beside document 02, orders 9 and 12, as after_rule.h has it: over rows by hand, over every move of some
+ * boards, and over random ones; and logs, which ask for it. */
 #include "game.h"
 
 static const char board_after[] = "menkhodur_board_after";
@@ -9,7 +9,7 @@ static const char board_after[] = "menkhodur_board_after";
 static menkhodur_board board_of(const char *fen)
 {
     struct part text = lend_text(fen);
-    menkhodur_fen read = menkhodur_fen_read(text.bytes, text.length);
+    menkhodur_fen read = menkhodur_fen_read_full(text.bytes, text.length);
     about(board_after, "the FEN %s", fen);
     expect("read", MENKHODUR_ACCEPTED, read.number);
     give_back(&text);
@@ -43,50 +43,68 @@ static void check_row(const char *before, const char *coordinates, const char *a
 
 static void check_men_moved(void)
 {
-    check_row("8/8/8/8/8/8/8/1N6 w - -", "b1c3", "8/8/8/8/8/2N5/8/8 b - -");
-    check_row("8/8/8/8/8/2p5/8/1N6 w - -", "b1c3", "8/8/8/8/8/2N5/8/8 b - -");
-    check_row("3r4/4P3/8/8/8/8/8/8 w - -", "e7d8n", "3N4/8/8/8/8/8/8/8 b - -");
-    check_row("8/8/8/8/8/8/4p3/8 b - -", "e2e1q", "8/8/8/8/8/8/8/4q3 w - -");
-    check_row("8/8/8/8/8/8/8/4k3 w - -", "e1e2r", "8/8/8/8/8/8/4r3/8 b - -");
-    check_row("8/8/8/8/8/2p5/8/8 w - -", "b1c3q", "8/8/8/8/8/8/8/8 b - -");
-    check_row("8/8/8/8/8/8/8/1N6 b - -", "b1b1", "8/8/8/8/8/8/8/1N6 w - -");
+    check_row("8/8/8/8/8/8/8/1N6 w - - 7 3", "b1c3", "8/8/8/8/8/2N5/8/8 b - - 8 3");
+    check_row("8/8/8/8/8/2p5/8/1N6 w - - 7 3", "b1c3", "8/8/8/8/8/2N5/8/8 b - - 0 3");
+    check_row("3r4/4P3/8/8/8/8/8/8 w - - 7 3", "e7d8n", "3N4/8/8/8/8/8/8/8 b - - 0 3");
+    check_row("8/8/8/8/8/8/4p3/8 b - - 7 3", "e2e1q", "8/8/8/8/8/8/8/4q3 w - - 0 4");
+    check_row("8/8/8/8/8/8/8/4k3 w - - 7 3", "e1e2r", "8/8/8/8/8/8/4r3/8 b - - 8 3");
+    check_row("8/8/8/8/8/2p5/8/8 w - - 7 3", "b1c3q", "8/8/8/8/8/8/8/8 b - - 0 3");
+    check_row("8/8/8/8/8/8/8/1N6 b - - 7 3", "b1b1", "8/8/8/8/8/8/8/1N6 w - - 0 4");
 }
 
 static void check_castling(void)
 {
-    check_row("r3k2r/8/8/8/8/8/8/R3K2R w KQkq -", "e1g1", "r3k2r/8/8/8/8/8/8/R4RK1 b kq -");
-    check_row("r3k2r/8/8/8/8/8/8/R3K2R b KQkq -", "e8c8", "2kr3r/8/8/8/8/8/8/R3K2R w KQ -");
-    check_row("8/8/8/8/4K2n/8/8/8 b - -", "e4g4", "8/8/8/8/5nK1/8/8/8 w - -");
-    check_row("8/8/8/8/8/8/8/4KQ2 w - -", "e1g1", "8/8/8/8/8/8/8/6K1 b - -");
-    check_row("8/8/8/8/8/8/8/5K1N w - -", "f1h1", "8/8/8/8/8/8/8/6NK b - -");
-    check_row("8/8/8/8/8/8/8/N1K5 w - -", "c1a1", "8/8/8/8/8/8/8/KN6 b - -");
-    check_row("8/8/8/8/8/8/8/R1K4B w - -", "c1e1", "8/8/8/8/8/8/8/R2BK3 b - -");
-    check_row("8/8/8/8/8/8/8/4K2R w - -", "e1g1b", "8/8/8/8/8/8/8/5RB1 b - -");
-    check_row("8/8/8/8/8/8/8/6KR w - -", "g1a2", "8/8/8/8/8/8/K7/7R b - -");
+    check_row("r3k2r/8/8/8/8/8/8/R3K2R w KQkq - 7 3", "e1g1", "r3k2r/8/8/8/8/8/8/R4RK1 b kq - 8 3");
+    check_row("r3k2r/8/8/8/8/8/8/R3K2R b KQkq - 7 3", "e8c8", "2kr3r/8/8/8/8/8/8/R3K2R w KQ - 8 4");
+    check_row("8/8/8/8/4K2n/8/8/8 b - - 7 3", "e4g4", "8/8/8/8/5nK1/8/8/8 w - - 8 4");
+    check_row("8/8/8/8/8/8/8/4KQ2 w - - 7 3", "e1g1", "8/8/8/8/8/8/8/6K1 b - - 8 3");
+    check_row("8/8/8/8/8/8/8/5K1N w - - 7 3", "f1h1", "8/8/8/8/8/8/8/6NK b - - 0 3");
+    check_row("8/8/8/8/8/8/8/N1K5 w - - 7 3", "c1a1", "8/8/8/8/8/8/8/KN6 b - - 0 3");
+    check_row("8/8/8/8/8/8/8/R1K4B w - - 7 3", "c1e1", "8/8/8/8/8/8/8/R2BK3 b - - 8 3");
+    check_row("8/8/8/8/8/8/8/4K2R w - - 7 3", "e1g1b", "8/8/8/8/8/8/8/5RB1 b - - 8 3");
+    check_row("8/8/8/8/8/8/8/6KR w - - 7 3", "g1a2", "8/8/8/8/8/8/K7/7R b - - 8 3");
 }
 
 static void check_en_passant(void)
 {
-    check_row("8/8/8/3Pp3/8/8/8/8 w - e6", "d5e6", "8/8/4P3/8/8/8/8/8 b - -");
-    check_row("8/8/8/8/3Pp3/8/8/8 b - d3", "e4d3", "8/8/8/8/8/3p4/8/8 w - -");
-    check_row("8/8/8/3P3q/8/8/8/8 w - -", "d5h1", "8/8/8/8/8/8/8/7P b - -");
-    check_row("8/8/8/3P4/8/8/8/8 w - -", "d5e5", "8/8/8/4P3/8/8/8/8 b - -");
-    check_row("8/8/4n3/3Pp3/8/8/8/8 w - e6", "d5e6", "8/8/4P3/4p3/8/8/8/8 b - -");
-    check_row("8/8/8/3Bp3/8/8/8/8 w - e6", "d5e6", "8/8/4B3/4p3/8/8/8/8 b - -");
+    check_row("8/8/8/3Pp3/8/8/8/8 w - e6 7 3", "d5e6", "8/8/4P3/8/8/8/8/8 b - - 0 3");
+    check_row("8/8/8/8/3Pp3/8/8/8 b - d3 7 3", "e4d3", "8/8/8/8/8/3p4/8/8 w - - 0 4");
+    check_row("8/8/8/3P3q/8/8/8/8 w - - 7 3", "d5h1", "8/8/8/8/8/8/8/7P b - - 0 3");
+    check_row("8/8/8/3P4/8/8/8/8 w - - 7 3", "d5e5", "8/8/8/4P3/8/8/8/8 b - - 0 3");
+    check_row("8/8/4n3/3Pp3/8/8/8/8 w - e6 7 3", "d5e6", "8/8/4P3/4p3/8/8/8/8 b - - 0 3");
+    check_row("8/8/8/3Bp3/8/8/8/8 w - e6 7 3", "d5e6", "8/8/4B3/4p3/8/8/8/8 b - - 8 3");
 }
 
 static void check_rights_and_file(void)
 {
-    check_row("r3k2r/8/8/8/8/8/8/R3K2R w KQkq -", "h1h8", "r3k2R/8/8/8/8/8/8/R3K3 b Qq -");
-    check_row("8/8/8/8/8/8/8/8 w KQkq -", "e1e8", "8/8/8/8/8/8/8/8 b - -");
-    check_row("8/8/8/8/3p4/8/4P3/8 w - -", "e2e4", "8/8/8/8/3pP3/8/8/8 b - e3");
-    check_row("8/3p4/8/4P3/8/8/8/8 b - -", "d7d5", "8/8/8/3pP3/8/8/8/8 w - d6");
-    check_row("8/8/8/8/8/8/4P3/8 w - a6", "e2e4", "8/8/8/8/4P3/8/8/8 b - -");
-    check_row("8/8/8/8/3P4/8/4P3/8 w - -", "e2e4", "8/8/8/8/3PP3/8/8/8 b - -");
-    check_row("8/8/8/7p/8/p7/7P/8 w - -", "h2h4", "8/8/8/7p/7P/p7/8/8 b - -");
-    check_row("8/8/8/p7/8/7p/P7/8 w - -", "a2a4", "8/8/8/p7/P7/7p/8/8 b - -");
-    check_row("8/8/8/4P3/8/3p4/8/8 b - -", "e5e3", "8/8/8/8/8/3pP3/8/8 w - e6");
-    check_row("8/8/8/8/3p4/8/4P3/8 b - -", "e2e4q", "8/8/8/8/3pQ3/8/8/8 w - e6");
+    check_row("r3k2r/8/8/8/8/8/8/R3K2R w KQkq - 7 3", "h1h8", "r3k2R/8/8/8/8/8/8/R3K3 b Qq - 0 3");
+    check_row("8/8/8/8/8/8/8/8 w KQkq - 7 3", "e1e8", "8/8/8/8/8/8/8/8 b - - 8 3");
+    check_row("8/8/8/8/3p4/8/4P3/8 w - - 7 3", "e2e4", "8/8/8/8/3pP3/8/8/8 b - e3 0 3");
+    check_row("8/3p4/8/4P3/8/8/8/8 b - - 7 3", "d7d5", "8/8/8/3pP3/8/8/8/8 w - d6 0 4");
+    check_row("8/8/8/8/8/8/4P3/8 w - a6 7 3", "e2e4", "8/8/8/8/4P3/8/8/8 b - - 0 3");
+    check_row("8/8/8/8/3P4/8/4P3/8 w - - 7 3", "e2e4", "8/8/8/8/3PP3/8/8/8 b - - 0 3");
+    check_row("8/8/8/7p/8/p7/7P/8 w - - 7 3", "h2h4", "8/8/8/7p/7P/p7/8/8 b - - 0 3");
+    check_row("8/8/8/p7/8/7p/P7/8 w - - 7 3", "a2a4", "8/8/8/p7/P7/7p/8/8 b - - 0 3");
+    check_row("8/8/8/4P3/8/3p4/8/8 b - - 7 3", "e5e3", "8/8/8/8/8/3pP3/8/8 w - e6 0 4");
+    check_row("8/8/8/8/3p4/8/4P3/8 b - - 7 3", "e2e4q", "8/8/8/8/3pQ3/8/8/8 w - e6 0 4");
+}
+
+/* What is no pawn move and no capture by document 01's words leaves the clock running: an empty square to itself, nobody's move to an empty
+ * square, a king that castles over a man, a right that is lost. A man's own square is occupied. The move number goes by the record's side. */
+static void check_counters_after(void)
+{
+    check_row("8/8/8/8/8/8/8/8 w - - 7 3", "b1b1", "8/8/8/8/8/8/8/8 b - - 8 3");
+    check_row("8/8/8/8/8/8/8/8 b - - 7 3", "b1c3", "8/8/8/8/8/8/8/8 w - - 8 4");
+    check_row("8/8/8/8/8/8/8/1n6 w - - 7 3", "b1c3", "8/8/8/8/8/2n5/8/8 b - - 8 3");
+    check_row("8/8/8/8/8/8/P7/8 w - - 7 3", "a2a2", "8/8/8/8/8/8/P7/8 b - - 0 3");
+    check_row("8/8/8/8/8/8/8/4Kq1R w K - 7 3", "e1g1", "8/8/8/8/8/8/8/5RK1 b - - 8 3");
+    check_row("8/8/8/8/8/8/8/4K1nR w K - 7 3", "e1g1", "8/8/8/8/8/8/8/5RK1 b - - 0 3");
+    check_row("8/8/8/8/8/8/8/4K2R w K - 7 3", "h1h3", "8/8/8/8/8/7R/8/4K3 b - - 8 3");
+    check_row("8/8/8/8/8/8/8/1N6 w - - 500 1", "b1c3", "8/8/8/8/8/2N5/8/8 b - - 501 1");
+    check_row("8/8/8/8/8/8/8/1N6 w - - 9998 9999", "b1c3", "8/8/8/8/8/2N5/8/8 b - - 9999 9999");
+    check_row("8/8/8/8/8/8/8/1N6 b - - 9999 9998", "b1c3", "8/8/8/8/8/2N5/8/8 w - - 9999 9999");
+    check_row("8/8/8/8/8/8/8/1N6 b - - 9999 9999", "b1c3", "8/8/8/8/8/2N5/8/8 w - - 9999 9999");
+    check_row("8/8/8/8/8/2p5/8/1N6 b - - 9999 9999", "b1c3", "8/8/8/8/8/2N5/8/8 w - - 0 9999");
 }
 
 /* ---- Every move, random boards, refusals ---- */
@@ -107,7 +125,7 @@ static menkhodur_board some_board(void)
     static const uint8_t men[] = { 0, 0, 0, 0, 1, 1, 7, 7, 6, 12, 4, 10 };
     menkhodur_board b;
     for (unsigned i = 0; i < 64; i++) b.pieces[i] = any(4) ? men[any(sizeof men)] : (uint8_t)any(13);
-    for (unsigned i = 64; i < 68; i++) *number_of(&b, i) = (uint8_t)any(limit_of(i) + 1u);
+    for (unsigned i = 64; i < ALL_NUMBERS; i++) set_number(&b, i, any_number(i));
     return b;
 }
 
@@ -139,10 +157,9 @@ static void refuse_after(uint64_t number, menkhodur_board b, uint64_t move)
 
 static void check_refusals(void)
 {
-    for (unsigned which = 0; which < 68; which++) {
-        menkhodur_board b = some_board();
-        *number_of(&b, which) = (uint8_t)(limit_of(which) + 1 + any(2) * (254u - limit_of(which)));
-        about(board_after, "number %u out of range", which);
+    for (unsigned i = 0; i < BAD_BOARDS; i++) {
+        menkhodur_board b = bad_board(some_board(), i);
+        about(board_after, "number %u out of range", i / 2);
         refuse_after(MENKHODUR_OUT_OF_RANGE, b, some_move());
         refuse_after(MENKHODUR_OUT_OF_RANGE, b, MENKHODUR_LAST_MOVE + 1);
     }
@@ -161,13 +178,12 @@ static void check_logged(menkhodur_board b, uint64_t move)
 {
     struct game g = lend_game(MENKHODUR_ACTIONS_LENGTH, MENKHODUR_POSITIONS_LENGTH);
     struct position p = { b, 0, { (uint16_t)move }, 1 }, good = { after_of(b, move), 1, { 0 }, 0 }, bad = good;
-    unsigned which = any(67), past_side = which < 64 ? which : which + 1;
-    uint8_t *number = number_of(&bad.board, past_side);
-    *number = (uint8_t)((*number + 1 + any(limit_of(past_side))) % (limit_of(past_side) + 1u));
+    unsigned which = any(4) ? any(ALL_NUMBERS - 1) : HALF_MOVES - any(2), past_side = which < 64 ? which : which + 1;
+    while (same_board(good.board, bad.board)) set_number(&bad.board, past_side, any_number(past_side));
     start(&g, &p, MENKHODUR_ACCEPTED);
     play(&g, (struct request){ MAKE_MOVE, move, 0, &bad }, MENKHODUR_WRONG_RECORD);
     play(&g, (struct request){ MAKE_MOVE, move, 0, &good }, MENKHODUR_ACCEPTED);
-    put(&g.positions, MENKHODUR_POSITION_SIZE, &bad.board, sizeof bad.board);
+    put_position(&g, 1, &bad);
     for (enum call c = 0; c < CALLS; c++) refuse(&g, c, MENKHODUR_NOT_GOOD);
     give_back_game(&g);
 }
@@ -178,6 +194,7 @@ void check_after(void)
     check_castling();
     check_en_passant();
     check_rights_and_file();
+    check_counters_after();
     check_every_move(initial);
     for (unsigned i = 0; i < 4; i++) check_every_move(some_board());
     check_random();

@@ -1,5 +1,5 @@
-/* The board after a move, written from document 02, order 9, and not from the archive: what `menkhodur_board_after` owes for a record and a
- * move in range, and what a logged move must come with. For the checks here and for the fuzzer's harness. */
+/* The board after a move, written from document 02, orders 9 and 12, and not from the archive: what `menkhodur_board_after` owes for a record
+ * and a move in range, and what a logged move must come with. For the checks here and for the fuzzer's harness. */
 #ifndef AFTER_RULE_H
 #define AFTER_RULE_H
 
@@ -57,6 +57,26 @@ static inline uint8_t set_down(uint8_t man, uint64_t promotion)
     return (uint8_t)(man < MENKHODUR_BLACK_PAWN ? promotion : promotion + 6);
 }
 
+/* "stops at 9,999" */
+static inline uint16_t one_more(uint16_t count)
+{
+    return count < 9999 ? (uint16_t)(count + 1) : count;
+}
+
+/* "by the PGN rule": half-moves since the last pawn advance or capture. For any move, as document 01 counts: "a move with a pawn on its source, or
+ * onto an occupied square" begins again, on the board before it; so a man that is overwritten in castling, or lost rights, do not. */
+static inline uint16_t half_moves_after(const menkhodur_board *before, int source, int destination)
+{
+    bool restarts = is_pawn(before->pieces[source]) || before->pieces[destination] != MENKHODUR_EMPTY;
+    return restarts ? 0 : one_more(before->half_moves);
+}
+
+/* "by the PGN rule": one more after each move by black, which is the side to move of the record, whoever moves. */
+static inline uint16_t full_moves_after(const menkhodur_board *before)
+{
+    return before->side_to_move == MENKHODUR_BLACK ? one_more(before->full_moves) : before->full_moves;
+}
+
 static inline menkhodur_board after_of(menkhodur_board before, uint64_t move)
 {
     int source = (int)(move % 64), destination = (int)(move / 64 % 64);
@@ -70,6 +90,8 @@ static inline menkhodur_board after_of(menkhodur_board before, uint64_t move)
     b.white_castle_rights = rights_kept(rights_kept(before.white_castle_rights, 0, source), 0, destination);
     b.black_castle_rights = rights_kept(rights_kept(before.black_castle_rights, 56, source), 56, destination);
     b.en_passant = file_after(&before, source, destination);
+    b.half_moves = half_moves_after(&before, source, destination);
+    b.full_moves = full_moves_after(&before);
     return b;
 }
 

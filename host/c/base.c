@@ -37,10 +37,10 @@ void check_base(void)
 }
 
 /* A step sets one number of the record: `which`, to `value`. */
-static void expect_step(bool ok, menkhodur_board before, unsigned which, uint8_t value, menkhodur_stepped got)
+static void expect_step(bool ok, menkhodur_board before, unsigned which, unsigned value, menkhodur_stepped got)
 {
     menkhodur_board want = before;
-    if (ok) *number_of(&want, which) = value;
+    if (ok) set_number(&want, which, value);
     expect("number", out_of_range_unless(ok), got.number);
     expect_board(&want, &got.board);
 }
@@ -64,6 +64,16 @@ static void check_other_steps(menkhodur_board b, bool in_range, uint8_t colour, 
     expect_step(in_range && number < 9, b, 67, number, menkhodur_en_passant(b, number));
 }
 
+/* The counters' steps take a number of any size, which is never cut. */
+static void check_counter_steps(menkhodur_board b, bool in_range, uint64_t number)
+{
+    const char *record = in_range ? "in range" : "out of range";
+    about("menkhodur_half_moves", "%llu, record %s", (unsigned long long)number, record);
+    expect_step(in_range && number <= 9999, b, HALF_MOVES, (unsigned)number, menkhodur_half_moves(b, number));
+    about("menkhodur_full_moves", "%llu, record %s", (unsigned long long)number, record);
+    expect_step(in_range && number >= 1 && number <= 9999, b, FULL_MOVES, (unsigned)number, menkhodur_full_moves(b, number));
+}
+
 static void check_record(menkhodur_board b, bool in_range)
 {
     check_square_steps(b, in_range, 28, 5);
@@ -72,20 +82,41 @@ static void check_record(menkhodur_board b, bool in_range)
     check_other_steps(b, in_range, 1, 3);
     check_other_steps(b, in_range, 0, 8);
     check_other_steps(b, in_range, 2, 9);
+    check_counter_steps(b, in_range, 0);
+    check_counter_steps(b, in_range, 9999);
+    check_counter_steps(b, in_range, 10000);
 }
 
-/* Each number of the record at its limit, one past it, and at 255. */
+/* Each number of the record at either end of its range, and out of it. No relation between the two counters is asked. */
 static void check_record_range(void)
 {
-    for (unsigned which = 0; which < 68; which++) {
-        uint8_t limit = limit_of(which);
-        menkhodur_board b = initial;
-        *number_of(&b, which) = limit;
+    menkhodur_board b;
+    for (unsigned which = 0; which < ALL_NUMBERS; which++) {
+        b = initial;
+        set_number(&b, which, limit_of(which));
         check_record(b, true);
-        *number_of(&b, which) = (uint8_t)(limit + 1);
-        check_record(b, false);
-        *number_of(&b, which) = 255;
-        check_record(b, false);
+        set_number(&b, which, least_of(which));
+        check_record(b, true);
+    }
+    for (unsigned i = 0; i < BAD_BOARDS; i++) check_record(bad_board(initial, i), false);
+    check_record(no_board, false);
+    b.half_moves = b.full_moves = 9999;
+    check_record(b, true);
+}
+
+/* Every number of 16 bits and some behind them, and numbers that a narrower type would cut to good ones. A step keeps the other counter. */
+static void check_counter_numbers(void)
+{
+    menkhodur_board b = initial;
+    b.half_moves = 500;
+    b.full_moves = 7;
+    for (uint64_t number = 0; number < 65536 + 9999 + 2; number += exact ? 101 : 1) check_counter_steps(b, true, number);
+    check_counter_steps(b, true, 65536);
+    check_counter_steps(b, true, 65537);
+    for (unsigned i = 0; i < WIDE; i++) {
+        check_counter_steps(b, true, wide[i]);
+        check_counter_steps(b, true, wide_over(i, 0));
+        check_counter_steps(b, true, wide_over(i, 1));
     }
 }
 
@@ -97,4 +128,5 @@ void check_steps(void)
             check_other_steps(initial, true, (uint8_t)a, (uint8_t)b);
         }
     check_record_range();
+    check_counter_numbers();
 }

@@ -38,6 +38,13 @@ unsigned any(unsigned below)
     return (unsigned)(seed >> 33) % below;
 }
 
+unsigned any_number(unsigned which)
+{
+    unsigned values = limit_of(which) - least_of(which) + 1, near = any(4);
+    if (which < KEY_NUMBERS || any(2)) return least_of(which) + any(values);
+    return any(2) ? limit_of(which) - near : least_of(which) + near;
+}
+
 uint64_t first_of(unsigned faults, const uint64_t *numbers)
 {
     unsigned i = 0;
@@ -202,7 +209,8 @@ void expect_written(const char *what, struct part *p, size_t at, const void *byt
 
 /* ---- Boards ---- */
 
-const menkhodur_board no_board = { { 0 }, 0, 0, 0, 0 };
+const menkhodur_board no_board = { { 0 }, 0, 0, 0, 0, 0, 0 };
+const menkhodur_board empty_board = { .full_moves = 1 };
 
 const menkhodur_board initial = {
     {
@@ -215,13 +223,34 @@ const menkhodur_board initial = {
         7, 7, 7, 7, 7, 7, 7, 7,
         10, 8, 9, 11, 12, 9, 8, 10,
     },
-    0, 3, 3, 0,
+    0, 3, 3, 0, 0, 1,
 };
 
 menkhodur_board board_with(uint8_t side, unsigned men, const uint8_t *squares, const uint8_t *codes)
 {
-    menkhodur_board b = no_board;
+    menkhodur_board b = empty_board;
     b.side_to_move = side;
     for (unsigned i = 0; i < men; i++) b.pieces[squares[i]] = codes[i];
+    return b;
+}
+
+bool same_board(menkhodur_board b, menkhodur_board c)
+{
+    for (unsigned which = 0; which < ALL_NUMBERS; which++)
+        if (get_number(b, which) != get_number(c, which)) return false;
+    return true;
+}
+
+bool board_in_range(menkhodur_board b)
+{
+    for (unsigned which = 0; which < ALL_NUMBERS; which++)
+        if (get_number(b, which) < least_of(which) || get_number(b, which) > limit_of(which)) return false;
+    return true;
+}
+
+menkhodur_board bad_board(menkhodur_board b, unsigned i)
+{
+    if (i == BAD_BOARDS - 1) b.full_moves = 0;
+    else set_number(&b, i / 2, i % 2 ? largest_of(i / 2) : limit_of(i / 2) + 1);
     return b;
 }

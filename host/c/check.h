@@ -46,9 +46,15 @@ void put_byte(struct part *p, size_t at, uint8_t byte);
 void expect_unchanged(const char *what, const struct part *p);
 void expect_written(const char *what, struct part *p, size_t at, const void *bytes, size_t length);
 
-/* Boards. */
-extern const menkhodur_board no_board, initial;
+/* Boards. `no_board` is what comes beside a refusal, all zeros and out of range; the others have the counters 0 and 1. */
+extern const menkhodur_board no_board, empty_board, initial;
 menkhodur_board board_with(uint8_t side, unsigned men, const uint8_t *squares, const uint8_t *codes);
+bool same_board(menkhodur_board b, menkhodur_board c);
+bool board_in_range(menkhodur_board b);
+
+/* The board with one number out of range: past its limit by one, then as far as its type goes, for each in turn; last a move number of 0. */
+enum { BAD_BOARDS = 2 * ALL_NUMBERS + 1 };
+menkhodur_board bad_board(menkhodur_board b, unsigned i);
 
 /* Numbers of more than 16 bits, some with the highest bit; and such numbers whose low 16 bits are `low`, which a narrower type would
  * leave. */
@@ -61,6 +67,9 @@ bool is_in(const char *bytes, uint8_t byte);
 
 /* A number below the bound that looks random and is the same each time. */
 unsigned any(unsigned below);
+
+/* Such a number of a record in range; a counter is often at either end of its range. */
+unsigned any_number(unsigned which);
 
 /* The answer number of a call with a set of faults, a bit for each: that of the lowest bit, or 0 of none. */
 uint64_t first_of(unsigned faults, const uint64_t *numbers);
@@ -80,6 +89,7 @@ void check_base(void);
 void check_steps(void);
 void check_after(void);
 void check_fen(const char *positions);
+void check_full(const char *positions);
 void check_page(const char *positions, const char *pages);
 void check_coordinates(void);
 void check_san(void);
@@ -88,6 +98,7 @@ void check_log(void);
 void check_orders(void);
 void check_games(void);
 void check_rulings(void);
+void check_counters(void);
 void check_nulls(void);
 void check_rolls(void);
 void check_differences(void);

@@ -1,11 +1,11 @@
-/* What differs between two rolls (document 02, order 10): the text is made from the order's own words out of the two games that the rolls
+/* What differs between two rolls (document 02, orders 10 and 12): the text is made from the order's own words out of the two games that the rolls
  * were made of, and every lent byte is looked at. */
 #include "game.h"
 
 #include <stdio.h>
 #include <string.h>
 
-enum { RECORD = 68, MOST = 1500, PAIRS = 400, PAIRS_EXACT = 20, LINE = 40, SPARE = 9 };
+enum { MOST = 1500, PAIRS = 400, PAIRS_EXACT = 20, LINE = 40, SPARE = 9 };
 
 /* A start, and actions as a part has them. */
 struct side {
@@ -34,15 +34,16 @@ static void add_line(struct text *t, const char *key, unsigned first, unsigned s
     t->length += (size_t)snprintf(t->bytes + t->length, LINE, "%s %u %u\n", key, first, second);
 }
 
-/* "the start squares, keyed by number, `side`, `white`, `black`, `ep`, then the first action that differs, keyed `action` and its index" */
-static struct text told(struct side *first, struct side *second)
+/* "the start squares, keyed by number, `side`, `white`, `black`, `ep`, then the first action that differs, keyed `action` and its index"; and the
+ * counters, "`half` and `full` after `ep`" */
+static struct text told(const struct side *first, const struct side *second)
 {
-    static const char *const behind[4] = { "side", "white", "black", "ep" };
+    static const char *const behind[] = { "side", "white", "black", "ep", "half", "full" };
     struct text t = { { 0 }, 0 };
     char key[LINE];
     uint64_t index = 0;
-    for (unsigned which = 0; which < RECORD; which++) {
-        unsigned x = *number_of(&first->start, which), y = *number_of(&second->start, which);
+    for (unsigned which = 0; which < ALL_NUMBERS; which++) {
+        unsigned x = get_number(first->start, which), y = get_number(second->start, which);
         snprintf(key, sizeof key, "%u", which);
         if (x != y) add_line(&t, which < 64 ? key : behind[which - 64], x, y);
     }
@@ -69,7 +70,7 @@ static void check_room(const struct part *first, const struct part *second, cons
 }
 
 /* Both ways round, in rooms that fit and that do not; none of at least MENKHODUR_MAX_DIFFERENCES is too short. */
-static void check_pair(struct side *first, struct side *second)
+static void check_pair(const struct side *first, const struct side *second)
 {
     struct text t = told(first, second), back = told(second, first);
     struct part a = lend_roll(first->start, first->actions, first->count), b = lend_roll(second->start, second->actions, second->count);
@@ -102,16 +103,16 @@ static void add_any(struct side *s, uint64_t index)
 static void any_side(struct side *s)
 {
     s->count = any(any(4) ? 40 : 900);
-    for (unsigned which = 0; which < RECORD; which++) *number_of(&s->start, which) = (uint8_t)any(limit_of(which) + 1u);
+    for (unsigned which = 0; which < ALL_NUMBERS; which++) set_number(&s->start, which, any_number(which));
     for (uint64_t i = 0; i < s->count; i++) add_any(s, i);
 }
 
 /* One thing of a copy: a number of the start, an action, the count. */
 static void change(struct side *s)
 {
-    unsigned which = any(RECORD);
+    unsigned which = any(4) ? any(ALL_NUMBERS) : HALF_MOVES + any(2);
     switch (any(4)) {
-    case 0: *number_of(&s->start, which) = (uint8_t)any(limit_of(which) + 1u); break;
+    case 0: set_number(&s->start, which, any_number(which)); break;
     case 1: if (s->count) add_any(s, any((unsigned)s->count)); break;
     case 2: s->count = any((unsigned)s->count + 1); break;
     default: add_any(s, s->count++); break;
@@ -134,27 +135,46 @@ static void check_games_that_differ(void)
 static void check_each_number(void)
 {
     static struct side first, second;
-    first = second = (struct side){ .count = 0 };
-    for (unsigned which = 0; which < RECORD; which++) {
-        *number_of(&first.start, which) = limit_of(which);
+    first = second = (struct side){ .start = empty_board };
+    for (unsigned which = 0; which < ALL_NUMBERS; which++) {
+        set_number(&first.start, which, limit_of(which));
         check_pair(&first, &second);
-        *number_of(&first.start, which) = 0;
+        set_number(&first.start, which, least_of(which));
     }
     first.start.pieces[28] = MENKHODUR_WHITE_PAWN;
     expect("the order's row", 0, (uint64_t)memcmp(told(&first, &second).bytes, "28 1 0\n", 8));
     check_pair(&first, &second);
 }
 
-/* Men of two digits on every square, and after a thousand offers the last move against the one before it. */
+/* Counters of every length in a roll and in a text, among lines before them and behind. */
+static void check_counters_told(void)
+{
+    static const uint16_t counts[] = { 1, 2, 9, 10, 127, 128, 255, 256, 999, 1000, 9999 };
+    static struct side first, second;
+    first = second = (struct side){ .start = initial };
+    first.start.en_passant = 8;
+    add_action(&first, first.count++, MENKHODUR_OFFER_DRAW, MENKHODUR_BLACK, 0);
+    for (unsigned i = 0; i < 11 * 11; i++) {
+        first.start.half_moves = second.start.full_moves = counts[i / 11];
+        second.start.half_moves = first.start.full_moves = counts[i % 11];
+        check_pair(&first, &second);
+    }
+    first.start.half_moves = 0, second.start.half_moves = 100, first.start.full_moves = 9999, second.start.full_moves = 51;
+    expect("by hand", 0, (uint64_t)memcmp(told(&first, &second).bytes, "ep 8 0\nhalf 0 100\nfull 9999 51\naction 0 5 0\n", 45));
+    check_pair(&first, &second);
+}
+
+/* Men of two digits on every square, counters of four, and after a thousand offers the last move against the one before it. */
 static void check_longest(void)
 {
     static struct side first, second;
     struct text t;
     first = (struct side){ .count = 1001 };
-    for (unsigned which = 0; which < RECORD; which++) *number_of(&first.start, which) = which < 64 ? MENKHODUR_BLACK_ROOK : 0;
+    for (unsigned which = 0; which < 64; which++) first.start.pieces[which] = MENKHODUR_BLACK_ROOK;
+    first.start.half_moves = first.start.full_moves = MENKHODUR_LAST_COUNT - 1;
     for (uint64_t i = 0; i < 1000; i++) add_action(&first, i, MENKHODUR_OFFER_DRAW, MENKHODUR_WHITE, 0);
     second = first;
-    for (unsigned which = 0; which < RECORD; which++) *number_of(&second.start, which) = limit_of(which);
+    for (unsigned which = 0; which < ALL_NUMBERS; which++) set_number(&second.start, which, limit_of(which));
     add_action(&first, 1000, MENKHODUR_MAKE_MOVE, 0, MENKHODUR_LAST_MOVE);
     add_action(&second, 1000, MENKHODUR_MAKE_MOVE, 0, MENKHODUR_LAST_MOVE - 1);
     t = told(&first, &second);
@@ -163,32 +183,37 @@ static void check_longest(void)
     check_pair(&first, &second);
 }
 
-/* "those of the roll reader, first roll first": no roll, a number of the record over its bound, a count over the limit, and a good one. */
+/* "those of the roll reader, first roll first": a good one, no roll, a number of the record over its bound, a clock and a move number out of range, a
+ * count over the limit, and an old roll, which this call does not read. */
 static void check_refusals_of_rolls(void)
 {
-    static const uint64_t numbers[4] = { MENKHODUR_BAD_ROLL, MENKHODUR_OUT_OF_RANGE, MENKHODUR_LOG_FULL, MENKHODUR_ACCEPTED };
-    static uint8_t bytes[4][RECORD + 2];
-    static const size_t lengths[4] = { 0, 1, RECORD + 2, RECORD + 1 };
-    struct part rolls[4], out = lend(SPARE);
-    bytes[1][0] = 13;
-    bytes[2][RECORD] = 128 + (MENKHODUR_MAX_ACTIONS + 1) % 128;
-    bytes[2][RECORD + 1] = (MENKHODUR_MAX_ACTIONS + 1) / 128;
-    for (unsigned i = 0; i < 4; i++) rolls[i] = lend_bytes(bytes[i], lengths[i]);
-    for (unsigned i = 0; i < 4; i++) {
-        for (unsigned j = 0; j < 4; j++) {
-            uint64_t number = i < 3 ? numbers[i] : numbers[j];
-            about("menkhodur_roll_differences", "rolls of %u and %u", (unsigned)numbers[i], (unsigned)numbers[j]);
-            expect_answer(number, 0, menkhodur_roll_differences(rolls[i].bytes, lengths[i], rolls[j].bytes, lengths[j], out.bytes, out.length));
-            expect_unchanged("room", &out);
-        }
+    enum { ROLLS = 7, RECORD = KEY_NUMBERS };
+    static const struct { uint64_t number; size_t length; uint8_t bytes[RECORD + 4]; } told[ROLLS] = {
+        { MENKHODUR_ACCEPTED, RECORD + 3, { [FULL_MOVES] = 1 } },
+        { MENKHODUR_BAD_ROLL, 0, { 0 } },
+        { MENKHODUR_OUT_OF_RANGE, 1, { 13 } },
+        { MENKHODUR_OUT_OF_RANGE, RECORD + 4, { [RECORD] = 128 + 10000 % 128, 10000 / 128, 1 } },
+        { MENKHODUR_OUT_OF_RANGE, RECORD + 3, { 0 } },
+        { MENKHODUR_LOG_FULL, RECORD + 4, { [FULL_MOVES] = 1, 128 + (MENKHODUR_MAX_ACTIONS + 1) % 128, (MENKHODUR_MAX_ACTIONS + 1) / 128 } },
+        { MENKHODUR_BAD_ROLL, RECORD + 1, { 0 } },
+    };
+    struct part rolls[ROLLS], out = lend(SPARE);
+    for (unsigned i = 0; i < ROLLS; i++) rolls[i] = lend_bytes(told[i].bytes, told[i].length);
+    for (unsigned i = 0; i < ROLLS * ROLLS; i++) {
+        const struct part *first = &rolls[i / ROLLS], *second = &rolls[i % ROLLS];
+        uint64_t number = told[i / ROLLS].number ? told[i / ROLLS].number : told[i % ROLLS].number;
+        about("menkhodur_roll_differences", "rolls %u and %u", i / ROLLS, i % ROLLS);
+        expect_answer(number, 0, menkhodur_roll_differences(first->bytes, first->length, second->bytes, second->length, out.bytes, out.length));
+        expect_unchanged("room", &out);
     }
-    for (unsigned i = 0; i < 4; i++) give_back(&rolls[i]);
+    for (unsigned i = 0; i < ROLLS; i++) give_back(&rolls[i]);
     give_back(&out);
 }
 
 void check_differences(void)
 {
     check_each_number();
+    check_counters_told();
     check_games_that_differ();
     check_longest();
     check_refusals_of_rolls();

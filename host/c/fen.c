@@ -1,4 +1,4 @@
-/* FEN, read and written. */
+/* FEN, read and written as the crate does: the counters are 0 and 1 whatever the text says, and are written so whatever the record says. */
 #include "check.h"
 
 #include <stdio.h>
@@ -76,7 +76,7 @@ static void check_both(const char *text, const char *key, const menkhodur_board 
 
 static menkhodur_board plain(uint8_t side, uint8_t white, uint8_t black, uint8_t file)
 {
-    menkhodur_board b = no_board;
+    menkhodur_board b = empty_board;
     b.side_to_move = side;
     b.white_castle_rights = white;
     b.black_castle_rights = black;
@@ -103,11 +103,15 @@ static void check_accepted(void)
 {
     static const char empty[] = "8/8/8/8/8/8/8/8 w - - 0 1", black[] = "8/8/8/8/8/8/8/8 b - - 0 1";
     menkhodur_board white_to_move = plain(0, 0, 0, 0), black_to_move = plain(1, 0, 0, 0), file_e = plain(0, 0, 0, 5), file_a = plain(0, 0, 0, 1);
-    menkhodur_board rights = plain(0, 1, 1, 0), b = no_board;
+    menkhodur_board rights = plain(0, 1, 1, 0), b = empty_board;
     check_both(" w - -", empty, &white_to_move);
     check_both("8/8/8/8/8/8/8/8 w - e4", "8/8/8/8/8/8/8/8 w - e6 0 1", &file_e);
     check_both("8/8/8/8/8/8/8/8 b - z9", black, &black_to_move);
     check_both(" W - - 7 9 and more", empty, &white_to_move);
+    check_both(" w - - 9999 9999", empty, &white_to_move);
+    check_both(" w - - 10000 0", empty, &white_to_move);
+    check_both(" w - - x", empty, &white_to_move);
+    check_both(" w - -  1\r", empty, &white_to_move);
     check_both(" B - ", black, &black_to_move);
     check_both(" w  ", empty, &white_to_move);
     check_both(" w - a1xx", "8/8/8/8/8/8/8/8 w - a6 0 1", &file_a);
@@ -196,7 +200,7 @@ static void check_placement_byte(unsigned byte)
     const char *letter = byte ? strchr(pieces, (int)byte) : NULL;
     bool places = letter || byte == '/' || (byte >= '1' && byte <= '8');
     struct fault bad = { byte == ' ' ? MENKHODUR_BAD_SIDE : MENKHODUR_BAD_PLACEMENT, byte == ' ' };
-    menkhodur_board want = no_board;
+    menkhodur_board want = places ? empty_board : no_board;
     menkhodur_fen got;
     if (letter) want.pieces[56] = (uint8_t)(1 + letter - pieces);
     about(fen_read, "placement byte %u", byte);
@@ -208,11 +212,12 @@ static void check_side_byte(unsigned byte)
 {
     uint8_t text[] = { ' ', (uint8_t)byte, ' ', '-', ' ', '-' };
     struct fault bad = { MENKHODUR_BAD_SIDE, 1 };
-    menkhodur_board want = no_board;
+    bool side = is_in("wWbB", (uint8_t)byte);
+    menkhodur_board want = side ? empty_board : no_board;
     menkhodur_fen got;
     want.side_to_move = byte == 'b' || byte == 'B';
     about(fen_read, "side byte %u", byte);
-    got = check_fault(text, sizeof text, byte && strchr("wWbB", (int)byte) ? none : bad);
+    got = check_fault(text, sizeof text, side ? none : bad);
     expect_board(&want, &got.board);
 }
 
@@ -235,15 +240,26 @@ static void check_lengths(void)
 /* 5 stands before 7: a bad record is 5 with every room. */
 static void check_bad_records(void)
 {
-    static const size_t rooms[] = { 0, 24, 85, 86 };
-    for (unsigned i = 0; i < 68 * 4; i++) {
-        menkhodur_board b = initial;
+    static const size_t rooms[] = { 0, MENKHODUR_SHORTEST_FEN - 1, MENKHODUR_LONGEST_FEN, MENKHODUR_LONGEST_FEN + 1 };
+    for (unsigned i = 0; i < BAD_BOARDS * 4; i++) {
         struct part out = lend(rooms[i % 4]);
-        *number_of(&b, i / 4) = (uint8_t)(i % 2 ? 255 : limit_of(i / 4) + 1);
-        about(fen_write, "record number %u out of range, room of %zu", i / 4, out.length);
-        expect_answer(MENKHODUR_OUT_OF_RANGE, 0, menkhodur_fen_write(b, out.bytes, out.length));
+        about(fen_write, "record number %u out of range, room of %zu", i / 8, out.length);
+        expect_answer(MENKHODUR_OUT_OF_RANGE, 0, menkhodur_fen_write(bad_board(initial, i / 4), out.bytes, out.length));
         expect_unchanged("room", &out);
         give_back(&out);
+    }
+}
+
+/* A record's key does not tell its counters. */
+static void check_counters_unsaid(void)
+{
+    static const uint16_t counts[] = { 1, 9, 10, 99, 100, 999, 1000, 9999 };
+    enum { COUNTS = sizeof counts / sizeof *counts };
+    for (unsigned i = 0; i < COUNTS * COUNTS; i++) {
+        menkhodur_board b = initial;
+        b.half_moves = counts[i / COUNTS];
+        b.full_moves = counts[i % COUNTS];
+        check_writes(b, "rnbqkbnr/pppppppp/8/8/8/8/PPPPPPPP/RNBQKBNR w KQkq - 0 1");
     }
 }
 
@@ -282,5 +298,6 @@ void check_fen(const char *positions)
     check_tails();
     check_lengths();
     check_bad_records();
+    check_counters_unsaid();
     check_file(positions);
 }

@@ -45,11 +45,21 @@ static void check_list(const struct form *form, size_t entries, uint16_t other, 
 /* Every record number out of range, with text, list and room that would be refused too, and without. */
 static void check_bad_record(const struct form *form, unsigned i)
 {
-    menkhodur_board board = knight();
     uint16_t move = i % 4 > 1 ? 65535 : TO_C3;
     struct part list = lend_bytes(&move, sizeof move);
-    *number_of(&board, i / 4) = (uint8_t)(i % 2 ? 255 : limit_of(i / 4) + 1);
-    check_both(form, board, &list, i % 4 ? "Nc3" : "", i % 4 ? 3 : 0, MENKHODUR_OUT_OF_RANGE);
+    check_both(form, bad_board(knight(), i / 4), &list, i % 4 ? "Nc3" : "", i % 4 ? 3 : 0, MENKHODUR_OUT_OF_RANGE);
+    give_back(&list);
+}
+
+/* Counters in range have no say in what a text names, or in what a move is called. */
+static void check_counters_of(const struct form *form, uint16_t half_moves, uint16_t full_moves)
+{
+    const uint16_t move = TO_C3;
+    struct part list = lend_bytes(&move, sizeof move);
+    menkhodur_board board = knight();
+    board.half_moves = half_moves;
+    board.full_moves = full_moves;
+    check_both(form, board, &list, "Nc3", 3, MENKHODUR_ACCEPTED);
     give_back(&list);
 }
 
@@ -63,5 +73,8 @@ void check_ranges(const struct form *form)
     check_list(form, 256, 0, false);
     check_list(form, 257, 0, false);
     check_list(form, 257, 65535, false);
-    for (unsigned i = 0; i < 68 * 4; i++) check_bad_record(form, i);
+    for (unsigned i = 0; i < BAD_BOARDS * 4; i++) check_bad_record(form, i);
+    check_counters_of(form, 9999, 1);
+    check_counters_of(form, 0, 9999);
+    check_counters_of(form, 257, 258);
 }

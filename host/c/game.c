@@ -40,6 +40,8 @@ struct position round_position(uint64_t k, bool fresh)
 {
     struct position p = { initial, 0, { 0 }, 2 };
     for (uint64_t i = 0; i < k % 4; i++) step_to(&p.board, round_move(i));
+    p.board.half_moves = (uint16_t)k;
+    p.board.full_moves = (uint16_t)(1 + k / 2);
     p.list[0] = fresh ? (uint16_t)(8192 + k) : 1804;
     p.list[1] = (uint16_t)round_move(k);
     return p;
@@ -47,16 +49,22 @@ struct position round_position(uint64_t k, bool fresh)
 
 /* ---- Bytes ---- */
 
+/* "two bytes, low first" */
+static void pair_bytes(uint16_t number, uint8_t *bytes)
+{
+    bytes[0] = (uint8_t)(number % 256);
+    bytes[1] = (uint8_t)(number / 256);
+}
+
 static void position_bytes(const struct position *p, uint8_t *bytes)
 {
     memset(bytes, 0, MENKHODUR_POSITION_SIZE);
-    memcpy(bytes, &p->board, 68);
-    bytes[68] = p->in_check;
-    bytes[69] = (uint8_t)p->entries;
-    for (size_t i = 0; i < p->entries; i++) {
-        bytes[70 + 2 * i] = (uint8_t)(p->list[i] % 256);
-        bytes[71 + 2 * i] = (uint8_t)(p->list[i] / 256);
-    }
+    for (unsigned which = 0; which < KEY_NUMBERS; which++) bytes[MENKHODUR_POSITION_RECORD + which] = (uint8_t)get_number(p->board, which);
+    pair_bytes(p->board.half_moves, bytes + MENKHODUR_POSITION_HALF_MOVES);
+    pair_bytes(p->board.full_moves, bytes + MENKHODUR_POSITION_FULL_MOVES);
+    bytes[MENKHODUR_POSITION_IN_CHECK] = p->in_check;
+    bytes[MENKHODUR_POSITION_ENTRIES] = (uint8_t)p->entries;
+    for (size_t i = 0; i < p->entries; i++) pair_bytes(p->list[i], bytes + MENKHODUR_POSITION_MOVES + 2 * i);
 }
 
 static void action_bytes(struct request r, uint8_t *bytes)
@@ -68,22 +76,25 @@ static void action_bytes(struct request r, uint8_t *bytes)
     bytes[3] = moves ? (uint8_t)(r.move / 256) : 0;
 }
 
-void put_start(struct game *g, const struct position *p)
+void put_position(struct game *g, uint64_t k, const struct position *p)
 {
     uint8_t bytes[MENKHODUR_POSITION_SIZE];
     position_bytes(p, bytes);
-    put(&g->positions, 0, bytes, sizeof bytes);
+    put(&g->positions, MENKHODUR_POSITION_SIZE * k, bytes, sizeof bytes);
+}
+
+void put_start(struct game *g, const struct position *p)
+{
+    put_position(g, 0, p);
     g->action_count = g->move_count = 0;
 }
 
 void append(struct game *g, struct request r)
 {
-    uint8_t action[MENKHODUR_ACTION_SIZE], position[MENKHODUR_POSITION_SIZE];
+    uint8_t action[MENKHODUR_ACTION_SIZE];
     action_bytes(r, action);
     put(&g->actions, MENKHODUR_ACTION_SIZE * g->action_count++, action, sizeof action);
-    if (r.call != MAKE_MOVE) return;
-    position_bytes(r.next, position);
-    put(&g->positions, MENKHODUR_POSITION_SIZE * ++g->move_count, position, sizeof position);
+    if (r.call == MAKE_MOVE) put_position(g, ++g->move_count, r.next);
 }
 
 void append_round(struct game *g, uint64_t moves, bool fresh)
@@ -142,7 +153,7 @@ static void expect_parts(const struct game *g)
     expect_unchanged("positions", &g->positions);
 }
 
-/* A new action writes its 4 bytes, a new position its 580, and nothing else. */
+/* A new action writes its 4 bytes, a new position its 584, and nothing else. */
 static void expect_appended(struct game *g, struct request r)
 {
     uint8_t action[MENKHODUR_ACTION_SIZE], position[MENKHODUR_POSITION_SIZE];

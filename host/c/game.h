@@ -50,18 +50,22 @@ extern bool empty_list_is_null;
 struct game lend_game(size_t actions_length, size_t positions_length);
 void give_back_game(struct game *g);
 
-/* The knights' round g1f3 g8f6 f3g1 f6g8: the position after k moves, and the move played there. With `fresh` no two are equal. */
+/* The knights' round g1f3 g8f6 f3g1 f6g8: the position after k moves, with the counters of a game from the initial position, and the move played
+ * there. With `fresh` no two are equal. */
 struct position round_position(uint64_t k, bool fresh);
 uint64_t round_move(uint64_t k);
 
-/* The caller's own writing of a start, and of an accepted call, as document 01 gives their bytes. */
+/* The caller's own writing of a position over the one with that number, of a start, and of an accepted call, as document 01 and order 12 of
+ * document 02 give their bytes. */
+void put_position(struct game *g, uint64_t k, const struct position *p);
 void put_start(struct game *g, const struct position *p);
 void append(struct game *g, struct request r);
 void append_round(struct game *g, uint64_t moves, bool fresh);
 void append_offers(struct game *g, uint64_t offers, uint8_t colour);
 
-/* The roll of a start and its actions, as document 02 gives its bytes. */
+/* The roll of a start and its actions, as document 02 gives its bytes; and the one that had no counters, before order 12. */
 struct part lend_roll(menkhodur_board start, const uint8_t *actions, uint64_t count);
+struct part lend_old_roll(menkhodur_board start, const uint8_t *actions, uint64_t count);
 
 /* Calls the library and checks number, value, counts and every lent byte. An accepted action is then in the log. A ruling that is asked for
  * by its number alone must have 0 in all others. */

@@ -54,10 +54,7 @@ static bool claim_stands(const struct record *r)
 
 static bool in_range(const struct position *p)
 {
-    menkhodur_board b = p->board;
-    bool in = p->in_check < 2;
-    for (unsigned which = 0; which < 68; which++) in = in && *number_of(&b, which) <= limit_of(which);
-    return in;
+    return p->in_check < 2 && board_in_range(p->board);
 }
 
 static bool lists(const struct position *p, uint64_t move)
@@ -65,13 +62,6 @@ static bool lists(const struct position *p, uint64_t move)
     for (size_t i = 0; i < p->entries; i++)
         if (p->list[i] == move) return true;
     return false;
-}
-
-static bool same_board(menkhodur_board b, menkhodur_board c)
-{
-    for (unsigned which = 0; which < 68; which++)
-        if (*number_of(&b, which) != *number_of(&c, which)) return false;
-    return true;
 }
 
 static bool bad_list(const struct position *p)
@@ -129,12 +119,14 @@ static struct position some_position(menkhodur_board b)
 
 static menkhodur_board some_start(void)
 {
-    menkhodur_board b = no_board;
+    menkhodur_board b = empty_board;
     b.side_to_move = (uint8_t)any(2);
     b.pieces[B3] = (uint8_t)(2 + any(4)), b.pieces[B6] = (uint8_t)(8 + any(4)), b.pieces[D4] = any(2) ? MENKHODUR_WHITE_PAWN : MENKHODUR_BLACK_PAWN;
     b.white_castle_rights = any(25) ? 3 : 1;
     b.black_castle_rights = any(25) ? 3 : 2;
     b.en_passant = (uint8_t)any(9);
+    b.half_moves = (uint16_t)any_number(HALF_MOVES);
+    b.full_moves = (uint16_t)any_number(FULL_MOVES);
     return b;
 }
 
@@ -146,7 +138,10 @@ static void spoil(struct position *p)
     if (how == 2) p->list[p->entries ? any((unsigned)p->entries) : 0] = MENKHODUR_LAST_MOVE + 1;
     if (how == 3) p->entries = MENKHODUR_LONGEST_LIST + 1;
     if (how == 4) p->board.side_to_move ^= 1;
-    if (how < 7 && how > 4) how = any(68), *number_of(&p->board, how) = (uint8_t)any(limit_of(how) + 1u);
+    if (how == 5 || how == 6) how = any(ALL_NUMBERS), set_number(&p->board, how, any_number(how));
+    if (how == 7) p->board = bad_board(p->board, BAD_BOARDS - 1 - any(5));
+    if (how == 8) p->board.half_moves = p->board.half_moves == MENKHODUR_LAST_COUNT ? 0 : p->board.half_moves + 1;
+    if (how == 9) p->board.full_moves = p->board.full_moves == MENKHODUR_LAST_COUNT ? 1 : p->board.full_moves + 1;
 }
 
 static struct request some_request(const struct record *r, struct position *next)
@@ -158,6 +153,13 @@ static struct request some_request(const struct record *r, struct position *next
     *next = some_position(after_of(now->board, move % 28672));
     spoil(next);
     return (struct request){ call, move, (uint8_t)(any(15) ? any(2) : any(256)), next };
+}
+
+/* The clock of the last position beside the count of article 9.3: the start's clock is in it while nothing has emptied that. */
+static uint64_t clock_by_count(const struct record *r)
+{
+    uint64_t count = ruling_of(r).laws_count, clock = count + (count == r->moves ? r->at[0].board.half_moves : 0);
+    return clock < MENKHODUR_LAST_COUNT ? clock : MENKHODUR_LAST_COUNT;
 }
 
 static void check_game(void)
@@ -173,6 +175,7 @@ static void check_game(void)
         uint64_t number = number_for(&r, q);
         play(&g, q, number);
         if (number == MENKHODUR_ACCEPTED) note(&r, q);
+        expect("clock by the Laws' count", clock_by_count(&r), r.at[r.moves].board.half_moves);
         ask(&g, RESULT, MENKHODUR_ACCEPTED, result_of(&r));
         ask(&g, CAN_DECLARE, MENKHODUR_ACCEPTED, claim_stands(&r));
         ask(&g, CAN_CLAIM, MENKHODUR_ACCEPTED, ruling_of(&r).laws_claim != 0);

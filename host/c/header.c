@@ -42,5 +42,7 @@ menkhodur_board with_men(menkhodur_board b)
     b.pieces[4] = MENKHODUR_WHITE_KING;
     b.side_to_move = MENKHODUR_BLACK;
     b.black_castle_rights = MENKHODUR_BOTH_SIDES;
+    b.half_moves = MENKHODUR_LAST_COUNT;
+    b.full_moves = 1;
     return b;
 }

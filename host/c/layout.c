@@ -81,25 +81,26 @@ static void check_men(void)
     char key[] = "8/8/8/8/8/8/8/.7 w - - 0 1";
     for (size_t i = 0; i < sizeof men; i++) {
         key[14] = "PNBRQKpnbrqk"[i];
-        check_key(menkhodur_piece(no_board, 0, men[i]), key);
-        expect("empty", MENKHODUR_EMPTY, menkhodur_clear_square(menkhodur_piece(no_board, 0, men[i]).board, 0).board.pieces[0]);
+        check_key(menkhodur_piece(empty_board, 0, men[i]), key);
+        expect("empty", MENKHODUR_EMPTY, menkhodur_clear_square(menkhodur_piece(empty_board, 0, men[i]).board, 0).board.pieces[0]);
     }
 }
 
 static void check_colours_and_rights(void)
 {
-    check_key(menkhodur_side_to_move(no_board, MENKHODUR_WHITE), "8/8/8/8/8/8/8/8 w - - 0 1");
-    check_key(menkhodur_side_to_move(no_board, MENKHODUR_BLACK), "8/8/8/8/8/8/8/8 b - - 0 1");
-    check_key(menkhodur_castle_rights(no_board, MENKHODUR_WHITE, MENKHODUR_NO_RIGHTS), "8/8/8/8/8/8/8/8 w - - 0 1");
-    check_key(menkhodur_castle_rights(no_board, MENKHODUR_WHITE, MENKHODUR_KING_SIDE), "8/8/8/8/8/8/8/8 w K - 0 1");
-    check_key(menkhodur_castle_rights(no_board, MENKHODUR_WHITE, MENKHODUR_BOTH_SIDES), "8/8/8/8/8/8/8/8 w KQ - 0 1");
-    check_key(menkhodur_castle_rights(no_board, MENKHODUR_BLACK, MENKHODUR_QUEEN_SIDE), "8/8/8/8/8/8/8/8 w q - 0 1");
-    check_key(menkhodur_castle_rights(no_board, MENKHODUR_BLACK, MENKHODUR_BOTH_SIDES), "8/8/8/8/8/8/8/8 w kq - 0 1");
+    check_key(menkhodur_side_to_move(empty_board, MENKHODUR_WHITE), "8/8/8/8/8/8/8/8 w - - 0 1");
+    check_key(menkhodur_side_to_move(empty_board, MENKHODUR_BLACK), "8/8/8/8/8/8/8/8 b - - 0 1");
+    check_key(menkhodur_castle_rights(empty_board, MENKHODUR_WHITE, MENKHODUR_NO_RIGHTS), "8/8/8/8/8/8/8/8 w - - 0 1");
+    check_key(menkhodur_castle_rights(empty_board, MENKHODUR_WHITE, MENKHODUR_KING_SIDE), "8/8/8/8/8/8/8/8 w K - 0 1");
+    check_key(menkhodur_castle_rights(empty_board, MENKHODUR_WHITE, MENKHODUR_BOTH_SIDES), "8/8/8/8/8/8/8/8 w KQ - 0 1");
+    check_key(menkhodur_castle_rights(empty_board, MENKHODUR_BLACK, MENKHODUR_QUEEN_SIDE), "8/8/8/8/8/8/8/8 w q - 0 1");
+    check_key(menkhodur_castle_rights(empty_board, MENKHODUR_BLACK, MENKHODUR_BOTH_SIDES), "8/8/8/8/8/8/8/8 w kq - 0 1");
 }
 
 /* ---- Bytes of a log that calls have made ---- */
 
-static uint64_t move_at(const uint8_t *bytes)
+/* A move or a counter. */
+static uint64_t number_in(const uint8_t *bytes)
 {
     return bytes[0] + 256u * bytes[1];
 }
@@ -110,7 +111,7 @@ static void expect_action(const struct game *g, uint64_t i, uint64_t kind, uint6
     about("places of an action", "action %llu", (unsigned long long)i);
     expect("kind", kind, action[MENKHODUR_ACTION_KIND]);
     expect("colour", colour, action[MENKHODUR_ACTION_COLOUR]);
-    expect("move", move, move_at(action + MENKHODUR_ACTION_MOVE));
+    expect("move", move, number_in(action + MENKHODUR_ACTION_MOVE));
 }
 
 static void expect_position(const struct game *g, uint64_t k, const struct position *p)
@@ -118,12 +119,14 @@ static void expect_position(const struct game *g, uint64_t k, const struct posit
     const uint8_t *position = g->positions.bytes + MENKHODUR_POSITION_SIZE * k;
     menkhodur_board board;
     about("places of a position", "position %llu", (unsigned long long)k);
-    memcpy(&board, position + MENKHODUR_POSITION_RECORD, sizeof board);
+    memcpy(&board, position + MENKHODUR_POSITION_RECORD, KEY_NUMBERS);
+    board.half_moves = (uint16_t)number_in(position + MENKHODUR_POSITION_HALF_MOVES);
+    board.full_moves = (uint16_t)number_in(position + MENKHODUR_POSITION_FULL_MOVES);
     expect_board(&p->board, &board);
     expect("in check", p->in_check, position[MENKHODUR_POSITION_IN_CHECK]);
     expect("entries", p->entries, position[MENKHODUR_POSITION_ENTRIES]);
     for (size_t i = 0; i < MENKHODUR_LONGEST_LIST; i++)
-        expect("move", i < p->entries ? p->list[i] : 0, move_at(position + MENKHODUR_POSITION_MOVES + 2 * i));
+        expect("move", i < p->entries ? p->list[i] : 0, number_in(position + MENKHODUR_POSITION_MOVES + 2 * i));
 }
 
 static void check_log_of(struct request last, uint64_t kind, uint8_t colour)
@@ -148,14 +151,28 @@ static void check_log_of(struct request last, uint64_t kind, uint8_t colour)
     give_back_game(&g);
 }
 
+/* The numbers of documents 01 and 02, and how they come about. */
 static void check_lengths(void)
 {
     about("lengths of the parts", "by their items");
+    expect("record of a line", 68, MENKHODUR_PAGE_RECORD);
+    expect("counters", 68, MENKHODUR_POSITION_HALF_MOVES);
+    expect("counters", 70, MENKHODUR_POSITION_FULL_MOVES);
+    expect("in-check byte", 72, MENKHODUR_POSITION_IN_CHECK);
+    expect("list", 73, MENKHODUR_POSITION_ENTRIES);
+    expect("moves", 74, MENKHODUR_POSITION_MOVES);
+    expect("position", 584, MENKHODUR_POSITION_SIZE);
     expect("position", MENKHODUR_POSITION_SIZE, MENKHODUR_POSITION_MOVES + 2 * MENKHODUR_LONGEST_LIST);
     expect("actions", MENKHODUR_ACTIONS_LENGTH, MENKHODUR_ACTION_SIZE * MENKHODUR_MAX_ACTIONS);
+    expect("positions", 2392648, MENKHODUR_POSITIONS_LENGTH);
     expect("positions", MENKHODUR_POSITIONS_LENGTH, MENKHODUR_POSITION_SIZE * (MENKHODUR_MAX_MOVES + 1));
-    expect("record of a line", MENKHODUR_PAGE_RECORD, sizeof(menkhodur_board));
-    expect("roll", MENKHODUR_LONGEST_ROLL, sizeof(menkhodur_board) + 2 + 4 * MENKHODUR_MAX_MOVES + (MENKHODUR_MAX_ACTIONS - MENKHODUR_MAX_MOVES));
+    expect("board", 72, sizeof(menkhodur_board));
+    expect("counters", KEY_NUMBERS, offsetof(menkhodur_board, half_moves));
+    expect("greatest counter", 9999, MENKHODUR_LAST_COUNT);
+    expect("full FEN", MENKHODUR_LONGEST_FULL_FEN, MENKHODUR_LONGEST_FEN + strlen("9999 9999") - strlen("0 1"));
+    expect("roll", 20554, MENKHODUR_LONGEST_ROLL);
+    expect("roll", MENKHODUR_LONGEST_ROLL, KEY_NUMBERS + 2 * 2 + 2 + 4 * MENKHODUR_MAX_MOVES + (MENKHODUR_MAX_ACTIONS - MENKHODUR_MAX_MOVES));
+    expect("differences", 658, MENKHODUR_MAX_DIFFERENCES);
 }
 
 void check_layout(void)

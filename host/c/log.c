@@ -34,13 +34,14 @@ static void check_start_lists(struct game *g)
 
 static void check_start_numbers(struct game *g)
 {
-    for (unsigned which = 0; which < 68; which++) {
+    for (unsigned which = 0; which < ALL_NUMBERS; which++) {
         struct position p = round_position(0, false);
-        *number_of(&p.board, which) = limit_of(which);
+        set_number(&p.board, which, limit_of(which));
         start(g, &p, MENKHODUR_ACCEPTED);
-        *number_of(&p.board, which) = (uint8_t)(limit_of(which) + 1);
-        start(g, &p, MENKHODUR_OUT_OF_RANGE);
-        *number_of(&p.board, which) = 255;
+    }
+    for (unsigned i = 0; i < BAD_BOARDS; i++) {
+        struct position p = round_position(0, false);
+        p.board = bad_board(p.board, i);
         start(g, &p, MENKHODUR_OUT_OF_RANGE);
     }
     for (unsigned in_check = 0; in_check < 256; in_check++) {
@@ -188,13 +189,10 @@ static void check_colours(void)
 
 static void check_next_numbers(struct game *g)
 {
-    for (unsigned which = 0; which < 68; which++) {
+    for (unsigned i = 0; i < BAD_BOARDS; i++) {
         struct position next = round_position(1, false);
-        struct request r = { MAKE_MOVE, round_move(0), 0, &next };
-        *number_of(&next.board, which) = (uint8_t)(limit_of(which) + 1);
-        play(g, r, MENKHODUR_OUT_OF_RANGE);
-        *number_of(&next.board, which) = 255;
-        play(g, r, MENKHODUR_OUT_OF_RANGE);
+        next.board = bad_board(next.board, i);
+        play(g, (struct request){ MAKE_MOVE, round_move(0), 0, &next }, MENKHODUR_OUT_OF_RANGE);
     }
     for (unsigned in_check = 2; in_check < 256; in_check += 23) {
         struct position next = round_position(1, false);
@@ -228,14 +226,15 @@ static void check_unlisted(struct game *g)
     }
 }
 
-/* Each number of the record, but the side, changed to another in range. */
+/* Each number of the record, but the side, changed to another in range. Of the counters' many, those below 20 and some that share a byte with the
+ * right one. */
 static void check_wrong_records(struct game *g)
 {
-    for (unsigned which = 0; which < 68; which++) {
+    for (unsigned which = 0; which < ALL_NUMBERS; which++) {
         struct position next = round_position(1, false);
-        uint8_t right = *number_of(&next.board, which), limit = limit_of(which);
-        for (unsigned other = 0; other <= limit && which != 64; other++) {
-            *number_of(&next.board, which) = (uint8_t)other;
+        unsigned right = get_number(next.board, which), limit = limit_of(which);
+        for (unsigned other = least_of(which); other <= limit && which != 64; other += other < 20 ? 1 : 256 - other % 256 + any(3)) {
+            set_number(&next.board, which, other);
             if (other != right) play(g, (struct request){ MAKE_MOVE, round_move(0), 0, &next }, MENKHODUR_WRONG_RECORD);
         }
     }
@@ -254,7 +253,7 @@ static void check_moves(void)
     give_back_game(&g);
 }
 
-/* A full list, whose last entry is the highest move; the position fills its 580 bytes. */
+/* A full list, whose last entry is the highest move; the position fills its 584 bytes. */
 static void check_full_list(void)
 {
     struct game g = usual_game();
@@ -331,7 +330,7 @@ static void check_emptying(enum emptying how)
     give_back_game(&g);
 }
 
-/* Equal means the same record and the same list in order; the in-check byte is not part of it. */
+/* Equal means the same record but for the counters, and the same list in order; the in-check byte is not part of it. */
 static void check_equality(int what, bool stands)
 {
     struct game g = usual_game();
@@ -390,24 +389,41 @@ static void check_spoilt_actions(struct game *g)
     for (size_t i = 0; i < sizeof spoilt / sizeof *spoilt; i++) check_spoilt(g, &g->actions, spoilt[i].at, spoilt[i].byte);
 }
 
+/* A number of a record out of range; what comes before is put back. Each of these bytes of a counter makes it 10,000 or more, or a move number 0. */
+static void check_bad_numbers(struct game *g, size_t from)
+{
+    for (unsigned which = 0; which < KEY_NUMBERS; which++) check_spoilt(g, &g->positions, from + which, (uint8_t)(limit_of(which) + 1));
+    check_spoilt(g, &g->positions, from + MENKHODUR_POSITION_HALF_MOVES + 1, 0x28);
+    check_spoilt(g, &g->positions, from + MENKHODUR_POSITION_FULL_MOVES + 1, 0x28);
+    check_spoilt(g, &g->positions, from + MENKHODUR_POSITION_FULL_MOVES, 0);
+}
+
+/* In-check byte, length of a list of two, its last move, and what lies behind it. */
+static void check_bad_rest(struct game *g, size_t from)
+{
+    check_spoilt(g, &g->positions, from + MENKHODUR_POSITION_IN_CHECK, 2);
+    check_spoilt(g, &g->positions, from + MENKHODUR_POSITION_ENTRIES, 1);
+    check_spoilt(g, &g->positions, from + MENKHODUR_POSITION_MOVES + 3, 0x70);
+    check_spoilt(g, &g->positions, from + MENKHODUR_POSITION_SIZE - 1, 1);
+}
+
 /* Record, in-check byte, list length, moves and unused moves of the first, a middle and the last position. */
 static void check_spoilt_position(struct game *g, size_t k)
 {
     size_t from = MENKHODUR_POSITION_SIZE * k;
-    for (unsigned which = 0; which < 68; which++) check_spoilt(g, &g->positions, from + which, (uint8_t)(limit_of(which) + 1));
+    check_bad_numbers(g, from);
     /* A number in range too: the next record does not follow from this one, or this one from the last. Of the start two are lost with its
      * move: what stood where the knight arrives, and the en passant file. */
-    for (unsigned which = 0; which < 68; which++)
+    for (unsigned which = 0; which < KEY_NUMBERS; which++)
         if (k > 0 || (which != round_move(0) / 64 && which != 67))
             check_spoilt(g, &g->positions, from + which, (uint8_t)((g->positions.bytes[from + which] + 1) % (limit_of(which) + 1)));
+    for (size_t at = MENKHODUR_POSITION_HALF_MOVES; at < MENKHODUR_POSITION_IN_CHECK; at++)
+        check_spoilt(g, &g->positions, from + at, (uint8_t)(g->positions.bytes[from + at] + 1));
     check_spoilt(g, &g->positions, from + 64, (uint8_t)(1 - k % 2));
-    check_spoilt(g, &g->positions, from + 68, 2);
-    check_spoilt(g, &g->positions, from + 69, 1);
-    check_spoilt(g, &g->positions, from + 69, 0);
-    check_spoilt(g, &g->positions, from + 71, 0x70);
-    check_spoilt(g, &g->positions, from + 73, 0x70);
-    check_spoilt(g, &g->positions, from + 74, 1);
-    check_spoilt(g, &g->positions, from + 579, 1);
+    check_bad_rest(g, from);
+    check_spoilt(g, &g->positions, from + MENKHODUR_POSITION_ENTRIES, 0);
+    check_spoilt(g, &g->positions, from + MENKHODUR_POSITION_MOVES + 1, 0x70);
+    check_spoilt(g, &g->positions, from + MENKHODUR_POSITION_MOVES + 4, 1);
 }
 
 /* A longer list of zeros behind is a list of moves a1a1, and good; so is a start with an en passant file. */
@@ -416,9 +432,9 @@ static void check_longer_list(struct game *g)
     put_byte(&g->positions, 67, 8);
     ask(g, RESULT, MENKHODUR_ACCEPTED, MENKHODUR_GOES_ON);
     put_byte(&g->positions, 67, 0);
-    put_byte(&g->positions, 69, 3);
+    put_byte(&g->positions, MENKHODUR_POSITION_ENTRIES, 3);
     ask(g, RESULT, MENKHODUR_ACCEPTED, MENKHODUR_GOES_ON);
-    put_byte(&g->positions, 69, 2);
+    put_byte(&g->positions, MENKHODUR_POSITION_ENTRIES, 2);
 }
 
 static void check_with_counts(struct game *g, uint64_t actions, uint64_t moves)
@@ -484,15 +500,14 @@ static void check_last_position(void)
 {
     struct game g = short_log();
     size_t last = MENKHODUR_POSITION_SIZE * g.move_count;
-    for (unsigned which = 0; which < 68; which++) check_spoilt(&g, &g.positions, last + which, (uint8_t)(limit_of(which) + 1));
+    check_bad_numbers(&g, last);
     check_spoilt(&g, &g.positions, last + 64, 0);
-    for (unsigned which = 0; which < 68; which++)
+    for (unsigned which = 0; which < KEY_NUMBERS; which++)
         check_spoilt(&g, &g.positions, last + which, (uint8_t)((g.positions.bytes[last + which] + 1) % (limit_of(which) + 1)));
-    check_spoilt(&g, &g.positions, last + 68, 2);
-    check_spoilt(&g, &g.positions, last + 69, 1);
-    check_spoilt(&g, &g.positions, last + 73, 0x70);
-    check_spoilt(&g, &g.positions, last + 579, 1);
-    put_byte(&g.positions, last + 71, 0);
+    for (size_t at = MENKHODUR_POSITION_HALF_MOVES; at < MENKHODUR_POSITION_IN_CHECK; at++)
+        check_spoilt(&g, &g.positions, last + at, (uint8_t)(g.positions.bytes[last + at] + 1));
+    check_bad_rest(&g, last);
+    put_byte(&g.positions, last + MENKHODUR_POSITION_MOVES + 1, 0);
     ask(&g, RESULT, MENKHODUR_ACCEPTED, MENKHODUR_GOES_ON);
     give_back_game(&g);
 }

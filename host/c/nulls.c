@@ -10,12 +10,15 @@ static menkhodur_board knight(void)
 
 static void check_texts(void)
 {
-    menkhodur_fen fen;
+    menkhodur_fen fen = menkhodur_fen_read(NULL, 0), full = menkhodur_fen_read_full(NULL, 0);
     about("menkhodur_fen_read", "NULL text");
-    fen = menkhodur_fen_read(NULL, 0);
     expect("number", MENKHODUR_TOO_FEW_TOKENS, fen.number);
     expect("offset", 0, fen.offset);
     expect_board(&no_board, &fen.board);
+    about("menkhodur_fen_read_full", "NULL text");
+    expect("number", MENKHODUR_TOO_FEW_TOKENS, full.number);
+    expect("offset", 0, full.offset);
+    expect_board(&no_board, &full.board);
     about("menkhodur_move_read", "NULL text");
     expect_placed((menkhodur_placed){ MENKHODUR_INVALID_UCI_MOVE, 0, 0 }, menkhodur_move_read(NULL, 0));
     about("menkhodur_san_read", "NULL text");
@@ -57,14 +60,14 @@ static void check_lists_of_standard(void)
 /* The text of a page and both its rooms. */
 static void check_pages(void)
 {
-    struct part text = lend_text("K w - -\n"), records = lend(68), numbers = lend(16);
+    struct part text = lend_text("K w - -\n"), records = lend(MENKHODUR_PAGE_RECORD), numbers = lend(16);
     uint64_t *told = (uint64_t *)(void *)numbers.bytes;
     about("menkhodur_fen_page", "NULL text");
-    expect_answer(MENKHODUR_ACCEPTED, 0, menkhodur_fen_page(NULL, 0, records.bytes, 68, told, 2));
+    expect_answer(MENKHODUR_ACCEPTED, 0, menkhodur_fen_page(NULL, 0, records.bytes, records.length, told, 2));
     expect_answer(MENKHODUR_ACCEPTED, 0, menkhodur_fen_page(NULL, 0, NULL, 0, NULL, 0));
     about("menkhodur_fen_page", "NULL rooms");
     expect_answer(MENKHODUR_OUTPUT_TOO_SHORT, 1, menkhodur_fen_page(text.bytes, text.length, NULL, 0, told, 2));
-    expect_answer(MENKHODUR_OUTPUT_TOO_SHORT, 1, menkhodur_fen_page(text.bytes, text.length, records.bytes, 68, NULL, 0));
+    expect_answer(MENKHODUR_OUTPUT_TOO_SHORT, 1, menkhodur_fen_page(text.bytes, text.length, records.bytes, records.length, NULL, 0));
     expect_answer(MENKHODUR_OUTPUT_TOO_SHORT, 1, menkhodur_fen_page(text.bytes, text.length, NULL, 0, NULL, 0));
     expect_unchanged("text", &text);
     expect_unchanged("records", &records);
@@ -77,7 +80,9 @@ static void check_pages(void)
 static void check_rooms(void)
 {
     about("menkhodur_fen_write", "NULL room");
-    expect_answer(MENKHODUR_OUTPUT_TOO_SHORT, 25, menkhodur_fen_write(no_board, NULL, 0));
+    expect_answer(MENKHODUR_OUTPUT_TOO_SHORT, 25, menkhodur_fen_write(empty_board, NULL, 0));
+    about("menkhodur_fen_write_full", "NULL room");
+    expect_answer(MENKHODUR_OUTPUT_TOO_SHORT, 25, menkhodur_fen_write_full(empty_board, NULL, 0));
     about("menkhodur_move_write", "NULL room");
     expect_answer(MENKHODUR_OUTPUT_TOO_SHORT, 4, menkhodur_move_write(1804, NULL, 0));
     about("menkhodur_san_name", "NULL room");
@@ -100,24 +105,27 @@ static void check_move_text_of_null(void)
     expect("number", MENKHODUR_UNKNOWN_TOKEN, menkhodur_pgn_next(NULL, 0, 1, 0).number);
 }
 
+static void expect_no_roll(uint64_t number, menkhodur_roll got)
+{
+    expect("number", number, got.number);
+    expect("actions counted", 0, got.actions);
+    expect_board(&no_board, &got.board);
+}
+
 /* A roll, the part that its actions go to or come from, and the room for it. */
 static void check_rolls_of_null(void)
 {
     struct part actions = lend(MENKHODUR_ACTIONS_LENGTH), out = lend(MENKHODUR_LONGEST_ROLL);
-    menkhodur_roll no_roll = menkhodur_roll_read(NULL, 0, actions.bytes, actions.length);
-    menkhodur_roll no_part = menkhodur_roll_read(NULL, 0, NULL, 0);
-    about("menkhodur_roll_read", "NULL roll");
-    expect("number", MENKHODUR_BAD_ROLL, no_roll.number);
-    expect("actions counted", 0, no_roll.actions);
-    expect_board(&no_board, &no_roll.board);
-    about("menkhodur_roll_read", "NULL part");
-    expect("number", MENKHODUR_PART_TOO_SHORT, no_part.number);
-    expect("actions counted", 0, no_part.actions);
-    expect_board(&no_board, &no_part.board);
+    about("menkhodur_roll_read", "NULL roll, NULL part");
+    expect_no_roll(MENKHODUR_BAD_ROLL, menkhodur_roll_read(NULL, 0, actions.bytes, actions.length));
+    expect_no_roll(MENKHODUR_PART_TOO_SHORT, menkhodur_roll_read(NULL, 0, NULL, 0));
+    about("menkhodur_roll_read_old", "NULL roll, NULL part");
+    expect_no_roll(MENKHODUR_BAD_ROLL, menkhodur_roll_read_old(NULL, 0, actions.bytes, actions.length));
+    expect_no_roll(MENKHODUR_PART_TOO_SHORT, menkhodur_roll_read_old(NULL, 0, NULL, 0));
     about("menkhodur_roll_write", "NULL part, NULL room");
     expect_answer(MENKHODUR_PART_TOO_SHORT, 0, menkhodur_roll_write(initial, NULL, 0, 0, out.bytes, out.length));
     expect_answer(MENKHODUR_PART_TOO_SHORT, 0, menkhodur_roll_write(initial, NULL, 0, 0, NULL, 0));
-    expect_answer(MENKHODUR_OUTPUT_TOO_SHORT, 69, menkhodur_roll_write(initial, actions.bytes, actions.length, 0, NULL, 0));
+    expect_answer(MENKHODUR_OUTPUT_TOO_SHORT, 71, menkhodur_roll_write(initial, actions.bytes, actions.length, 0, NULL, 0));
     expect_unchanged("actions", &actions);
     expect_unchanged("room", &out);
     give_back(&actions);
@@ -127,7 +135,7 @@ static void check_rolls_of_null(void)
 /* Either roll, and the room for what differs: equal rolls need none. */
 static void check_differences_of_null(void)
 {
-    static const uint8_t plain[69], pawn[69] = { MENKHODUR_WHITE_PAWN };
+    static const uint8_t plain[71] = { [FULL_MOVES] = 1 }, pawn[71] = { MENKHODUR_WHITE_PAWN, [FULL_MOVES] = 1 };
     struct part out = lend(MENKHODUR_MAX_DIFFERENCES);
     about("menkhodur_roll_differences", "NULL rolls, NULL room");
     expect_answer(MENKHODUR_BAD_ROLL, 0, menkhodur_roll_differences(NULL, 0, NULL, 0, out.bytes, out.length));

@@ -12,7 +12,7 @@ static void check_start_order(unsigned faults)
                                         MENKHODUR_BAD_LIST, MENKHODUR_BAD_LIST };
     struct game g = lend_game(MENKHODUR_ACTIONS_LENGTH - (faults & 1), MENKHODUR_POSITIONS_LENGTH - (faults >> 1 & 1));
     struct position p = round_position(0, false);
-    if (faults & 4) p.board.side_to_move = 2;
+    if (faults & 4) p.board = bad_board(p.board, BAD_BOARDS - 1 - faults % 11);
     if (faults & 8) p.in_check = 2;
     if (faults & 16) p.list[0] = MENKHODUR_LAST_MOVE + 1;
     if (faults & 32) p.entries = MENKHODUR_LONGEST_LIST + 1;
@@ -36,7 +36,7 @@ static struct game log_with(unsigned faults, enum full full, bool offered, bool 
     append_round(&g, moves, false);
     if (offered) append_offers(&g, 1, 1);
     if (over) append(&g, (struct request){ RESIGN, 0, 1, NULL });
-    if (faults & SPOILT) put_byte(&g.positions, 68, 2);
+    if (faults & SPOILT) put_byte(&g.positions, MENKHODUR_POSITION_IN_CHECK, 2);
     if (faults & SHORT_ACTIONS) g.actions.length--;
     if (faults & SHORT_POSITIONS) g.positions.length--;
     return g;

@@ -25,7 +25,7 @@ static void check_text_in_list(void)
 static struct game one_part(const uint8_t *first_action, uint16_t move)
 {
     struct game g = lend_game(0, MENKHODUR_POSITIONS_LENGTH);
-    struct position p = { no_board, 0, { move }, 1 };
+    struct position p = { empty_board, 0, { move }, 1 };
     for (unsigned square = A1; square <= D1; square++) p.board.pieces[square] = first_action[square];
     put_start(&g, &p);
     give_back(&g.actions);
@@ -48,10 +48,11 @@ static void check_one_part(const uint8_t *first_action, uint64_t result)
 static void check_one_part_with_move(void)
 {
     struct game g = one_part((uint8_t[]){ MENKHODUR_MAKE_MOVE, 0, B1A3 % 256, B1A3 / 256 }, B1A3);
-    struct position next = { no_board, 0, { B1C3 }, 1 };
-    /* No man stands on b1 or a3: the others stay where they are. */
-    memcpy(&next.board, g.positions.bytes, sizeof next.board);
+    struct position next = { empty_board, 0, { B1C3 }, 1 };
+    /* No man stands on b1 or a3: the others stay where they are, and the clock goes on. */
+    memcpy(next.board.pieces, g.positions.bytes, sizeof next.board.pieces);
     next.board.side_to_move = MENKHODUR_BLACK;
+    next.board.half_moves = 1;
     append(&g, (struct request){ MAKE_MOVE, B1A3, 0, &next });
     ask(&g, RESULT, MENKHODUR_ACCEPTED, MENKHODUR_GOES_ON);
     ask(&g, CAN_DECLARE, MENKHODUR_ACCEPTED, 0);
@@ -60,17 +61,20 @@ static void check_one_part_with_move(void)
     give_back(&g.positions);
 }
 
-/* One roll in another: 69 zeros, and the same from the second byte on, with one more zero, which is no roll. */
+/* One roll in another. From the first byte on: zeros, the counters 0 and 1, one offer. From the second on: zeros, 1 and 1, four offers. */
 static void check_rolls_that_overlap(void)
 {
-    static const uint8_t zeros[70];
-    struct part rolls = lend_bytes(zeros, sizeof zeros), out = lend(1);
+    enum { FIRST = KEY_NUMBERS + 4, SECOND = KEY_NUMBERS + 7 };
+    static const uint8_t bytes[SECOND + 1] = { [KEY_NUMBERS] = 0, 1, 1, 4, 4, 4, 4, 4 };
+    static const char differences[] = "half 0 1\naction 1 0 4\n";
+    struct part rolls = lend_bytes(bytes, sizeof bytes), out = lend(sizeof differences - 1);
     about("menkhodur_roll_differences", "rolls in one memory");
-    expect_answer(MENKHODUR_ACCEPTED, 0, menkhodur_roll_differences(rolls.bytes, 69, rolls.bytes, 69, out.bytes, out.length));
-    expect_answer(MENKHODUR_ACCEPTED, 0, menkhodur_roll_differences(rolls.bytes, 69, rolls.bytes + 1, 69, out.bytes, out.length));
-    expect_answer(MENKHODUR_BAD_ROLL, 0, menkhodur_roll_differences(rolls.bytes, 69, rolls.bytes, 70, out.bytes, out.length));
-    expect_unchanged("rolls", &rolls);
+    expect_answer(MENKHODUR_ACCEPTED, 0, menkhodur_roll_differences(rolls.bytes, FIRST, rolls.bytes, FIRST, out.bytes, out.length));
+    expect_answer(MENKHODUR_BAD_ROLL, 0, menkhodur_roll_differences(rolls.bytes, FIRST, rolls.bytes, FIRST + 1, out.bytes, out.length));
     expect_unchanged("room", &out);
+    expect_answer(MENKHODUR_ACCEPTED, out.length, menkhodur_roll_differences(rolls.bytes, FIRST, rolls.bytes + 1, SECOND, out.bytes, out.length));
+    expect_written("room", &out, 0, differences, out.length);
+    expect_unchanged("rolls", &rolls);
     give_back(&rolls);
     give_back(&out);
 }

@@ -6,7 +6,7 @@
 #include <stdlib.h>
 #include <string.h>
 
-enum { MOST_LINES = 4096, RECORD = 68, TOLD = 2 };
+enum { MOST_LINES = 4096, RECORD = MENKHODUR_PAGE_RECORD, TOLD = MENKHODUR_PAGE_NUMBERS };
 
 static const char page[] = "menkhodur_fen_page";
 
@@ -112,12 +112,13 @@ static void check_rows(void)
     check_row("8/8 w -\n8/9 w - -\n", 2, (uint64_t[]){ 18, 7, 19, 2 });
     check_row(" w - -\r\n8 w\r - -\r\n\r\n", 3, (uint64_t[]){ 0, 0, 20, 2, 18, 1 });
     check_row("8 x - -\n8 w - -\n9 w - -", 3, (uint64_t[]){ 20, 2, 0, 0, 19, 0 });
+    check_row("8 w - - x\n8 w - - 10000 0\n8 w - - 7 99\n", 3, (uint64_t[]){ 0, 0, 0, 0, 0, 0 });
 }
 
-/* The bytes of two records, the first of a refused line, and what lies behind them. */
+/* The bytes of two records, the first of a refused line, and what lies behind them. A record has no counters here. */
 static void check_bytes(void)
 {
-    struct part text = lend_text("8/8 w -\nK b - e3"), records = lend(137), numbers = lend(8 * 5);
+    struct part text = lend_text("8/8 w -\nK b - e3 258 772"), records = lend(137), numbers = lend(8 * 5);
     uint8_t want[136] = { 0 };
     want[68 + 56] = MENKHODUR_WHITE_KING;
     want[68 + 64] = MENKHODUR_BLACK;
@@ -192,14 +193,14 @@ static void check_long_lines(void)
 
 /* ---- Random pages ---- */
 
-/* A line of a FEN, good in one of two; a damage may be a newline or the loss of the one at the end. */
+/* A line of a FEN, with counters or ` 0 1`, good in one of two; a damage may be a newline or the loss of the one at the end. */
 static size_t any_line(uint8_t *text)
 {
     static const char damages[] = "\n\n  x9/w\rK\xff";
     menkhodur_board b;
     size_t length;
-    for (unsigned i = 0; i < RECORD; i++) *number_of(&b, i) = (uint8_t)(i < 64 && any(3) ? 0 : any(limit_of(i) + 1u));
-    length = menkhodur_fen_write(b, text, MENKHODUR_LONGEST_FEN).value;
+    for (unsigned i = 0; i < ALL_NUMBERS; i++) set_number(&b, i, i < 64 && any(3) ? 0 : any_number(i));
+    length = (any(2) ? menkhodur_fen_write : menkhodur_fen_write_full)(b, text, MENKHODUR_LONGEST_FULL_FEN).value;
     text[length++] = '\n';
     for (unsigned damage = any(2) * any(4); damage; damage--) {
         uint8_t byte = (uint8_t)damages[any(sizeof damages)];
@@ -218,7 +219,7 @@ static size_t any_page(uint8_t *text)
 
 static void check_random(void)
 {
-    uint8_t text[9 * (MENKHODUR_LONGEST_FEN + 1)];
+    uint8_t text[9 * (MENKHODUR_LONGEST_FULL_FEN + 1)];
     for (unsigned i = 0; i < (exact ? 300 : 3000); i++) {
         size_t length = any_page(text);
         about(page, "random page %u, `%.*s`", i, (int)length, (const char *)text);
@@ -229,7 +230,7 @@ static void check_random(void)
 /* Two pages, the second into the rooms behind what the first filled, leave what the page of both joined does. */
 static void check_joined(void)
 {
-    uint8_t text[18 * (MENKHODUR_LONGEST_FEN + 1) + 1];
+    uint8_t text[18 * (MENKHODUR_LONGEST_FULL_FEN + 1) + 1];
     for (unsigned i = 0; i < (exact ? 100 : 1000); i++) {
         size_t front = any_page(text), length, first, count;
         struct part records, numbers;

@@ -15,12 +15,11 @@ static bool rights_change(const menkhodur_board *before, const menkhodur_board *
     return before->white_castle_rights != after->white_castle_rights || before->black_castle_rights != after->black_castle_rights;
 }
 
-/* The same record and the same list in order. */
+/* The same record but for the counters, and the same list in order. */
 static bool alike(const struct position *p, const struct position *q)
 {
-    menkhodur_board b = p->board, c = q->board;
-    for (unsigned i = 0; i < 68; i++)
-        if (*number_of(&b, i) != *number_of(&c, i)) return false;
+    for (unsigned i = 0; i < KEY_NUMBERS; i++)
+        if (get_number(p->board, i) != get_number(q->board, i)) return false;
     for (size_t i = 0; i < p->entries && i < q->entries; i++)
         if (p->list[i] != q->list[i]) return false;
     return p->entries == q->entries;

@@ -333,7 +333,7 @@ static struct scene any_scene(void)
 {
     static const uint8_t from[] = { B1, B5, D1, E1, C5, E5, E7, E8 }, to[] = { C3, D6, 2, 6, 58, 62, E6, E8 };
     static const uint8_t men[] = { 0, 1, 1, 2, 2, 2, 4, 5, 6, 7, 8, 12 };
-    struct scene s = { no_board, { 0 }, 1 + any(MOST) };
+    struct scene s = { empty_board, { 0 }, 1 + any(MOST) };
     unsigned man = men[any(sizeof men)];
     for (unsigned i = 0; i < sizeof from; i++) s.board.pieces[from[i]] = any(2) ? (uint8_t)man : men[any(sizeof men)];
     for (unsigned i = 0; i < sizeof to; i++)

@@ -15,7 +15,7 @@ static const char key[] = KEY, page[] = KEY "\n8/8 w -\n" KEY "\n";
 
 /* What all threads read. */
 static struct game log_of_all;
-static struct part key_of_all, page_of_all, name_of_all, list_of_all, roll_of_all;
+static struct part key_of_all, full_of_all, page_of_all, name_of_all, list_of_all, roll_of_all, old_roll_of_all;
 
 /* A thread's own log, and how often it saw something else than one thread alone would. */
 struct worker {
@@ -39,6 +39,14 @@ static const uint16_t *list_of(const struct part *p)
     return (const uint16_t *)(const void *)p->bytes;
 }
 
+static menkhodur_board counted_board(void)
+{
+    menkhodur_board b = initial;
+    b.half_moves = 258;
+    b.full_moves = MENKHODUR_LAST_COUNT;
+    return b;
+}
+
 static unsigned wrong_numbers(void)
 {
     menkhodur_board b = initial;
@@ -53,6 +61,8 @@ static unsigned wrong_numbers(void)
     wrong += !is_board(&initial, menkhodur_side_to_move(initial, MENKHODUR_WHITE));
     wrong += !is_board(&initial, menkhodur_castle_rights(initial, MENKHODUR_BLACK, MENKHODUR_BOTH_SIDES));
     wrong += !is_board(&initial, menkhodur_en_passant(initial, 0));
+    b = counted_board();
+    wrong += !is_board(&b, menkhodur_full_moves(menkhodur_half_moves(initial, b.half_moves).board, b.full_moves));
     b = round_position(1, false).board;
     wrong += !is_board(&b, menkhodur_board_after(initial, round_move(0)));
     return wrong;
@@ -73,6 +83,19 @@ static unsigned wrong_texts(void)
     return wrong + (memcmp(room, name_of_all.bytes, 3) != 0);
 }
 
+/* The key with other counters in place of 0 and 1. */
+static unsigned wrong_full_texts(void)
+{
+    uint8_t room[MENKHODUR_LONGEST_FULL_FEN];
+    menkhodur_board b = counted_board();
+    menkhodur_fen fen = menkhodur_fen_read_full(full_of_all.bytes, full_of_all.length);
+    unsigned wrong = !is_board(&b, (menkhodur_stepped){ fen.number, fen.board });
+    wrong += !is(MENKHODUR_ACCEPTED, full_of_all.length, menkhodur_fen_write_full(b, room, sizeof room));
+    wrong += memcmp(room, full_of_all.bytes, full_of_all.length) != 0;
+    wrong += !is(MENKHODUR_ACCEPTED, strlen(key), menkhodur_fen_write(b, room, sizeof room)) || memcmp(room, key, strlen(key)) != 0;
+    return wrong;
+}
+
 static unsigned wrong_standard_texts(void)
 {
     uint8_t room[MENKHODUR_LONGEST_STANDARD_NAME];
@@ -86,11 +109,11 @@ static unsigned wrong_standard_texts(void)
 static unsigned wrong_pages(void)
 {
     static const uint64_t owed[6] = { MENKHODUR_ACCEPTED, 0, MENKHODUR_TOO_FEW_TOKENS, 7, MENKHODUR_ACCEPTED, 0 };
-    menkhodur_board read[3];
+    uint8_t read[3][MENKHODUR_PAGE_RECORD];
     uint64_t told[6];
     unsigned wrong = !is(MENKHODUR_OUTPUT_TOO_SHORT, 3, menkhodur_fen_page(page_of_all.bytes, page_of_all.length, NULL, 0, told, 6));
-    wrong += !is(MENKHODUR_ACCEPTED, 3, menkhodur_fen_page(page_of_all.bytes, page_of_all.length, (uint8_t *)read, sizeof read, told, 6));
-    wrong += memcmp(&initial, &read[0], sizeof initial) || memcmp(&no_board, &read[1], sizeof initial) || memcmp(&initial, &read[2], sizeof initial);
+    wrong += !is(MENKHODUR_ACCEPTED, 3, menkhodur_fen_page(page_of_all.bytes, page_of_all.length, read[0], sizeof read, told, 6));
+    wrong += memcmp(&initial, read[0], sizeof read[0]) || memcmp(&no_board, read[1], sizeof read[1]) || memcmp(&initial, read[2], sizeof read[2]);
     return wrong + (memcmp(owed, told, sizeof owed) != 0);
 }
 
@@ -120,16 +143,25 @@ static unsigned wrong_rolls(void)
     return wrong + (memcmp(actions, g->actions.bytes, MENKHODUR_ACTION_SIZE * g->action_count) != 0);
 }
 
+static unsigned wrong_old_rolls(void)
+{
+    uint8_t actions[MENKHODUR_ACTIONS_LENGTH];
+    const struct game *g = &log_of_all;
+    menkhodur_roll read = menkhodur_roll_read_old(old_roll_of_all.bytes, old_roll_of_all.length, actions, sizeof actions);
+    unsigned wrong = !is_board(&initial, (menkhodur_stepped){ read.number, read.board }) || read.actions != g->action_count;
+    return wrong + (memcmp(actions, g->actions.bytes, MENKHODUR_ACTION_SIZE * g->action_count) != 0);
+}
+
 /* That roll against itself and against the roll of a start alone: the first action is a move. */
 static unsigned wrong_differences(void)
 {
-    uint8_t room[MENKHODUR_MAX_DIFFERENCES], bare[sizeof(menkhodur_board) + 1] = { 0 };
+    uint8_t room[MENKHODUR_MAX_DIFFERENCES], bare[ALL_NUMBERS + 1] = { 0 };
     char want[32];
     const size_t length = (size_t)snprintf(want, sizeof want, "action 0 %u 0\n", 2 + 16 * (unsigned)round_move(0));
-    menkhodur_board start = initial;
-    unsigned wrong = !is(MENKHODUR_ACCEPTED, 0, menkhodur_roll_differences(roll_of_all.bytes, roll_of_all.length, roll_of_all.bytes, roll_of_all.length, NULL, 0));
-    for (unsigned which = 0; which < sizeof start; which++) bare[which] = *number_of(&start, which);
-    wrong += !is(MENKHODUR_ACCEPTED, length, menkhodur_roll_differences(roll_of_all.bytes, roll_of_all.length, bare, sizeof bare, room, sizeof room));
+    const uint8_t *roll = roll_of_all.bytes;
+    unsigned wrong = !is(MENKHODUR_ACCEPTED, 0, menkhodur_roll_differences(roll, roll_of_all.length, roll, roll_of_all.length, NULL, 0));
+    for (unsigned which = 0; which < ALL_NUMBERS; which++) bare[which] = (uint8_t)get_number(initial, which);
+    wrong += !is(MENKHODUR_ACCEPTED, length, menkhodur_roll_differences(roll, roll_of_all.length, bare, sizeof bare, room, sizeof room));
     return wrong + (memcmp(room, want, length) != 0);
 }
 
@@ -177,8 +209,8 @@ static void *work(void *worker)
 {
     struct worker *w = worker;
     for (unsigned i = 0; i < (exact ? ROUNDS_EXACT : ROUNDS); i++) {
-        w->wrong += wrong_numbers() + wrong_texts() + wrong_standard_texts() + wrong_queries(&log_of_all, MENKHODUR_GOES_ON, 1);
-        w->wrong += wrong_pages() + wrong_rolls() + wrong_differences() + wrong_move_text() + wrong_own(&w->own);
+        w->wrong += wrong_numbers() + wrong_texts() + wrong_full_texts() + wrong_standard_texts() + wrong_queries(&log_of_all, MENKHODUR_GOES_ON, 1);
+        w->wrong += wrong_pages() + wrong_rolls() + wrong_old_rolls() + wrong_differences() + wrong_move_text() + wrong_own(&w->own);
     }
     return NULL;
 }
@@ -206,25 +238,31 @@ void check_threads(void)
     struct position p = round_position(0, false);
     log_of_all = lend_game(MENKHODUR_ACTIONS_LENGTH, MENKHODUR_POSITIONS_LENGTH);
     key_of_all = lend_text(key);
+    full_of_all = lend_text("rnbqkbnr/pppppppp/8/8/8/8/PPPPPPPP/RNBQKBNR w KQkq - 258 9999");
     page_of_all = lend_text(page);
     name_of_all = lend_text("Nf3");
     list_of_all = lend_bytes(p.list, 2 * p.entries);
     start(&log_of_all, &p, MENKHODUR_ACCEPTED);
     play_round(&log_of_all, 40, false);
     roll_of_all = lend_roll(initial, log_of_all.actions.bytes, log_of_all.action_count);
+    old_roll_of_all = lend_old_roll(initial, log_of_all.actions.bytes, log_of_all.action_count);
     run_workers();
     about("threads", "what all of them read");
     expect_unchanged("actions", &log_of_all.actions);
     expect_unchanged("positions", &log_of_all.positions);
     expect_unchanged("text", &key_of_all);
+    expect_unchanged("full text", &full_of_all);
     expect_unchanged("page", &page_of_all);
     expect_unchanged("name", &name_of_all);
     expect_unchanged("list", &list_of_all);
     expect_unchanged("roll", &roll_of_all);
+    expect_unchanged("old roll", &old_roll_of_all);
     give_back_game(&log_of_all);
     give_back(&key_of_all);
+    give_back(&full_of_all);
     give_back(&page_of_all);
     give_back(&name_of_all);
     give_back(&list_of_all);
     give_back(&roll_of_all);
+    give_back(&old_roll_of_all);
 }

@@ -53,6 +53,11 @@ TWIN_OF(menkhodur_roll_read);
 TWIN_OF(menkhodur_roll_differences);
 TWIN_OF(menkhodur_pgn_check);
 TWIN_OF(menkhodur_pgn_next);
+TWIN_OF(menkhodur_half_moves);
+TWIN_OF(menkhodur_full_moves);
+TWIN_OF(menkhodur_fen_read_full);
+TWIN_OF(menkhodur_fen_write_full);
+TWIN_OF(menkhodur_roll_read_old);
 #endif
 
 /* ---- Violations (lent.c) ---- */
@@ -93,6 +98,9 @@ void lent_stir(struct lent *p, size_t at);
 
 enum { MOST_ENTRIES = 300, MOST_TEXT = 400 };
 
+/* The record that builder steps begin with: no man, white to move, no rights, no file, the counters 0 and 1. */
+extern const menkhodur_board no_men;
+
 struct input {
     const uint8_t *at, *end;
     menkhodur_board board;
@@ -110,7 +118,7 @@ uint8_t take(struct input *in);
 uint16_t take_pair(struct input *in);
 uint64_t take_wide(struct input *in);
 
-/* What document 01 calls in range. */
+/* What document 01 calls in range, and document 02 of the counters. */
 bool board_good(const menkhodur_board *b);
 bool list_good(const uint16_t *list, size_t entries);
 
@@ -129,9 +137,11 @@ step call_start, call_log, call_round, tamper, garbage, long_log, log_to_registe
 step call_roll_write, call_roll_read, call_roll_differences, keep_roll, add_actions, roll_of_game, poke_roll, insert_in_roll, cut_roll;
 step call_pgn_check, call_pgn_next, walk_pgn, put_token;
 step call_board_after;
+step call_counter_step, call_fen_read_full, call_fen_write_full, call_roll_read_old, old_roll_of_game;
 
 /* The texts that the register can be set to. */
 void text_of_board(struct input *in);
+void full_text_of_board(struct input *in);
 void text_of_move(struct input *in);
 void standard_text_of_move(struct input *in);
 

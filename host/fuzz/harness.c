@@ -33,11 +33,12 @@ uint64_t take_wide(struct input *in)
 
 /* ---- In range ---- */
 
+const menkhodur_board no_men = { .full_moves = 1 };
+
 bool board_good(const menkhodur_board *b)
 {
-    menkhodur_board copy = *b;
-    for (unsigned i = 0; i < 68; i++)
-        if (*number_of(&copy, i) > limit_of(i)) return false;
+    for (unsigned i = 0; i < ALL_NUMBERS; i++)
+        if (get_number(*b, i) < least_of(i) || get_number(*b, i) > limit_of(i)) return false;
     return true;
 }
 
@@ -70,7 +71,7 @@ void list_same(void)
 static void initial_board(struct input *in)
 {
     static const uint8_t men[8] = { 4, 2, 3, 5, 6, 3, 2, 4 };
-    memset(&in->board, 0, sizeof in->board);
+    in->board = no_men;
     for (unsigned file = 0; file < 8; file++) {
         in->board.pieces[file] = men[file];
         in->board.pieces[8 + file] = 1;
@@ -82,23 +83,36 @@ static void initial_board(struct input *in)
 
 static void empty_board(struct input *in)
 {
-    memset(&in->board, 0, sizeof in->board);
+    in->board = no_men;
     in->board.side_to_move = take(in) & 1;
 }
 
+/* All but the counters. */
 static void any_board(struct input *in)
 {
-    for (unsigned i = 0; i < 68; i++) *number_of(&in->board, i) = (uint8_t)(take(in) % (limit_of(i) + 1));
+    for (unsigned i = 0; i < KEY_NUMBERS; i++) *number_of(&in->board, i) = (uint8_t)(take(in) % (limit_of(i) + 1));
 }
 
-/* Up to eight numbers set as the input says: in range as a rule, and to any value if the place's byte is 196 or more. */
+/* Up to eight numbers, none a counter, set as the input says: in range as a rule, and to any value if the place's byte is 196 or more. */
 static void poke_board(struct input *in)
 {
     for (unsigned count = take(in) % 8 + 1; count; count--) {
         unsigned which = take(in), value = take(in);
         bool any = which >= 196;
-        which %= 68;
+        which %= KEY_NUMBERS;
         *number_of(&in->board, which) = (uint8_t)(any ? value : value % (limit_of(which) + 1u));
+    }
+}
+
+/* Both counters: in range as a rule, at a bound or just past it, or any. */
+static void take_counters(struct input *in)
+{
+    static const uint16_t bounds[] = { 0, 1, MENKHODUR_LAST_COUNT - 1, MENKHODUR_LAST_COUNT, MENKHODUR_LAST_COUNT + 1, UINT16_MAX };
+    for (unsigned which = HALF_MOVES; which <= FULL_MOVES; which++) {
+        unsigned form = take(in), any = take_pair(in), count = any % (limit_of(which) + 1);
+        if (count < least_of(which)) count = least_of(which);
+        if (form >= 128) count = form < 192 ? bounds[form % (sizeof bounds / sizeof *bounds)] : any;
+        set_number(&in->board, which, count);
     }
 }
 
@@ -241,6 +255,7 @@ static step *const steps[] = {
     call_san_read_standard, call_san_name_standard, standard_text_of_move, call_fen_page,
     call_pgn_check, call_pgn_next, walk_pgn, put_token,
     call_board_after, call_roll_differences, keep_roll,
+    take_counters, call_counter_step, call_fen_read_full, call_fen_write_full, full_text_of_board, call_roll_read_old, old_roll_of_game,
 };
 
 int LLVMFuzzerTestOneInput(const uint8_t *data, size_t size);
@@ -250,6 +265,7 @@ int LLVMFuzzerTestOneInput(const uint8_t *data, size_t size)
     static struct input in;
     if (!list_part.low) lent_make(&list_part, 2 * MOST_ENTRIES);
     memset(&in, 0, sizeof in);
+    in.board = no_men;
     in.at = data;
     in.end = data + size;
     in.long_log = take(&in) == LONG_LOG;

@@ -196,6 +196,17 @@ static void judge_query(const struct input *in, const struct request *r)
     }
 }
 
+/* What a good log's last position owes to its start: the clock goes with the count of the Laws, and with the start's own clock if that count goes
+ * back to the start; the move number goes with black's moves. */
+static void expect_counters(const struct log *l, uint64_t laws_count)
+{
+    menkhodur_board first = board_in(l->positions), last = board_in(current_position(l));
+    uint64_t clock = laws_count + (laws_count == l->move_count ? first.half_moves : 0);
+    uint64_t number = first.full_moves + (l->move_count + first.side_to_move) / 2;
+    expect("clock of the last position", least(clock, MENKHODUR_LAST_COUNT), last.half_moves);
+    expect("move number of the last position", least(number, MENKHODUR_LAST_COUNT), last.full_moves);
+}
+
 /* A refused ruling has 0 in all other numbers. */
 static void judge_ruling(const struct input *in, const struct request *r)
 {
@@ -211,6 +222,7 @@ static void judge_ruling(const struct input *in, const struct request *r)
         expect("second", want.second, got.second);
         expect("claim", want.claim, got.claim);
         expect("claim by the Laws", want.laws_claim, got.laws_claim);
+        if (number == MENKHODUR_ACCEPTED) expect_counters(&r->log, got.laws_count);
         parts_same();
         stir(r);
     }
@@ -399,7 +411,7 @@ static void round_list(struct input *in, uint64_t k, bool fresh)
 
 static void round_start(struct input *in, bool fresh)
 {
-    memset(&in->board, 0, sizeof in->board);
+    in->board = no_men;
     in->board.pieces[WHITE_HOME] = 2;
     in->board.pieces[BLACK_HOME] = 8;
     round_list(in, 0, fresh);

@@ -1,11 +1,19 @@
-/* Rolls (document 02, orders 1 and 10): what the functions answer by a second reading of the orders, and which of the lent bytes change. */
+/* Rolls (document 02, orders 1, 10 and 12): what the functions answer by a second reading of the orders, and which of the lent bytes change. */
 #include "fuzz.h"
 
 #include <stdio.h>
 #include <string.h>
 
 /* A roll of actions of up to 5 bytes, in range or not. */
-enum { RECORD = 68, SPARE = 64, MOST_ROLL = RECORD + 700 + 5 * MENKHODUR_MAX_ACTIONS };
+enum { SPARE = 64, MOST_ROLL = KEY_NUMBERS + 700 + 5 * MENKHODUR_MAX_ACTIONS };
+
+/* An old roll, of before order 12, has no counters; its start has 0 and 1. */
+enum kind { OLD, NEW };
+
+static unsigned numbers_in(enum kind kind)
+{
+    return kind == OLD ? KEY_NUMBERS : ALL_NUMBERS;
+}
 
 /* The registers of these steps: actions, in range or not, and bytes that may be a roll. The start is the board's. */
 struct game {
@@ -14,7 +22,7 @@ struct game {
 };
 
 struct roll {
-    uint8_t bytes[MOST_ROLL + 1];
+    uint8_t bytes[MOST_ROLL + 2];
     size_t length;
 };
 
@@ -75,10 +83,10 @@ static void add_number(struct roll *r, uint64_t n)
 }
 
 /* The roll that says `count`, with the actions that are there, be they in range or not. */
-static void encode(struct roll *r, menkhodur_board b, const uint8_t *actions, uint64_t there, uint64_t count)
+static void encode(struct roll *r, enum kind kind, menkhodur_board b, const uint8_t *actions, uint64_t there, uint64_t count)
 {
     r->length = 0;
-    for (unsigned i = 0; i < RECORD; i++) add_number(r, *number_of(&b, i));
+    for (unsigned i = 0; i < numbers_in(kind); i++) add_number(r, get_number(b, i));
     add_number(r, count);
     for (const uint8_t *a = actions; a < actions + MENKHODUR_ACTION_SIZE * there; a += MENKHODUR_ACTION_SIZE) {
         add_number(r, 2u * a[0] + a[1]);
@@ -121,19 +129,26 @@ static uint64_t decode_action(const struct roll *r, size_t *at, struct game *g, 
     return is_action(a) ? MENKHODUR_ACCEPTED : MENKHODUR_BAD_ROLL;
 }
 
-static uint64_t decode(const struct roll *r, menkhodur_board *b, struct game *g)
+static uint64_t decode_start(const struct roll *r, enum kind kind, size_t *at, menkhodur_board *b)
+{
+    *b = no_men;
+    for (unsigned i = 0; i < numbers_in(kind); i++) {
+        int64_t n = number_at(r, at);
+        if (n < 0) return MENKHODUR_BAD_ROLL;
+        if (n < least_of(i) || n > limit_of(i)) return MENKHODUR_OUT_OF_RANGE;
+        set_number(b, i, (unsigned)n);
+    }
+    return MENKHODUR_ACCEPTED;
+}
+
+static uint64_t decode(const struct roll *r, enum kind kind, menkhodur_board *b, struct game *g)
 {
     size_t at = 0;
     unsigned moves = 0;
     int64_t n;
-    uint64_t number = MENKHODUR_ACCEPTED;
+    uint64_t number = decode_start(r, kind, &at, b);
     g->count = 0;
-    for (unsigned i = 0; i < RECORD; i++) {
-        n = number_at(r, &at);
-        if (n < 0) return MENKHODUR_BAD_ROLL;
-        if (n > limit_of(i)) return MENKHODUR_OUT_OF_RANGE;
-        *number_of(b, i) = (uint8_t)n;
-    }
+    if (number) return number;
     n = number_at(r, &at);
     if (n < 0) return MENKHODUR_BAD_ROLL;
     if (n > MENKHODUR_MAX_ACTIONS) return MENKHODUR_LOG_FULL;
@@ -154,7 +169,7 @@ static uint64_t judge_write(const struct input *in, unsigned turn, size_t length
     lend(&roll_part, room, in->front, turn);
     answer = (menkhodur_answer){ want_write(&in->board, actions_part.bytes, length, count), 0 };
     if (answer.number == MENKHODUR_ACCEPTED) {
-        encode(&want, in->board, actions_part.bytes, count, count);
+        encode(&want, NEW, in->board, actions_part.bytes, count, count);
         answer = (menkhodur_answer){ want.length > room ? MENKHODUR_OUTPUT_TOO_SHORT : MENKHODUR_ACCEPTED, want.length };
     }
     got = CALL(turn, menkhodur_roll_write, in->board, length ? actions_part.bytes : NULL, length, count, room ? roll_part.bytes : NULL, room);
@@ -168,17 +183,25 @@ static uint64_t judge_write(const struct input *in, unsigned turn, size_t length
     return answer.number;
 }
 
-/* One call of the reader on the register; what an accepted one hands out is in `b` and `g`. */
-static uint64_t judge_read(const struct input *in, unsigned turn, size_t length, menkhodur_board *b, struct game *g)
+static menkhodur_roll read_by(enum kind kind, unsigned turn, size_t length)
+{
+    const uint8_t *bytes = roll.length ? roll_part.bytes : NULL;
+    uint8_t *actions = length ? actions_part.bytes : NULL;
+    if (kind == OLD) return CALL(turn, menkhodur_roll_read_old, bytes, roll.length, actions, length);
+    return CALL(turn, menkhodur_roll_read, bytes, roll.length, actions, length);
+}
+
+/* One call of a reader on the register; what an accepted one hands out is in `b` and `g`. */
+static uint64_t judge_read(const struct input *in, enum kind kind, unsigned turn, size_t length, menkhodur_board *b, struct game *g)
 {
     static const menkhodur_board zeros;
-    uint64_t number = length < MENKHODUR_ACTIONS_LENGTH ? MENKHODUR_PART_TOO_SHORT : decode(&roll, b, g);
+    uint64_t number = length < MENKHODUR_ACTIONS_LENGTH ? MENKHODUR_PART_TOO_SHORT : decode(&roll, kind, b, g);
     bool accepted = number == MENKHODUR_ACCEPTED;
     menkhodur_roll got;
     lend(&actions_part, length, in->front, turn);
     lend(&roll_part, roll.length, in->front, turn);
     lent_put(&roll_part, 0, roll.bytes, roll.length);
-    got = CALL(turn, menkhodur_roll_read, roll.length ? roll_part.bytes : NULL, roll.length, length ? actions_part.bytes : NULL, length);
+    got = read_by(kind, turn, length);
     expect("number", number, got.number);
     expect("actions counted", accepted ? g->count : 0, got.actions);
     expect_bytes("board", accepted ? b : &zeros, &got.board, sizeof zeros);
@@ -197,13 +220,13 @@ static unsigned differ_number(const struct game *g, uint64_t index)
     return index < g->count ? 2u * a[0] + a[1] + 16 * (a[2] + 256u * a[3]) : 0;
 }
 
-/* The lines of two games, by the order's words; gives their length. */
-static size_t differ_text(menkhodur_board *a, const struct game *g, menkhodur_board *b, const struct game *h, char *text)
+/* The lines of two games, by the orders' words; gives their length. */
+static size_t differ_text(menkhodur_board a, const struct game *g, menkhodur_board b, const struct game *h, char *text)
 {
-    static const char *const behind[4] = { "side", "white", "black", "ep" };
+    static const char *const behind[ALL_NUMBERS - 64] = { "side", "white", "black", "ep", "half", "full" };
     char *at = text;
-    for (unsigned i = 0; i < RECORD; i++) {
-        unsigned x = *number_of(a, i), y = *number_of(b, i);
+    for (unsigned i = 0; i < ALL_NUMBERS; i++) {
+        unsigned x = get_number(a, i), y = get_number(b, i);
         if (x != y && i < 64) at += sprintf(at, "%u %u %u\n", i, x, y);
         if (x != y && i >= 64) at += sprintf(at, "%s %u %u\n", behind[i - 64], x, y);
     }
@@ -222,10 +245,10 @@ static void judge_differences(const struct input *in, unsigned turn, size_t room
     static struct game first, second;
     static char text[MENKHODUR_MAX_DIFFERENCES + SPARE];
     menkhodur_board a, b;
-    menkhodur_answer want = { decode(&roll, &a, &first), 0 }, got;
-    if (want.number == MENKHODUR_ACCEPTED) want.number = decode(&kept, &b, &second);
+    menkhodur_answer want = { decode(&roll, NEW, &a, &first), 0 }, got;
+    if (want.number == MENKHODUR_ACCEPTED) want.number = decode(&kept, NEW, &b, &second);
     if (want.number == MENKHODUR_ACCEPTED) {
-        want.value = differ_text(&a, &first, &b, &second, text);
+        want.value = differ_text(a, &first, b, &second, text);
         if (want.value > room) want.number = MENKHODUR_OUTPUT_TOO_SHORT;
     }
     lend(&roll_part, roll.length, in->front, turn);
@@ -263,7 +286,7 @@ static size_t take_room(struct input *in)
 {
     static struct roll own;
     unsigned form = take(in);
-    encode(&own, in->board, game.bytes, game.count, game.count);
+    encode(&own, NEW, in->board, game.bytes, game.count, game.count);
     if (form < 128) return own.length + form % SPARE;
     return form < 192 ? own.length - (form - 127) : (255 - form) * own.length / 64;
 }
@@ -280,14 +303,23 @@ void call_roll_write(struct input *in)
         about("roll_write");
         if (judge_write(in, turn, length, count, room) != MENKHODUR_ACCEPTED) continue;
         about("roll_read of what roll_write wrote");
-        expect("number", MENKHODUR_ACCEPTED, judge_read(in, turn, MENKHODUR_ACTIONS_LENGTH, &b, &back));
+        expect("number", MENKHODUR_ACCEPTED, judge_read(in, NEW, turn, MENKHODUR_ACTIONS_LENGTH, &b, &back));
         expect("count", count, back.count);
         expect_bytes("start", &in->board, &b, sizeof b);
         if (count <= game.count) expect_bytes("actions read back", game.bytes, back.bytes, MENKHODUR_ACTION_SIZE * count);
     }
 }
 
-/* What was read goes into the registers, and must be written back as it came; into one byte less it must not. */
+/* What was read is written into a room that just fits, and not into one byte less. */
+static void expect_written(const struct input *in, unsigned turn, const struct roll *owed)
+{
+    expect("number", MENKHODUR_OUTPUT_TOO_SHORT, judge_write(in, turn, MENKHODUR_ACTIONS_LENGTH, game.count, owed->length - 1));
+    expect("number", MENKHODUR_ACCEPTED, judge_write(in, turn, MENKHODUR_ACTIONS_LENGTH, game.count, owed->length));
+    expect("length written back", owed->length, roll.length);
+    expect_bytes("roll written back", owed->bytes, roll.bytes, owed->length);
+}
+
+/* What was read goes into the registers, and must be written back as it came. */
 void call_roll_read(struct input *in)
 {
     static struct game read;
@@ -296,15 +328,54 @@ void call_roll_read(struct input *in)
     menkhodur_board b;
     for (unsigned turn = 0; turn < 2; turn++) {
         about("roll_read");
-        if (judge_read(in, turn, length, &b, &read) != MENKHODUR_ACCEPTED) continue;
+        if (judge_read(in, NEW, turn, length, &b, &read) != MENKHODUR_ACCEPTED) continue;
         came = roll;
         game = read;
         in->board = b;
         about("roll_write of what roll_read read");
-        expect("number", MENKHODUR_OUTPUT_TOO_SHORT, judge_write(in, turn, MENKHODUR_ACTIONS_LENGTH, game.count, came.length - 1));
-        expect("number", MENKHODUR_ACCEPTED, judge_write(in, turn, MENKHODUR_ACTIONS_LENGTH, game.count, came.length));
-        expect("length written back", came.length, roll.length);
-        expect_bytes("roll written back", came.bytes, roll.bytes, came.length);
+        expect_written(in, turn, &came);
+    }
+}
+
+static struct roll with_counters(const struct roll *old)
+{
+    struct roll r = { .length = old->length + 2 };
+    memcpy(r.bytes, old->bytes, KEY_NUMBERS);
+    r.bytes[KEY_NUMBERS] = 0;
+    r.bytes[KEY_NUMBERS + 1] = 1;
+    memcpy(r.bytes + KEY_NUMBERS + 2, old->bytes + KEY_NUMBERS, old->length - KEY_NUMBERS);
+    return r;
+}
+
+/* The register is taken for an old roll. It is one exactly if the same bytes with 0 and 1 put in behind the 68th are a roll, of the same start and
+ * actions; and these are what must be written. What was read goes into the registers. */
+void call_roll_read_old(struct input *in)
+{
+    static struct game read, again;
+    static struct roll old, owed;
+    size_t length = take_part(in);
+    menkhodur_board b, c;
+    for (unsigned turn = 0; turn < 2; turn++) {
+        uint64_t number;
+        bool accepted;
+        about("roll_read_old");
+        number = judge_read(in, OLD, turn, length, &b, &read);
+        if (number == MENKHODUR_PART_TOO_SHORT || roll.length < KEY_NUMBERS) continue;
+        old = roll;
+        roll = owed = with_counters(&old);
+        about("roll_read of an old roll with 0 and 1");
+        accepted = judge_read(in, NEW, turn, MENKHODUR_ACTIONS_LENGTH, &c, &again) == MENKHODUR_ACCEPTED;
+        expect("accepted", number == MENKHODUR_ACCEPTED, accepted);
+        if (accepted) {
+            expect_bytes("start", &b, &c, sizeof b);
+            expect("count", read.count, again.count);
+            expect_bytes("actions read", read.bytes, again.bytes, MENKHODUR_ACTION_SIZE * read.count);
+            game = read;
+            in->board = b;
+            about("roll_write of what roll_read_old read");
+            expect_written(in, turn, &owed);
+        }
+        roll = old;
     }
 }
 
@@ -340,7 +411,13 @@ void add_actions(struct input *in)
 void roll_of_game(struct input *in)
 {
     uint64_t count = take_count(in);
-    encode(&roll, in->board, game.bytes, game.count, count);
+    encode(&roll, NEW, in->board, game.bytes, game.count, count);
+}
+
+void old_roll_of_game(struct input *in)
+{
+    uint64_t count = take_count(in);
+    encode(&roll, OLD, in->board, game.bytes, game.count, count);
 }
 
 void poke_roll(struct input *in)

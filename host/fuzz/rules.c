@@ -3,7 +3,16 @@
 #include <string.h>
 
 /* Where the parts of a position begin. */
-enum { SIDE = 64, WHITE_RIGHTS = 65, BLACK_RIGHTS = 66, IN_CHECK = 68, ENTRIES = 69, LIST = 70 };
+enum {
+    SIDE = 64,
+    WHITE_RIGHTS = 65,
+    BLACK_RIGHTS = 66,
+    CLOCK = MENKHODUR_POSITION_HALF_MOVES,
+    MOVE_NUMBER = MENKHODUR_POSITION_FULL_MOVES,
+    IN_CHECK = MENKHODUR_POSITION_IN_CHECK,
+    ENTRIES = MENKHODUR_POSITION_ENTRIES,
+    LIST = MENKHODUR_POSITION_MOVES
+};
 
 static const uint8_t *position_at(const struct log *l, uint64_t i)
 {
@@ -20,16 +29,25 @@ const uint8_t *current_position(const struct log *l)
     return position_at(l, l->move_count);
 }
 
-menkhodur_board board_in(const uint8_t *position)
-{
-    menkhodur_board b;
-    memcpy(&b, position, sizeof b);
-    return b;
-}
-
+/* Two bytes, low first. */
 static unsigned pair_at(const uint8_t *bytes)
 {
     return bytes[0] + 256u * bytes[1];
+}
+
+static void put_pair(uint8_t *bytes, unsigned number)
+{
+    bytes[0] = (uint8_t)(number % 256);
+    bytes[1] = (uint8_t)(number / 256);
+}
+
+menkhodur_board board_in(const uint8_t *position)
+{
+    menkhodur_board b;
+    for (unsigned i = 0; i < KEY_NUMBERS; i++) *number_of(&b, i) = position[i];
+    b.half_moves = (uint16_t)pair_at(position + CLOCK);
+    b.full_moves = (uint16_t)pair_at(position + MOVE_NUMBER);
+    return b;
 }
 
 size_t list_in(const uint8_t *position, uint16_t *list)
@@ -71,10 +89,10 @@ bool log_offered(const struct log *l)
     return n >= 2 && action_at(l, n - 2)[0] == 1 + OFFER_DRAW && action_at(l, n - 2)[1] != current_position(l)[SIDE];
 }
 
-/* The same record and the same list in order. The in-check byte is not looked at. */
+/* The same record but for the counters, and the same list in order. The in-check byte is not looked at. */
 static bool equal(const uint8_t *p, const uint8_t *q)
 {
-    return memcmp(p, q, IN_CHECK) == 0 && memcmp(p + ENTRIES, q + ENTRIES, MENKHODUR_POSITION_SIZE - ENTRIES) == 0;
+    return memcmp(p, q, KEY_NUMBERS) == 0 && memcmp(p + ENTRIES, q + ENTRIES, MENKHODUR_POSITION_SIZE - ENTRIES) == 0;
 }
 
 static bool takes_or_pawn(const uint8_t *before, unsigned move)
@@ -155,11 +173,12 @@ static bool position_good(const uint8_t *p)
 static bool move_good(struct log *l, const uint8_t *action, uint64_t moves)
 {
     const uint8_t *p = current_position(l), *next = p + MENKHODUR_POSITION_SIZE;
-    menkhodur_board after;
+    menkhodur_board after, came;
     if (l->move_count == moves || !is_listed(p, pair_at(action + 2)) || !position_good(next) || p[SIDE] == next[SIDE]) return false;
     after = after_of(board_in(p), pair_at(action + 2));
+    came = board_in(next);
     l->move_count++;
-    return memcmp(&after, next, sizeof after) == 0;
+    return memcmp(&after, &came, sizeof after) == 0;
 }
 
 /* Whether the next action could have been accepted; it is then in the log. */
@@ -194,14 +213,14 @@ bool log_good(const struct log *whole)
 
 void position_bytes(const menkhodur_board *b, uint8_t in_check, const uint16_t *list, size_t entries, uint8_t *bytes)
 {
+    menkhodur_board copy = *b;
     memset(bytes, 0, MENKHODUR_POSITION_SIZE);
-    memcpy(bytes, b, sizeof *b);
+    for (unsigned i = 0; i < KEY_NUMBERS; i++) bytes[i] = *number_of(&copy, i);
+    put_pair(bytes + CLOCK, b->half_moves);
+    put_pair(bytes + MOVE_NUMBER, b->full_moves);
     bytes[IN_CHECK] = in_check;
     bytes[ENTRIES] = (uint8_t)entries;
-    for (size_t i = 0; i < entries; i++) {
-        bytes[LIST + 2 * i] = (uint8_t)(list[i] % 256);
-        bytes[LIST + 2 * i + 1] = (uint8_t)(list[i] / 256);
-    }
+    for (size_t i = 0; i < entries; i++) put_pair(bytes + LIST + 2 * i, list[i]);
 }
 
 void action_bytes(enum call call, uint64_t move, uint8_t colour, uint8_t *bytes)
@@ -209,6 +228,5 @@ void action_bytes(enum call call, uint64_t move, uint8_t colour, uint8_t *bytes)
     bool moves = call == MAKE_MOVE, coloured = call == OFFER_DRAW || call == RESIGN;
     bytes[0] = (uint8_t)(1 + call);
     bytes[1] = coloured ? colour : 0;
-    bytes[2] = moves ? (uint8_t)(move % 256) : 0;
-    bytes[3] = moves ? (uint8_t)(move / 256) : 0;
+    put_pair(bytes + 2, moves ? (unsigned)move : 0);
 }

@@ -1,5 +1,5 @@
-/* Document 01's rules of the log, with the ruling of document 02, order 5, and the records of its order 9, over its bytes, written from the papers
- * alone. */
+/* Document 01's rules of the log, with the ruling of document 02, order 5, the records of its order 9 and the counters of its order 12, over its
+ * bytes, written from the papers alone. */
 #ifndef RULES_H
 #define RULES_H
 

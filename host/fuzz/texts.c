@@ -1,12 +1,13 @@
 /* Squares, rights, board steps and texts: what document 01 says of their answers and of the bytes lent, and document 02 of refused FENs,
- * coordinate texts and pages. */
+ * of counters, coordinate texts and pages. */
 #include "fuzz.h"
 
+#include <stdio.h>
 #include <string.h>
 
 static struct lent text_part, room_part, records_part, numbers_part;
 
-enum { RECORD = 68, TOLD = 2 }; /* the bytes and the numbers that a line of a page has */
+enum { RECORD = MENKHODUR_PAGE_RECORD, TOLD = MENKHODUR_PAGE_NUMBERS }; /* the bytes and the numbers that a line of a page has */
 
 static const char letters[] = " pnbrqk";
 
@@ -62,15 +63,15 @@ void call_square_rights(struct input *in)
         expect_answer(accepted_if(colour < 2 && square < 64, rights, 5), CALL(turn, menkhodur_square_rights, colour, square));
 }
 
-/* Which number a step sets, 68 if a parameter is out of range. */
+/* Which number a step sets, KEY_NUMBERS if a parameter is out of range. */
 static unsigned number_set(unsigned which, uint8_t first, uint8_t second)
 {
     switch (which) {
-    case 0: return first < 64 && second >= 1 && second <= 12 ? first : 68;
-    case 1: return first < 64 ? first : 68;
-    case 2: return first < 2 ? 64 : 68;
-    case 3: return first < 2 && second < 4 ? 65u + first : 68;
-    default: return first < 9 ? 67 : 68;
+    case 0: return first < 64 && second >= 1 && second <= 12 ? first : KEY_NUMBERS;
+    case 1: return first < 64 ? first : KEY_NUMBERS;
+    case 2: return first < 2 ? 64 : KEY_NUMBERS;
+    case 3: return first < 2 && second < 4 ? 65u + first : KEY_NUMBERS;
+    default: return first < 9 ? 67 : KEY_NUMBERS;
     }
 }
 
@@ -91,12 +92,29 @@ void call_board_step(struct input *in)
 {
     unsigned which = take(in) % 5;
     uint8_t first = take(in), second = take(in);
-    unsigned at = board_good(&in->board) ? number_set(which, first, second) : 68;
+    unsigned at = board_good(&in->board) ? number_set(which, first, second) : KEY_NUMBERS;
     menkhodur_board want = in->board;
-    if (at < 68) *number_of(&want, at) = which == 0 || which == 3 ? second : which == 1 ? 0 : first;
+    if (at < KEY_NUMBERS) *number_of(&want, at) = which == 0 || which == 3 ? second : which == 1 ? 0 : first;
     for (unsigned turn = 0; turn < 2; turn++) {
         menkhodur_stepped got = board_step(turn, which, in->board, first, second);
-        expect("number", at < 68 ? 0 : 5, got.number);
+        expect("number", at < KEY_NUMBERS ? 0 : 5, got.number);
+        expect_bytes("board", &want, &got.board, sizeof want);
+    }
+    in->board = want;
+}
+
+/* Document 02, order 12: the clock is 0 to 9,999, the move number 1 to 9,999, and a number of any size is judged as it is. */
+void call_counter_step(struct input *in)
+{
+    unsigned which = take(in) % 2 ? FULL_MOVES : HALF_MOVES;
+    uint64_t count = take_wide(in);
+    bool good = board_good(&in->board) && count >= least_of(which) && count <= limit_of(which);
+    menkhodur_board want = in->board;
+    if (good) set_number(&want, which, (unsigned)count);
+    about(which == FULL_MOVES ? "full_moves" : "half_moves");
+    for (unsigned turn = 0; turn < 2; turn++) {
+        menkhodur_stepped got = which == FULL_MOVES ? CALL(turn, menkhodur_full_moves, in->board, count) : CALL(turn, menkhodur_half_moves, in->board, count);
+        expect("number", good ? 0 : 5, got.number);
         expect_bytes("board", &want, &got.board, sizeof want);
     }
     in->board = want;
@@ -110,17 +128,17 @@ void call_board_after(struct input *in)
     uint64_t number = good ? fits ? MENKHODUR_ACCEPTED : MENKHODUR_BAD_LIST : MENKHODUR_OUT_OF_RANGE;
     for (unsigned turn = 0; turn < 2; turn++) {
         menkhodur_stepped got = CALL(turn, menkhodur_board_after, in->board, in->move);
-        uint8_t text[MENKHODUR_LONGEST_FEN];
+        uint8_t text[MENKHODUR_LONGEST_FULL_FEN];
         menkhodur_answer written;
         menkhodur_fen read;
         about("board_after");
         expect("number", number, got.number);
         expect_bytes("board", &want, &got.board, sizeof want);
         if (number) continue;
-        written = CALL(turn, menkhodur_fen_write, got.board, text, sizeof text);
+        written = CALL(turn, menkhodur_fen_write_full, got.board, text, sizeof text);
         about("board_after, written and read back");
         expect("number", MENKHODUR_ACCEPTED, written.number);
-        read = CALL(turn, menkhodur_fen_read, text, written.value);
+        read = CALL(turn, menkhodur_fen_read_full, text, written.value);
         expect_bytes("board", &want, &read.board, sizeof want);
     }
     in->board = want;
@@ -176,9 +194,11 @@ static size_t place(const uint8_t *text, size_t length, menkhodur_board *b)
     return length;
 }
 
+enum { TOKENS = 6 }; /* that a reader looks at */
+
 struct tokens {
-    const uint8_t *at[4];
-    size_t length[4];
+    const uint8_t *at[TOKENS];
+    size_t length[TOKENS];
     unsigned count;
 };
 
@@ -187,7 +207,7 @@ static struct tokens split(const uint8_t *text, size_t length)
     struct tokens t = { { text }, { 0 }, 1 };
     for (size_t i = 0; i < length; i++) {
         if (text[i] != ' ') t.length[t.count - 1]++;
-        else if (t.count < 4) t.at[t.count++] = text + i + 1;
+        else if (t.count < TOKENS) t.at[t.count++] = text + i + 1;
         else break;
     }
     return t;
@@ -222,10 +242,78 @@ static menkhodur_fen model_read(const uint8_t *text, size_t length)
     b->black_castle_rights = (uint8_t)(has(&t, 'k') + 2 * has(&t, 'q'));
     if (t.length[3] >= 2 && square[0] >= 'a' && square[0] <= 'h' && square[1] >= '1' && square[1] <= '8')
         b->en_passant = (uint8_t)(square[0] - 'a' + 1);
+    b->full_moves = 1;
     return fen;
 }
 
+enum { NO_COUNT = -1 };
+
+/* The number of a token of one to four digits. */
+static int count_in(const struct tokens *t, unsigned which)
+{
+    int count = 0;
+    if (t->length[which] < 1 || t->length[which] > 4) return NO_COUNT;
+    for (size_t i = 0; i < t->length[which]; i++) {
+        uint8_t byte = t->at[which][i];
+        if (byte < '0' || byte > '9') return NO_COUNT;
+        count = 10 * count + (byte - '0');
+    }
+    return count;
+}
+
+/* Document 02, order 12: 25 behind those, for the fifth token and then the sixth. One that is missing has the text's length, one that is not one
+ * to four digits, or is a move number of 0, its start. */
+static menkhodur_fen model_read_full(const uint8_t *text, size_t length)
+{
+    struct tokens t = split(text, length);
+    menkhodur_fen fen = model_read(text, length);
+    int half, full;
+    if (fen.number) return fen;
+    if (t.count < 5) return refused_fen(MENKHODUR_BAD_COUNTER, length);
+    half = count_in(&t, 4);
+    if (half == NO_COUNT) return refused_fen(MENKHODUR_BAD_COUNTER, (size_t)(t.at[4] - text));
+    if (t.count < 6) return refused_fen(MENKHODUR_BAD_COUNTER, length);
+    full = count_in(&t, 5);
+    if (full == NO_COUNT || full == 0) return refused_fen(MENKHODUR_BAD_COUNTER, (size_t)(t.at[5] - text));
+    fen.board.half_moves = (uint16_t)half;
+    fen.board.full_moves = (uint16_t)full;
+    return fen;
+}
+
+/* ---- The crate's pair and the full one ---- */
+
+struct pair {
+    const char *read, *write, *read_back;
+    __typeof__(menkhodur_fen_read) *reader[2];
+    __typeof__(menkhodur_fen_write) *writer[2];
+    menkhodur_fen (*model)(const uint8_t *text, size_t length);
+    size_t longest;
+    bool counts; /* whether its texts tell the counters: the crate's say 0 and 1 */
+};
+
+static const struct pair crate = {
+    "fen_read", "fen_write", "fen_read of what fen_write wrote",
+    { menkhodur_fen_read, TWIN(menkhodur_fen_read) }, { menkhodur_fen_write, TWIN(menkhodur_fen_write) },
+    model_read, MENKHODUR_LONGEST_FEN, false,
+};
+
+static const struct pair full = {
+    "fen_read_full", "fen_write_full", "fen_read_full of what fen_write_full wrote",
+    { menkhodur_fen_read_full, TWIN(menkhodur_fen_read_full) }, { menkhodur_fen_write_full, TWIN(menkhodur_fen_write_full) },
+    model_read_full, MENKHODUR_LONGEST_FULL_FEN, true,
+};
+
+/* The record that a pair's text tells. */
+static menkhodur_board told_by(const struct pair *pair, menkhodur_board b)
+{
+    if (!pair->counts) b.half_moves = 0, b.full_moves = 1;
+    return b;
+}
+
 /* ---- FEN, written ---- */
+
+/* Of a text with the 0 byte that sprintf sets. */
+enum { FEN_ROOM = MENKHODUR_LONGEST_FULL_FEN + 16 };
 
 static size_t put_rank(const uint8_t *men, uint8_t *text)
 {
@@ -240,11 +328,12 @@ static size_t put_rank(const uint8_t *men, uint8_t *text)
     return at;
 }
 
-/* Document 01's one text of a record in range; the length. */
-static size_t model_fen(const menkhodur_board *b, uint8_t *text)
+/* The one text of a record in range; the length. */
+static size_t model_fen(const struct pair *pair, const menkhodur_board *b, uint8_t *text)
 {
     static const char rights[5] = "KQkq";
     unsigned held = b->white_castle_rights | (unsigned)b->black_castle_rights << 2;
+    menkhodur_board told = told_by(pair, *b);
     size_t at = 0;
     for (unsigned rank = 8; rank > 0; rank--) {
         at += put_rank(b->pieces + 8 * (rank - 1), text + at);
@@ -258,68 +347,84 @@ static size_t model_fen(const menkhodur_board *b, uint8_t *text)
     text[at++] = ' ';
     text[at++] = b->en_passant ? (uint8_t)('a' + b->en_passant - 1) : '-';
     if (b->en_passant) text[at++] = b->side_to_move ? '3' : '6';
-    memcpy(text + at, " 0 1", 4);
-    return at + 4;
+    return at + (size_t)sprintf((char *)text + at, " %u %u", told.half_moves, told.full_moves);
 }
 
-static void expect_writes(const menkhodur_board *b, size_t room)
+static void expect_writes(const struct pair *pair, const menkhodur_board *b, size_t room)
 {
-    uint8_t text[MENKHODUR_LONGEST_FEN + 16];
+    uint8_t text[FEN_ROOM];
     bool good = board_good(b);
-    size_t length = good ? model_fen(b, text) : 0;
+    size_t length = good ? model_fen(pair, b, text) : 0;
     menkhodur_answer want = { !good ? 5 : room < length ? 7 : 0, length };
     for (unsigned turn = 0; turn < 2; turn++) {
         menkhodur_answer got;
         lend(&room_part, room, turn, turn);
-        about("fen_write");
-        got = CALL(turn, menkhodur_fen_write, *b, room ? room_part.bytes : NULL, room);
+        about(pair->write);
+        got = pair->writer[turn](*b, room ? room_part.bytes : NULL, room);
         expect_answer(want, got);
         expect_room(got, text);
     }
-    if (good) expect("25 to 85 bytes", 1, length >= MENKHODUR_SHORTEST_FEN && length <= MENKHODUR_LONGEST_FEN);
+    if (good) expect("no more and no fewer bytes than a FEN has", 1, length >= MENKHODUR_SHORTEST_FEN && length <= pair->longest);
 }
 
-/* The record's FEN reads back to the same record. */
-static void expect_round_trip(const menkhodur_board *b)
+/* The record's FEN reads back to the record that it tells. */
+static void expect_round_trip(const struct pair *pair, const menkhodur_board *b)
 {
+    menkhodur_board told = told_by(pair, *b);
     menkhodur_answer length;
     menkhodur_fen again;
-    lend(&room_part, MENKHODUR_LONGEST_FEN, false, 0);
-    length = menkhodur_fen_write(*b, room_part.bytes, MENKHODUR_LONGEST_FEN);
-    about("fen_read of what fen_write wrote");
+    lend(&room_part, pair->longest, false, 0);
+    length = pair->writer[0](*b, room_part.bytes, pair->longest);
+    about(pair->read_back);
     expect("number", 0, length.number);
-    again = menkhodur_fen_read(room_part.bytes, length.value);
+    again = pair->reader[0](room_part.bytes, length.value);
     expect("number", 0, again.number);
     expect("offset", 0, again.offset);
-    expect_bytes("board", b, &again.board, sizeof again.board);
+    expect_bytes("board", &told, &again.board, sizeof told);
+}
+
+static void write_in(const struct pair *pair, struct input *in)
+{
+    uint8_t text[FEN_ROOM];
+    size_t length = board_good(&in->board) ? model_fen(pair, &in->board, text) : 0;
+    expect_writes(pair, &in->board, take_room(in, length));
+    if (!length) return;
+    expect_writes(pair, &in->board, length);
+    expect_writes(pair, &in->board, length - 1);
+    expect_round_trip(pair, &in->board);
 }
 
 void call_fen_write(struct input *in)
 {
-    uint8_t text[MENKHODUR_LONGEST_FEN + 16];
-    size_t length = board_good(&in->board) ? model_fen(&in->board, text) : 0;
-    expect_writes(&in->board, take_room(in, length));
-    if (!length) return;
-    expect_writes(&in->board, length);
-    expect_writes(&in->board, length - 1);
-    expect_round_trip(&in->board);
+    write_in(&crate, in);
+}
+
+void call_fen_write_full(struct input *in)
+{
+    write_in(&full, in);
 }
 
 void text_of_board(struct input *in)
 {
-    in->length = board_good(&in->board) ? model_fen(&in->board, in->text) : 0;
+    in->length = board_good(&in->board) ? model_fen(&crate, &in->board, in->text) : 0;
+}
+
+void full_text_of_board(struct input *in)
+{
+    in->length = board_good(&in->board) ? model_fen(&full, &in->board, in->text) : 0;
 }
 
 /* ---- FEN, read ---- */
 
-void call_fen_read(struct input *in)
+/* What a reader accepts is then the board. */
+static void read_in(const struct pair *pair, struct input *in)
 {
-    menkhodur_fen want = model_read(in->text, in->length);
+    menkhodur_fen want = pair->model(in->text, in->length);
     for (unsigned turn = 0; turn < 2; turn++) {
         menkhodur_fen got;
         lend_text(in, turn);
-        about("fen_read");
-        got = CALL(turn, menkhodur_fen_read, in->length ? text_part.bytes : NULL, in->length);
+        about(pair->read);
+        got = pair->reader[turn](in->length ? text_part.bytes : NULL, in->length);
         expect("number", want.number, got.number);
         expect("offset", want.offset, got.offset);
         expect_bytes("board", &want.board, &got.board, sizeof want.board);
@@ -327,7 +432,17 @@ void call_fen_read(struct input *in)
     }
     if (want.number) return;
     in->board = want.board;
-    expect_round_trip(&want.board);
+    expect_round_trip(pair, &want.board);
+}
+
+void call_fen_read(struct input *in)
+{
+    read_in(&crate, in);
+}
+
+void call_fen_read_full(struct input *in)
+{
+    read_in(&full, in);
 }
 
 /* ---- Pages ---- */

@@ -5,15 +5,11 @@
  *     beyond WHAT : ANSWERS    one that only the larger limits allow
  *     short  WHAT : ANSWERS    an actions part of the old size
  *
- * An answer ends in a checksum of what was lent, or in `unchanged`. No constant of the header that depends on the limits is used. */
-#include "../menkhodur.h"
+ * An answer ends in a checksum of what was lent, as it lay before order 12, or in `unchanged`. No constant of the header that depends on the limits is
+ * used. */
+#include "versions.h"
 
-#include <stdbool.h>
-#include <stdio.h>
-#include <string.h>
-
-enum { OLD_ACTIONS = 2048, OLD_MOVES = 1024, OLD_PART = 8192, ACTIONS_PART = 32768, POSITIONS_PART = 2376260, ROOM = 24000, ROLL = 24000 };
-enum { E2E4 = 1804, FILL = 0xA5 };
+enum { OLD_ACTIONS = 2048, OLD_MOVES = 1024, OLD_PART = 8192, ROOM = 24000, ROLL = 24000, E2E4 = 1804 };
 
 static uint8_t acts[ACTIONS_PART], positions[POSITIONS_PART], room[ROOM], roll[ROLL], before[POSITIONS_PART];
 static size_t roll_length;
@@ -28,16 +24,9 @@ static unsigned long adler(const uint8_t *bytes, size_t length)
     return high * 65536 + low;
 }
 
-static bool filled(const uint8_t *bytes, size_t length)
-{
-    for (size_t i = 0; i < length; i++)
-        if (bytes[i] != FILL) return false;
-    return true;
-}
-
 static void put_left(const uint8_t *bytes, size_t length)
 {
-    if (filled(bytes, length)) printf(" unchanged\n");
+    if (is_filled(bytes, length)) printf(" unchanged\n");
     else printf(" %lu\n", adler(bytes, length));
 }
 
@@ -72,7 +61,7 @@ static void ask_reader(const char *kind, unsigned moves, unsigned others, bool l
     if (last) put_acts(0, others);
     put_acts(moves, last ? 0 : others);
     memset(acts, FILL, sizeof acts);
-    menkhodur_roll r = menkhodur_roll_read(roll, roll_length, acts, part);
+    menkhodur_roll r = read_old_roll(roll, roll_length, acts, part);
     bool empty = true;
     for (unsigned i = 0; i < 64; i++) empty = empty && r.board.pieces[i] == 0;
     printf("%s read %u moves %u others %s part %zu : %llu %llu %s", kind, moves, others, last ? "last" : "first", part,
@@ -82,7 +71,7 @@ static void ask_reader(const char *kind, unsigned moves, unsigned others, bool l
 
 static void ask_writer(unsigned moves, unsigned others)
 {
-    static const menkhodur_board no_board;
+    static const uint8_t zeros[RECORD];
     memset(acts, 0, sizeof acts);
     for (unsigned i = 0; i < moves + others; i++) {
         acts[4 * i] = i < moves ? MENKHODUR_MAKE_MOVE : MENKHODUR_OFFER_DRAW;
@@ -91,7 +80,7 @@ static void ask_writer(unsigned moves, unsigned others)
         acts[4 * i + 3] = i < moves ? E2E4 / 256 : 0;
     }
     memset(room, FILL, sizeof room);
-    menkhodur_answer a = menkhodur_roll_write(no_board, acts, sizeof acts, moves + others, room, sizeof room);
+    menkhodur_answer a = write_old_roll(board_of(zeros), acts, sizeof acts, moves + others, room, sizeof room);
     printf("%s write %u moves %u others : %llu %llu", kind_of(moves, others), moves, others, (unsigned long long)a.number, (unsigned long long)a.value);
     put_left(room, sizeof room);
 }
@@ -102,11 +91,12 @@ static uint64_t n, m;
 
 static menkhodur_board round_board(uint64_t k)
 {
-    menkhodur_board b = { { 0 }, 0, 0, 0, 0 };
+    static const uint8_t zeros[RECORD];
+    menkhodur_board b = board_of(zeros);
     b.pieces[k % 4 == 1 || k % 4 == 2 ? 18 : 1] = MENKHODUR_WHITE_KNIGHT;
     b.pieces[k % 4 >= 2 ? 42 : 57] = MENKHODUR_BLACK_KNIGHT;
     b.side_to_move = k % 2;
-    return b;
+    return after_quiet_moves(b, k);
 }
 
 static uint16_t round_move(uint64_t k)
@@ -136,7 +126,8 @@ static uint64_t play(unsigned call)
 
 static void put_parts(void)
 {
-    printf(" %llu %llu %lu %lu", (unsigned long long)n, (unsigned long long)m, adler(acts, sizeof acts), adler(positions, sizeof positions));
+    printf(" %llu %llu %lu %lu", (unsigned long long)n, (unsigned long long)m, adler(acts, sizeof acts),
+           adler(as_before(positions, m + 1), OLD_POSITIONS_PART));
 }
 
 static void put_queries(void)

@@ -1,9 +1,39 @@
 /* Archives with one fault each, to see that the harness finds it: `run` builds this file with FAULT set and puts it before the archive's own
- * function, which it renames. WRAPS or RARE in a comment names the function for `run`; a RARE fault shows only at values that no branch of
- * the archive's code tells from others, and a minute may not be enough to find it. */
+ * function, which it renames. WRAPS, GUIDED or RARE in a comment names the function for `run`; no seed shows a GUIDED fault, and a RARE one shows
+ * only at values that no branch of the archive's code tells from others, so that a minute may not be enough to find it. */
 #include "../../menkhodur.h"
 
 #include <string.h>
+
+enum { SIZE = MENKHODUR_POSITION_SIZE, HALF = MENKHODUR_POSITION_HALF_MOVES, FULL = MENKHODUR_POSITION_FULL_MOVES };
+
+/* Positions that are equal for repetition. */
+static inline int same(const uint8_t *p, const uint8_t *q)
+{
+    const size_t list = MENKHODUR_POSITION_ENTRIES;
+    return memcmp(p, q, HALF) == 0 && memcmp(p + list, q + list, SIZE - list) == 0;
+}
+
+/* The start of a token of a FEN text, counted from 0; NULL if it is not there. */
+static inline const uint8_t *token_at(const uint8_t *text, size_t length, unsigned which)
+{
+    const uint8_t *at = text, *end = text + length;
+    for (; at && which; which--) {
+        at = at < end ? memchr(at, ' ', (size_t)(end - at)) : NULL;
+        if (at) at++;
+    }
+    return at;
+}
+
+static inline int moves_a_pawn(const menkhodur_board *b, uint64_t move)
+{
+    return b->pieces[move % 64] == MENKHODUR_WHITE_PAWN || b->pieces[move % 64] == MENKHODUR_BLACK_PAWN;
+}
+
+static inline uint16_t clock_one_more(const menkhodur_board *b)
+{
+    return (uint16_t)(b->half_moves + (b->half_moves < MENKHODUR_LAST_COUNT));
+}
 
 #if FAULT == 1 /* WRAPS fen_write: one byte behind its text is written */
 menkhodur_answer real_fen_write(menkhodur_board b, uint8_t *out, size_t room);
@@ -52,10 +82,10 @@ menkhodur_counts real_game_resign(uint8_t *a, size_t al, const uint8_t *p, size_
 menkhodur_counts menkhodur_game_resign(uint8_t *a, size_t al, const uint8_t *p, size_t pl, uint64_t ac, uint64_t mc, uint8_t colour)
 {
     menkhodur_counts c = real_game_resign(a, al, p, pl, ac, mc, colour);
-    if (c.number == 0) ((uint8_t *)p)[MENKHODUR_POSITION_SIZE * mc + 579] ^= colour;
+    if (c.number == 0) ((uint8_t *)p)[SIZE * (mc + 1) - 1] ^= colour;
     return c;
 }
-#elif FAULT == 7 /* WRAPS game_result: 9 stands before 16 */
+#elif FAULT == 7 /* GUIDED game_result: 9 stands before 16 */
 menkhodur_answer real_game_result(const uint8_t *a, size_t al, const uint8_t *p, size_t pl, uint64_t ac, uint64_t mc);
 menkhodur_answer menkhodur_game_result(const uint8_t *a, size_t al, const uint8_t *p, size_t pl, uint64_t ac, uint64_t mc)
 {
@@ -63,12 +93,12 @@ menkhodur_answer menkhodur_game_result(const uint8_t *a, size_t al, const uint8_
     if (r.number == 16 && (ac > MENKHODUR_MAX_ACTIONS || mc > MENKHODUR_MAX_MOVES)) r.number = 9;
     return r;
 }
-#elif FAULT == 8 /* WRAPS game_start: a byte of a long list is lost */
+#elif FAULT == 8 /* GUIDED game_start: a byte of a long list is lost */
 menkhodur_counts real_game_start(uint8_t *a, size_t al, uint8_t *p, size_t pl, menkhodur_board b, uint8_t check, const uint16_t *list, size_t entries);
 menkhodur_counts menkhodur_game_start(uint8_t *a, size_t al, uint8_t *p, size_t pl, menkhodur_board b, uint8_t check, const uint16_t *list, size_t entries)
 {
     menkhodur_counts c = real_game_start(a, al, p, pl, b, check, list, entries);
-    if (c.number == 0 && entries > 200) p[70 + 2 * entries - 1] = 0;
+    if (c.number == 0 && entries > 200) p[MENKHODUR_POSITION_MOVES + 2 * entries - 1] = 0;
     return c;
 }
 #elif FAULT == 9 /* WRAPS game_can_declare_draw: a claim stands at 99 moves */
@@ -143,7 +173,7 @@ menkhodur_answer menkhodur_san_read(menkhodur_board b, const uint16_t *list, siz
     menkhodur_answer a = real_san_read(b, list, entries, text, length);
     return entries == 255 ? (menkhodur_answer){ 6, 0 } : a;
 }
-#elif FAULT == 18 /* RARE game_declare_draw: an accepted claim after an odd number of moves names black */
+#elif FAULT == 18 /* WRAPS game_declare_draw: an accepted claim after an odd number of moves names black */
 menkhodur_counts real_game_declare_draw(uint8_t *a, size_t al, const uint8_t *p, size_t pl, uint64_t ac, uint64_t mc);
 menkhodur_counts menkhodur_game_declare_draw(uint8_t *a, size_t al, const uint8_t *p, size_t pl, uint64_t ac, uint64_t mc)
 {
@@ -166,7 +196,7 @@ menkhodur_counts menkhodur_game_make_move(uint8_t *a, size_t al, uint8_t *p, siz
                                           menkhodur_board next, uint8_t in_check, const uint16_t *list, size_t entries)
 {
     menkhodur_counts c = real_game_make_move(a, al, p, pl, ac, mc, move, next, in_check, list, entries);
-    if (c.number == 0 && entries == 128) p[MENKHODUR_POSITION_SIZE * (mc + 1) + 70 + 2 * 127] ^= 1;
+    if (c.number == 0 && entries == 128) p[SIZE * (mc + 1) + MENKHODUR_POSITION_MOVES + 2 * 127] ^= 1;
     return c;
 }
 #elif FAULT == 21 /* WRAPS fen_read: of two bad placement bytes the second is told */
@@ -234,7 +264,7 @@ menkhodur_ruling menkhodur_game_ruling(const uint8_t *a, size_t al, const uint8_
     menkhodur_ruling r = real_game_ruling(a, al, p, pl, ac, mc);
     uint64_t k = mc;
     if (r.number || r.equals < 2) return r;
-    while (k-- > 0 && (memcmp(p + 580 * k, p + 580 * mc, 68) || memcmp(p + 580 * k + 69, p + 580 * mc + 69, 511))) {}
+    while (k-- > 0 && !same(p + SIZE * k, p + SIZE * mc)) {}
     r.second = k;
     return r;
 }
@@ -314,7 +344,7 @@ menkhodur_answer real_fen_page(const uint8_t *text, size_t length, uint8_t *reco
 menkhodur_answer menkhodur_fen_page(const uint8_t *text, size_t length, uint8_t *records, size_t rl, uint64_t *numbers, size_t nl)
 {
     menkhodur_answer a = real_fen_page(text, length, records, rl, numbers, nl);
-    if (a.number == 7 && rl + 68 == 68 * a.value && rl && nl >= 2 * a.value) memset(records, 0, rl);
+    if (a.number == 7 && rl + MENKHODUR_PAGE_RECORD == MENKHODUR_PAGE_RECORD * a.value && rl && nl >= 2 * a.value) memset(records, 0, rl);
     return a;
 }
 #elif FAULT == 38 /* WRAPS fen_page: a number behind the last line's is cleared */
@@ -362,7 +392,7 @@ menkhodur_counts menkhodur_game_make_move(uint8_t *a, size_t al, uint8_t *p, siz
         next.black_castle_rights = rights;
         c = real_game_make_move(a, al, p, pl, ac, mc, move, next, in_check, list, entries);
     }
-    if (c.number == 0) p[MENKHODUR_POSITION_SIZE * (mc + 1) + 66] = lent;
+    if (c.number == 0) p[SIZE * (mc + 1) + offsetof(menkhodur_board, black_castle_rights)] = lent;
     return c;
 }
 #elif FAULT == 49 /* WRAPS game_result: a log is good if a record's squares do not follow */
@@ -370,7 +400,7 @@ menkhodur_answer real_game_result(const uint8_t *a, size_t al, const uint8_t *p,
 menkhodur_answer menkhodur_game_result(const uint8_t *a, size_t al, const uint8_t *p, size_t pl, uint64_t ac, uint64_t mc)
 {
     menkhodur_answer r = real_game_result(a, al, p, pl, ac, mc);
-    if (r.number == 9 && mc == 1 && ac == 1 && p[580 + 40] == 4 && p[580 + 64] == 1) r.number = 0;
+    if (r.number == 9 && mc == 1 && ac == 1 && p[SIZE + 40] == 4 && p[SIZE + offsetof(menkhodur_board, side_to_move)] == 1) r.number = 0;
     return r;
 }
 #elif FAULT == 39 /* WRAPS roll_differences: a byte is written before the room is found too short */
@@ -396,6 +426,369 @@ menkhodur_answer menkhodur_roll_differences(const uint8_t *first, size_t fl, con
 {
     menkhodur_answer a = real_roll_differences(first, fl, second, sl, out, room);
     if (a.number == 0 && a.value > 9 && out[0] == 'a') out[a.value - 1] = ' ';
+    return a;
+}
+#elif FAULT == 50 /* WRAPS game_can_declare_draw: the high byte of the move number is compared for repetition */
+menkhodur_answer real_game_can_declare_draw(const uint8_t *a, size_t al, const uint8_t *p, size_t pl, uint64_t ac, uint64_t mc);
+menkhodur_answer menkhodur_game_can_declare_draw(const uint8_t *a, size_t al, const uint8_t *p, size_t pl, uint64_t ac, uint64_t mc)
+{
+    menkhodur_answer r = real_game_can_declare_draw(a, al, p, pl, ac, mc);
+    menkhodur_ruling by = menkhodur_game_ruling(a, al, p, pl, ac, mc);
+    if (by.claim != MENKHODUR_CLAIM_BY_POSITIONS || by.equals > 2) return r;
+    r.value = p[SIZE * by.first + FULL + 1] == p[SIZE * mc + FULL + 1];
+    return r;
+}
+#elif FAULT == 51 /* WRAPS game_start: the high byte of a move number over 255 is stored first */
+menkhodur_counts real_game_start(uint8_t *a, size_t al, uint8_t *p, size_t pl, menkhodur_board b, uint8_t check, const uint16_t *list, size_t entries);
+menkhodur_counts menkhodur_game_start(uint8_t *a, size_t al, uint8_t *p, size_t pl, menkhodur_board b, uint8_t check, const uint16_t *list, size_t entries)
+{
+    menkhodur_counts c = real_game_start(a, al, p, pl, b, check, list, entries);
+    if (c.number || b.full_moves < 256) return c;
+    p[FULL] = (uint8_t)(b.full_moves / 256);
+    p[FULL + 1] = (uint8_t)(b.full_moves % 256);
+    return c;
+}
+#elif FAULT == 52 /* WRAPS game_start: a move number over 9,999 is taken */
+menkhodur_counts real_game_start(uint8_t *a, size_t al, uint8_t *p, size_t pl, menkhodur_board b, uint8_t check, const uint16_t *list, size_t entries);
+menkhodur_counts menkhodur_game_start(uint8_t *a, size_t al, uint8_t *p, size_t pl, menkhodur_board b, uint8_t check, const uint16_t *list, size_t entries)
+{
+    menkhodur_counts c = real_game_start(a, al, p, pl, b, check, list, entries);
+    uint16_t lent = b.full_moves;
+    if (c.number != 5 || lent <= MENKHODUR_LAST_COUNT) return c;
+    b.full_moves = 1;
+    c = real_game_start(a, al, p, pl, b, check, list, entries);
+    if (c.number == 0) memcpy(p + FULL, (uint8_t[]){ (uint8_t)(lent % 256), (uint8_t)(lent / 256) }, 2);
+    return c;
+}
+#elif FAULT == 53 /* WRAPS game_result: the clock of a start without moves is not judged */
+menkhodur_answer real_game_result(const uint8_t *a, size_t al, const uint8_t *p, size_t pl, uint64_t ac, uint64_t mc);
+menkhodur_answer menkhodur_game_result(const uint8_t *a, size_t al, const uint8_t *p, size_t pl, uint64_t ac, uint64_t mc)
+{
+    menkhodur_answer r = real_game_result(a, al, p, pl, ac, mc);
+    uint8_t high;
+    if (r.number != 9 || mc) return r;
+    high = p[HALF + 1];
+    ((uint8_t *)p)[HALF + 1] = 0;
+    r = real_game_result(a, al, p, pl, ac, mc);
+    ((uint8_t *)p)[HALF + 1] = high;
+    return r;
+}
+#elif FAULT == 54 /* WRAPS game_result: the high byte of the move number after the first move is not compared */
+menkhodur_answer real_game_result(const uint8_t *a, size_t al, const uint8_t *p, size_t pl, uint64_t ac, uint64_t mc);
+menkhodur_answer menkhodur_game_result(const uint8_t *a, size_t al, const uint8_t *p, size_t pl, uint64_t ac, uint64_t mc)
+{
+    menkhodur_answer r = real_game_result(a, al, p, pl, ac, mc);
+    uint8_t high;
+    if (r.number != 9 || mc != 1) return r;
+    high = p[SIZE + FULL + 1];
+    ((uint8_t *)p)[SIZE + FULL + 1] = p[FULL + 1];
+    r = real_game_result(a, al, p, pl, ac, mc);
+    ((uint8_t *)p)[SIZE + FULL + 1] = high;
+    return r;
+}
+#elif FAULT == 55 /* WRAPS game_make_move: of the next record's clock the low byte alone is compared */
+menkhodur_counts real_game_make_move(uint8_t *a, size_t al, uint8_t *p, size_t pl, uint64_t ac, uint64_t mc, uint64_t move,
+                                     menkhodur_board next, uint8_t in_check, const uint16_t *list, size_t entries);
+menkhodur_counts menkhodur_game_make_move(uint8_t *a, size_t al, uint8_t *p, size_t pl, uint64_t ac, uint64_t mc, uint64_t move,
+                                          menkhodur_board next, uint8_t in_check, const uint16_t *list, size_t entries)
+{
+    menkhodur_counts c = real_game_make_move(a, al, p, pl, ac, mc, move, next, in_check, list, entries);
+    uint8_t lent = (uint8_t)(next.half_moves / 256);
+    if (c.number != 24) return c;
+    next.half_moves = (uint16_t)(next.half_moves % 256 + 256 * p[SIZE * mc + HALF + 1]);
+    c = real_game_make_move(a, al, p, pl, ac, mc, move, next, in_check, list, entries);
+    if (c.number == 0) p[SIZE * (mc + 1) + HALF + 1] = lent;
+    return c;
+}
+#elif FAULT == 56 /* WRAPS game_make_move: a wrong side is told before a counter that is out of range */
+menkhodur_counts real_game_make_move(uint8_t *a, size_t al, uint8_t *p, size_t pl, uint64_t ac, uint64_t mc, uint64_t move,
+                                     menkhodur_board next, uint8_t in_check, const uint16_t *list, size_t entries);
+menkhodur_counts menkhodur_game_make_move(uint8_t *a, size_t al, uint8_t *p, size_t pl, uint64_t ac, uint64_t mc, uint64_t move,
+                                          menkhodur_board next, uint8_t in_check, const uint16_t *list, size_t entries)
+{
+    menkhodur_counts c = real_game_make_move(a, al, p, pl, ac, mc, move, next, in_check, list, entries);
+    uint8_t side = c.number == 5 ? p[SIZE * mc + offsetof(menkhodur_board, side_to_move)] : 0;
+    if (c.number == 5 && next.side_to_move == side && next.full_moves > MENKHODUR_LAST_COUNT) c.number = 12;
+    return c;
+}
+#elif FAULT == 57 /* WRAPS game_ruling: the count of the Laws goes on from the start's clock */
+menkhodur_ruling real_game_ruling(const uint8_t *a, size_t al, const uint8_t *p, size_t pl, uint64_t ac, uint64_t mc);
+menkhodur_ruling menkhodur_game_ruling(const uint8_t *a, size_t al, const uint8_t *p, size_t pl, uint64_t ac, uint64_t mc)
+{
+    menkhodur_ruling r = real_game_ruling(a, al, p, pl, ac, mc);
+    if (r.number == 0 && r.laws_count == mc) r.laws_count += p[HALF] + 256u * p[HALF + 1];
+    return r;
+}
+#elif FAULT == 58 /* WRAPS fen_read_full: a fifth token that is missing is told before a bad side */
+menkhodur_fen real_fen_read_full(const uint8_t *text, size_t length);
+menkhodur_fen menkhodur_fen_read_full(const uint8_t *text, size_t length)
+{
+    menkhodur_fen f = real_fen_read_full(text, length);
+    if (f.number == 20 && !token_at(text, length, 4)) f.number = 25, f.offset = length;
+    return f;
+}
+#elif FAULT == 59 /* WRAPS fen_read_full: of two bad counters the sixth token is told */
+menkhodur_fen real_fen_read_full(const uint8_t *text, size_t length);
+menkhodur_fen menkhodur_fen_read_full(const uint8_t *text, size_t length)
+{
+    menkhodur_fen f = real_fen_read_full(text, length);
+    const uint8_t *sixth = f.number == 25 ? token_at(text, length, 5) : NULL;
+    if (sixth == text + length || (sixth && *sixth == '0')) f.offset = (uint64_t)(sixth - text);
+    return f;
+}
+#elif FAULT == 60 /* WRAPS fen_read_full: a fifth token of five digits is taken if the first is 0 */
+menkhodur_fen real_fen_read_full(const uint8_t *text, size_t length);
+menkhodur_fen menkhodur_fen_read_full(const uint8_t *text, size_t length)
+{
+    menkhodur_fen f = real_fen_read_full(text, length);
+    const uint8_t *fifth = f.number == 25 ? token_at(text, length, 4) : NULL, *sixth = fifth ? token_at(text, length, 5) : NULL;
+    uint8_t copy[100];
+    if (!sixth || sixth - fifth != 6 || *fifth != '0' || length > sizeof copy) return f;
+    memcpy(copy, text, (size_t)(fifth - text));
+    memcpy(copy + (fifth - text), fifth + 1, (size_t)(text + length - fifth) - 1);
+    return real_fen_read_full(copy, length - 1);
+}
+#elif FAULT == 61 /* WRAPS fen_read_full: a move number of 0000 is taken */
+menkhodur_fen real_fen_read_full(const uint8_t *text, size_t length);
+menkhodur_fen menkhodur_fen_read_full(const uint8_t *text, size_t length)
+{
+    menkhodur_fen f = real_fen_read_full(text, length);
+    uint8_t copy[100];
+    if (f.number != 25 || length < 5 || length > sizeof copy || memcmp(text + length - 5, " 0000", 5) != 0) return f;
+    memcpy(copy, text, length);
+    copy[length - 1] = '1';
+    f = real_fen_read_full(copy, length);
+    f.board.full_moves = 0;
+    return f;
+}
+#elif FAULT == 62 /* WRAPS fen_read_full: a CR behind the move number is dropped */
+menkhodur_fen real_fen_read_full(const uint8_t *text, size_t length);
+menkhodur_fen menkhodur_fen_read_full(const uint8_t *text, size_t length)
+{
+    return real_fen_read_full(text, length && text[length - 1] == '\r' ? length - 1 : length);
+}
+#elif FAULT == 63 /* WRAPS fen_read_full: a text refused with 25 has a move number of 1 */
+menkhodur_fen real_fen_read_full(const uint8_t *text, size_t length);
+menkhodur_fen menkhodur_fen_read_full(const uint8_t *text, size_t length)
+{
+    menkhodur_fen f = real_fen_read_full(text, length);
+    if (f.number == 25) f.board.full_moves = 1;
+    return f;
+}
+#elif FAULT == 64 /* WRAPS fen_read: a clock of four digits is taken from the text */
+menkhodur_fen real_fen_read(const uint8_t *text, size_t length);
+menkhodur_fen menkhodur_fen_read(const uint8_t *text, size_t length)
+{
+    menkhodur_fen f = real_fen_read(text, length), counted = menkhodur_fen_read_full(text, length);
+    if (counted.number == 0 && counted.board.half_moves > 999) f.board.half_moves = counted.board.half_moves;
+    return f;
+}
+#elif FAULT == 65 /* WRAPS fen_write: a clock of 9,999 is told by its last digit */
+menkhodur_answer real_fen_write(menkhodur_board b, uint8_t *out, size_t room);
+menkhodur_answer menkhodur_fen_write(menkhodur_board b, uint8_t *out, size_t room)
+{
+    menkhodur_answer a = real_fen_write(b, out, room);
+    if (a.number == 0 && b.half_moves == MENKHODUR_LAST_COUNT) out[a.value - 3] = '9';
+    return a;
+}
+#elif FAULT == 66 /* WRAPS fen_write_full: of the longest text the length without counters is told as needed */
+menkhodur_answer real_fen_write_full(menkhodur_board b, uint8_t *out, size_t room);
+menkhodur_answer menkhodur_fen_write_full(menkhodur_board b, uint8_t *out, size_t room)
+{
+    menkhodur_answer a = real_fen_write_full(b, out, room);
+    if (a.number == 7 && a.value == MENKHODUR_LONGEST_FULL_FEN) a.value = MENKHODUR_LONGEST_FEN;
+    return a;
+}
+#elif FAULT == 67 /* WRAPS fen_page: a line with a fifth token that is no clock is refused */
+menkhodur_answer real_fen_page(const uint8_t *text, size_t length, uint8_t *records, size_t rl, uint64_t *numbers, size_t nl);
+menkhodur_answer menkhodur_fen_page(const uint8_t *text, size_t length, uint8_t *records, size_t rl, uint64_t *numbers, size_t nl)
+{
+    menkhodur_answer a = real_fen_page(text, length, records, rl, numbers, nl);
+    size_t start = 0;
+    for (uint64_t i = 0; a.number == 0 && i < a.value; i++) {
+        const uint8_t *end = memchr(text + start, '\n', length - start);
+        size_t line = end ? (size_t)(end - text) - start : length - start;
+        if (token_at(text + start, line, 4) && menkhodur_fen_read_full(text + start, line).number == 25) numbers[2 * i] = 25;
+        start += line + 1;
+    }
+    return a;
+}
+#elif FAULT == 68 /* WRAPS board_after: the clock goes on if a man of the mover's own colour is taken */
+menkhodur_stepped real_board_after(menkhodur_board b, uint64_t move);
+menkhodur_stepped menkhodur_board_after(menkhodur_board b, uint64_t move)
+{
+    menkhodur_stepped s = real_board_after(b, move);
+    unsigned man = b.pieces[move % 64], taken = b.pieces[move / 64 % 64];
+    if (s.number || !man || !taken || moves_a_pawn(&b, move)) return s;
+    if (man / 7 == taken / 7 && move % 64 != move / 64 % 64) s.board.half_moves = clock_one_more(&b);
+    return s;
+}
+#elif FAULT == 69 /* WRAPS board_after: the clock does not stop at 9,999 */
+menkhodur_stepped real_board_after(menkhodur_board b, uint64_t move);
+menkhodur_stepped menkhodur_board_after(menkhodur_board b, uint64_t move)
+{
+    menkhodur_stepped s = real_board_after(b, move);
+    if (s.number == 0 && b.half_moves == MENKHODUR_LAST_COUNT && s.board.half_moves) s.board.half_moves++;
+    return s;
+}
+#elif FAULT == 70 /* WRAPS board_after: the move number does not stop at 9,999 */
+menkhodur_stepped real_board_after(menkhodur_board b, uint64_t move);
+menkhodur_stepped menkhodur_board_after(menkhodur_board b, uint64_t move)
+{
+    menkhodur_stepped s = real_board_after(b, move);
+    if (s.number == 0 && b.full_moves == MENKHODUR_LAST_COUNT && b.side_to_move) s.board.full_moves++;
+    return s;
+}
+#elif FAULT == 71 /* WRAPS board_after: a man that is overwritten in castling counts as captured */
+menkhodur_stepped real_board_after(menkhodur_board b, uint64_t move);
+menkhodur_stepped menkhodur_board_after(menkhodur_board b, uint64_t move)
+{
+    menkhodur_stepped s = real_board_after(b, move);
+    unsigned from = move % 64, to = move / 64 % 64, king = b.pieces[from] && b.pieces[from] % 6 == 0;
+    if (s.number == 0 && king && from / 8 == to / 8 && (from + 2 == to || to + 2 == from) && b.pieces[(from + to) / 2]) s.board.half_moves = 0;
+    return s;
+}
+#elif FAULT == 72 /* WRAPS board_after: a man that goes to his own square leaves the clock running */
+menkhodur_stepped real_board_after(menkhodur_board b, uint64_t move);
+menkhodur_stepped menkhodur_board_after(menkhodur_board b, uint64_t move)
+{
+    menkhodur_stepped s = real_board_after(b, move);
+    if (s.number == 0 && move % 64 == move / 64 % 64 && b.pieces[move % 64] && !moves_a_pawn(&b, move)) s.board.half_moves = clock_one_more(&b);
+    return s;
+}
+#elif FAULT == 73 /* WRAPS board_after: the move number goes by the colour of the man that moves */
+menkhodur_stepped real_board_after(menkhodur_board b, uint64_t move);
+menkhodur_stepped menkhodur_board_after(menkhodur_board b, uint64_t move)
+{
+    menkhodur_stepped s = real_board_after(b, move);
+    unsigned man = b.pieces[move % 64];
+    if (s.number == 0 && b.side_to_move && man && man <= MENKHODUR_WHITE_KING) s.board.full_moves = b.full_moves;
+    return s;
+}
+#elif FAULT == 74 /* WRAPS board_after: lost rights begin the clock again */
+menkhodur_stepped real_board_after(menkhodur_board b, uint64_t move);
+menkhodur_stepped menkhodur_board_after(menkhodur_board b, uint64_t move)
+{
+    menkhodur_stepped s = real_board_after(b, move);
+    if (s.number == 0 && s.board.white_castle_rights != b.white_castle_rights) s.board.half_moves = 0;
+    return s;
+}
+#elif FAULT == 75 /* WRAPS half_moves: 10,000 is taken */
+menkhodur_stepped real_half_moves(menkhodur_board b, uint64_t half_moves);
+menkhodur_stepped menkhodur_half_moves(menkhodur_board b, uint64_t half_moves)
+{
+    menkhodur_stepped s = real_half_moves(b, half_moves == MENKHODUR_LAST_COUNT + 1 ? 0 : half_moves);
+    if (s.number == 0) s.board.half_moves = (uint16_t)half_moves;
+    return s;
+}
+#elif FAULT == 76 /* WRAPS full_moves: a number over 65,535 is cut to 16 bits */
+menkhodur_stepped real_full_moves(menkhodur_board b, uint64_t full_moves);
+menkhodur_stepped menkhodur_full_moves(menkhodur_board b, uint64_t full_moves)
+{
+    return real_full_moves(b, (uint16_t)full_moves);
+}
+#elif FAULT == 77 /* WRAPS castle_rights: with black's rights the counters begin again */
+menkhodur_stepped real_castle_rights(menkhodur_board b, uint8_t colour, uint8_t rights);
+menkhodur_stepped menkhodur_castle_rights(menkhodur_board b, uint8_t colour, uint8_t rights)
+{
+    menkhodur_stepped s = real_castle_rights(b, colour, rights);
+    if (s.number == 0 && colour) s.board.half_moves = 0, s.board.full_moves = 1;
+    return s;
+}
+#elif FAULT == 78 /* WRAPS san_name: a record with a move number of 0 is taken */
+menkhodur_answer real_san_name(menkhodur_board b, const uint16_t *list, size_t entries, uint64_t move, uint8_t *out, size_t room);
+menkhodur_answer menkhodur_san_name(menkhodur_board b, const uint16_t *list, size_t entries, uint64_t move, uint8_t *out, size_t room)
+{
+    if (b.full_moves == 0) b.full_moves = 1;
+    return real_san_name(b, list, entries, move, out, room);
+}
+#elif FAULT == 79 /* WRAPS roll_read: an old roll is taken if it is none of today */
+menkhodur_roll real_roll_read(const uint8_t *roll, size_t length, uint8_t *actions, size_t al);
+menkhodur_roll menkhodur_roll_read(const uint8_t *roll, size_t length, uint8_t *actions, size_t al)
+{
+    menkhodur_roll r = real_roll_read(roll, length, actions, al), old;
+    if (r.number == 0) return r;
+    old = menkhodur_roll_read_old(roll, length, actions, al);
+    return old.number ? r : old;
+}
+#elif FAULT == 80 /* WRAPS roll_read: a move number of 0 is taken */
+menkhodur_roll real_roll_read(const uint8_t *roll, size_t length, uint8_t *actions, size_t al);
+menkhodur_roll menkhodur_roll_read(const uint8_t *roll, size_t length, uint8_t *actions, size_t al)
+{
+    menkhodur_roll r = real_roll_read(roll, length, actions, al);
+    const size_t at = MENKHODUR_PAGE_RECORD + 1;
+    if (r.number != 5 || length <= at || roll[at - 1] >= 128 || roll[at]) return r;
+    ((uint8_t *)roll)[at] = 1;
+    r = real_roll_read(roll, length, actions, al);
+    ((uint8_t *)roll)[at] = 0;
+    r.board.full_moves = 0;
+    return r;
+}
+#elif FAULT == 81 /* WRAPS roll_read: the size of a clock is judged before its needless group */
+menkhodur_roll real_roll_read(const uint8_t *roll, size_t length, uint8_t *actions, size_t al);
+menkhodur_roll menkhodur_roll_read(const uint8_t *roll, size_t length, uint8_t *actions, size_t al)
+{
+    menkhodur_roll r = real_roll_read(roll, length, actions, al);
+    const uint8_t *clock = roll + MENKHODUR_PAGE_RECORD;
+    if (r.number != 17 || length < MENKHODUR_PAGE_RECORD + 3 || clock[0] < 128 || clock[1] < 128 || clock[2]) return r;
+    if (clock[0] % 128 + 128 * (clock[1] % 128) > MENKHODUR_LAST_COUNT) r.number = 5;
+    return r;
+}
+#elif FAULT == 82 /* WRAPS roll_read_old: a refused roll has a move number of 1 */
+menkhodur_roll real_roll_read_old(const uint8_t *roll, size_t length, uint8_t *actions, size_t al);
+menkhodur_roll menkhodur_roll_read_old(const uint8_t *roll, size_t length, uint8_t *actions, size_t al)
+{
+    menkhodur_roll r = real_roll_read_old(roll, length, actions, al);
+    if (r.number) r.board.full_moves = 1;
+    return r;
+}
+#elif FAULT == 83 /* WRAPS roll_read_old: a roll of today with the counters 0 and 1 is taken */
+menkhodur_roll real_roll_read_old(const uint8_t *roll, size_t length, uint8_t *actions, size_t al);
+menkhodur_roll menkhodur_roll_read_old(const uint8_t *roll, size_t length, uint8_t *actions, size_t al)
+{
+    menkhodur_roll r = real_roll_read_old(roll, length, actions, al), today;
+    if (r.number != 17) return r;
+    today = menkhodur_roll_read(roll, length, actions, al);
+    return today.number ? r : today;
+}
+#elif FAULT == 84 /* WRAPS roll_write: of two counters that take two bytes each the move number stands first */
+menkhodur_answer real_roll_write(menkhodur_board b, const uint8_t *actions, size_t al, uint64_t count, uint8_t *out, size_t room);
+menkhodur_answer menkhodur_roll_write(menkhodur_board b, const uint8_t *actions, size_t al, uint64_t count, uint8_t *out, size_t room)
+{
+    menkhodur_answer a = real_roll_write(b, actions, al, count, out, room);
+    uint8_t clock[2], *at = out + MENKHODUR_PAGE_RECORD;
+    if (a.number || b.half_moves < 128 || b.full_moves < 128) return a;
+    memcpy(clock, at, 2);
+    memcpy(at, at + 2, 2);
+    memcpy(at + 2, clock, 2);
+    return a;
+}
+#elif FAULT == 85 /* WRAPS roll_differences: a clock that differs is keyed as the move number if that does not */
+menkhodur_answer real_roll_differences(const uint8_t *first, size_t fl, const uint8_t *second, size_t sl, uint8_t *out, size_t room);
+menkhodur_answer menkhodur_roll_differences(const uint8_t *first, size_t fl, const uint8_t *second, size_t sl, uint8_t *out, size_t room)
+{
+    menkhodur_answer a = real_roll_differences(first, fl, second, sl, out, room);
+    if (a.number == 0 && a.value > 5 && a.value < 16 && memcmp(out, "half ", 5) == 0) memcpy(out, "full", 4);
+    return a;
+}
+#elif FAULT == 86 /* WRAPS roll_differences: the line of the move number stands before that of the clock */
+static uint8_t *line_of(uint8_t *out, size_t length, const char *key)
+{
+    for (size_t i = 0; i + 5 <= length; i++)
+        if (memcmp(out + i, key, 5) == 0) return out + i;
+    return NULL;
+}
+menkhodur_answer real_roll_differences(const uint8_t *first, size_t fl, const uint8_t *second, size_t sl, uint8_t *out, size_t room);
+menkhodur_answer menkhodur_roll_differences(const uint8_t *first, size_t fl, const uint8_t *second, size_t sl, uint8_t *out, size_t room)
+{
+    menkhodur_answer a = real_roll_differences(first, fl, second, sl, out, room);
+    size_t length = a.number ? 0 : a.value;
+    uint8_t both[40], *half = line_of(out, length, "half "), *full = line_of(out, length, "full "), *end;
+    if (!half || !full) return a;
+    end = (uint8_t *)memchr(full, '\n', (size_t)(out + a.value - full)) + 1;
+    memcpy(both, full, (size_t)(end - full));
+    memcpy(both + (end - full), half, (size_t)(full - half));
+    memcpy(half, both, (size_t)(end - half));
     return a;
 }
 #endif
