@@ -1,7 +1,9 @@
 /* An extension of PostgreSQL: the proved key as SQL functions (menkhodur--1.sql declares them).
  *
  * A text is read by its bytes in the server's encoding. Each encoding that a server can have keeps ASCII as it is and uses no ASCII byte
- * within another character, so that a FEN text has the same bytes in all of them; an offset counts bytes of that encoding. */
+ * within another character, so that a FEN text has the same bytes in all of them; an offset counts bytes of that encoding.
+ *
+ * The library does not load over an archive of another version than that of the header it was compiled with. */
 #include "postgres.h"
 
 #include "access/detoast.h"
@@ -12,10 +14,19 @@
 
 PG_MODULE_MAGIC;
 
+extern PGDLLEXPORT void _PG_init(void);
+
 PG_FUNCTION_INFO_V1(sql_key);
 PG_FUNCTION_INFO_V1(sql_is_key);
 PG_FUNCTION_INFO_V1(sql_fault);
 PG_FUNCTION_INFO_V1(sql_version);
+
+/* The server calls it when it loads the library. */
+void _PG_init(void)
+{
+    char told[STORE_TOLD];
+    if (!store_version_fits(told)) ereport(ERROR, (errcode(ERRCODE_OBJECT_NOT_IN_PREREQUISITE_STATE), errmsg("%s", told)));
+}
 
 Datum sql_key(PG_FUNCTION_ARGS)
 {

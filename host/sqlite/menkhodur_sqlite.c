@@ -6,7 +6,9 @@
  *   menkhodur_version()     the version of the archive within
  *
  * A value is read over its whole length in bytes, 0 bytes too. A blob is read by its bytes, but it is never a key: to SQLite a blob and
- * a text with the same bytes are two values, so that a table could hold both. Numbers are read as the text that SQLite makes of them. */
+ * a text with the same bytes are two values, so that a table could hold both. Numbers are read as the text that SQLite makes of them.
+ *
+ * It does not load over an archive of another version than that of the header it was compiled with. */
 #include "../store/key.h"
 
 #include <sqlite3ext.h>
@@ -86,8 +88,12 @@ int sqlite3_menkhodursqlite_init(sqlite3 *db, char **error, const sqlite3_api_ro
     };
     const int flags = SQLITE_UTF8 | SQLITE_DETERMINISTIC | SQLITE_INNOCUOUS;
     int status = SQLITE_OK;
-    (void)error;
+    char told[STORE_TOLD];
     SQLITE_EXTENSION_INIT2(api);
+    if (!store_version_fits(told)) {
+        *error = sqlite3_mprintf("%s", told);
+        return SQLITE_ERROR;
+    }
     for (unsigned i = 0; i < sizeof functions / sizeof *functions && status == SQLITE_OK; i++)
         status = sqlite3_create_function_v2(db, functions[i].name, functions[i].arguments, flags, NULL, functions[i].call, NULL, NULL, NULL);
     return status;

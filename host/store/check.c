@@ -34,6 +34,14 @@ static void ask(const char *text, size_t length)
     if (strcmp(told, owed.json)) fail("json", text, length);
 }
 
+/* The archive here is of the header's version; what would be said otherwise stays within its room. */
+static void check_version(void)
+{
+    char told[STORE_TOLD];
+    if (!store_version_fits(told)) fail("version", told, strlen(told));
+    if (!strstr(told, ": build it again")) fail("room of the version", told, strlen(told));
+}
+
 /* A number that this code has no words for, and the longest numbers, stay within their room. */
 static void check_room(void)
 {
@@ -51,6 +59,7 @@ int main(int count, char **arguments)
         fprintf(stderr, "usage: check POSITIONS\n");
         return 1;
     }
+    check_version();
     check_room();
     printf("host/store/check: %lu texts, %lu accepted, %lu keys, %lu failed\n", asked_texts, accepted, keys, failed);
     return failed > 0 || accepted < 1000 || keys < 1000 || asked_texts - accepted < 1000;

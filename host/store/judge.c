@@ -50,6 +50,11 @@ static const struct {
     TEXT("8/8/8/8/8/8/8/8 b - z9"), TEXT("8/8/8/8/8/8/8/8  w - -"), TEXT("8/8/8/8/8/8/8/9 w - -"), TEXT("8/8 w -"), TEXT("8/8\tw - -"),
     TEXT("8/8/8/8/8/8/8/8 w - - 0 1"), TEXT("8/8/8/8/8/8/8/8 w - - 0 1 "), TEXT("8/8/8/8/8/8/8/8 w - - 0 1\n"),
     TEXT("rnbqkbnr/pppppppp/8/8/8/8/PPPPPPPP/RNBQKBNR w KQkq - 0 1"), TEXT("rnbqkbnr/pppppppp/8/8/8/8/PPPPPPPP/RNBQKBNR w KQkq -"),
+    /* counters, which no key tells: good ones, bad ones, and the longest text with them */
+    TEXT("8/8/8/8/8/8/8/8 w - - 1 1"), TEXT("8/8/8/8/8/8/8/8 w - - 0 2"), TEXT("8/8/8/8/8/8/8/8 w - - 0 01"), TEXT("8/8/8/8/8/8/8/8 w - - 42 137"),
+    TEXT("8/8/8/8/8/8/8/8 w - - 10000 0"), TEXT("8/8/8/8/8/8/8/8 w - - x"), TEXT("8/8/8/8/8/8/8/8 w - -  1"), TEXT("8/8/8/8/8/8/8/8 w - - 0 1\r"),
+    TEXT("rnbqkbnr/pppppppp/8/8/8/8/PPPPPPPP/RNBQKBNR w KQkq - 9999 9999"),
+    TEXT("brqkPNBR/PNBRQKpn/QKpnbrqk/brqkPNBR/PNBRQKpn/QKpnbrqk/brqkPNBR/PNBRQKpn w KQkq h6 9999 9999"),
     /* a 0 byte: inside the placement, in the place of the side, behind a key, and nothing else */
     TEXT("8/8\0/8 w - - 0 1"), TEXT("8/8/8/8/8/8/8/8 \0 - - 0 1"), TEXT("8/8/8/8/8/8/8/8 w - - 0 1\0"), TEXT("8/8/8/8/8/8/8/8 w - - 0 1\0x"),
     TEXT("\0"), TEXT("\0 w - -"),

@@ -21,6 +21,14 @@ static const char *reason_of(uint64_t number)
     return "the archive refused for a reason that this extension does not know";
 }
 
+bool store_version_fits(char told[STORE_TOLD])
+{
+    uint64_t version = menkhodur_version();
+    snprintf(told, STORE_TOLD, "the extension was compiled with the header of version %d and has an archive of version %" PRIu64 " within: build it again",
+             MENKHODUR_VERSION, version);
+    return version == MENKHODUR_VERSION;
+}
+
 void store_key_of(struct store_key *key, const void *text, size_t length)
 {
     menkhodur_fen fen = menkhodur_fen_read(text, length);

@@ -18,6 +18,10 @@ struct store_key {
 /* Room for what the two tellers below write, with the 0 byte at its end. */
 enum { STORE_TOLD = 192 };
 
+/* Whether the archive within is of the version whose header this was compiled with; `told` is what to say if it is not. A record has other bytes since
+ * version 12, and the linker does not see that: an extension asks before it does anything else. */
+bool store_version_fits(char told[STORE_TOLD]);
+
 void store_key_of(struct store_key *key, const void *text, size_t length);
 
 /* Whether the text is the key of what it says, byte for byte. A text that no key has the length of is not read. */
