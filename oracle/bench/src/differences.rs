@@ -3,7 +3,7 @@
 use crate::plain_differences;
 use crate::rolls::{rolled, Rolled};
 use crate::{row, times};
-use both::abi;
+use both::abi::{self, NUMBERS};
 use both::random::Random;
 
 const LENGTHS: [usize; 5] = [20, 80, 300, 600, 1_024];
@@ -21,10 +21,10 @@ fn changed(game: &Rolled, part: usize, of: usize) -> Vec<u8> {
     game.again(&actions)
 }
 
-/// A copy of which every start number is another.
+/// A copy of which every number of the start but the counters is another, as before there were counters.
 fn other_start(game: &Rolled) -> Vec<u8> {
     let mut roll = game.roll.clone();
-    for (place, number) in roll[..68].iter_mut().enumerate() {
+    for (place, number) in roll[..NUMBERS].iter_mut().enumerate() {
         let most = if place < 64 { 12 } else { 1 };
         *number = if *number == most { most - 1 } else { most };
     }

@@ -4,9 +4,10 @@
 use crate::{long_game, times, GAMES, GAME_LENGTH, GAME_ROUNDS, LONGEST_GAME};
 use both::abi::Log;
 use both::games::{board_of, moves_of, STARTS};
-use both::numbers::{number_of, position_of};
+use both::numbers::number_of;
 use both::random::Random;
 use chess::{Board, ChessMove, Game, Piece};
+use compare::clock::Walk;
 use compare::ruling::Course;
 use std::hint::black_box;
 use std::time::Instant;
@@ -22,24 +23,24 @@ fn row(what: &str, asked: usize, [claim, laws, ruling]: [f64; 3]) {
 /// A game that is played on both sides, so that what is timed can be seen to be right.
 struct Played<'a> {
     game: Game,
-    board: Board,
+    walk: Walk,
     course: Course,
     log: &'a mut Log,
 }
 
 impl Played<'_> {
     fn start(log: &mut Log) -> Played<'_> {
-        let (board, mut course) = (board_of(STARTS[0]), Course::default());
-        course.start(board);
-        assert_eq!(log.start(&position_of(&board)).number, 0);
-        Played { game: Game::new(), board, course, log }
+        let (walk, mut course) = (Walk::start(STARTS[0]), Course::default());
+        course.start(walk.board);
+        assert_eq!(log.start(&walk.position()).number, 0);
+        Played { game: Game::new(), walk, course, log }
     }
 
     fn make_move(&mut self, m: ChessMove) {
-        self.board = self.board.make_move_new(m);
-        self.course.add(self.board);
+        self.walk.to(self.walk.board.make_move_new(m));
+        self.course.add(self.walk.board);
         assert!(self.game.make_move(m));
-        assert_eq!(self.log.make_move(number_of(m) as u64, &position_of(&self.board)).number, 0);
+        assert_eq!(self.log.make_move(number_of(m) as u64, &self.walk.position()).number, 0);
     }
 
     fn check(&self) {

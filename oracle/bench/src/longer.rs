@@ -4,10 +4,11 @@
 use crate::laws::knights_game;
 use crate::{long_game, times};
 use both::abi::Log;
-use both::games::{board_of, STARTS};
-use both::numbers::{number_of, position_of};
+use both::games::STARTS;
+use both::numbers::number_of;
 use both::random::Random;
 use chess::ChessMove;
+use compare::clock::Walk;
 
 const SHORTER: usize = 1_024;
 const LONGER: usize = 4_096;
@@ -20,11 +21,11 @@ const QUERIES: [(&str, fn(&Log) -> u64); 4] = [
 ];
 
 fn log_of(moves: &[ChessMove]) -> Log {
-    let (mut log, mut board) = (Log::new(), board_of(STARTS[0]));
-    assert_eq!(log.start(&position_of(&board)).number, 0);
+    let (mut log, mut walk) = (Log::new(), Walk::start(STARTS[0]));
+    assert_eq!(log.start(&walk.position()).number, 0);
     for m in moves {
-        board = board.make_move_new(*m);
-        assert_eq!(log.make_move(number_of(*m) as u64, &position_of(&board)).number, 0);
+        walk.to(walk.board.make_move_new(*m));
+        assert_eq!(log.make_move(number_of(*m) as u64, &walk.position()).number, 0);
     }
     log
 }

@@ -15,11 +15,13 @@ mod plain_differences;
 mod plain_pgn;
 mod rolls;
 
-use both::abi::{self, Answer, Log, Placed, Position, Record, Stepped};
+use both::abi::{self, Answer, Log, Placed, Position, Record, Stepped, LONGEST_FULL_FEN};
 use both::games::{board_of, different_positions, moves_of, random_move, STARTS};
 use both::numbers::{move_of, number_of, position_of, record_of, result_number};
 use both::random::Random;
 use chess::{Board, BoardBuilder, ChessMove, Game, Piece};
+use compare::clock::{Counters, Walk};
+use compare::rules::en_passant_rank;
 use compare::standard;
 use std::convert::TryFrom;
 use std::hint::black_box;
@@ -45,6 +47,9 @@ struct Place {
     names: Vec<String>,
     /// In the PGN standard's form (document 02, order 6).
     standard_names: Vec<String>,
+    /// The record and its FEN with the counters of some place in a game (order 12).
+    counted: Record,
+    full: String,
     board: Board,
     at_hand: sanlist::board::Board,
 }
@@ -61,13 +66,15 @@ fn names_of(position: &Position, namer: Namer) -> Vec<String> {
     position.list.iter().map(name).collect()
 }
 
-fn place_of(board: &Board) -> Place {
+fn place_of(board: &Board, random: &mut Random) -> Place {
     let (position, builder) = (position_of(board), BoardBuilder::from(board));
+    let counters = Counters { half: random.below(50) as u16, full: 1 + random.below(150) as u16 };
+    let (counted, full) = (counters.on(position.record), counters.behind(&board.to_string()));
     let names = names_of(&position, abi::san_name);
     let standard_names = names_of(&position, abi::san_name_standard);
-    let at_hand = sanlist::board::Board::new(position.record.0, &position.list);
+    let at_hand = sanlist::board::Board::new(position.record.numbers, &position.list);
     let (record, list) = (position.record, position.list);
-    Place { builder, fen: board.to_string(), record, list, names, standard_names, board: *board, at_hand }
+    Place { builder, fen: board.to_string(), record, list, names, standard_names, counted, full, board: *board, at_hand }
 }
 
 /// Nanoseconds of one round over all inputs. What `work` gives is kept from being optimised away.
@@ -104,6 +111,27 @@ fn fen(places: &[Place]) {
     let mut room = [0; 85];
     let (theirs, ours) = times(places, |p| p.builder.to_string(), |p| abi::fen_write(p.record, &mut room));
     row("FEN write", places.len(), theirs, ours, "15");
+    full_fen(places);
+}
+
+/// The pair that keeps the counters (document 02, order 12) beside the crate's, which drops them, and beside our own of the crate's form.
+fn full_fen(places: &[Place]) {
+    for place in places {
+        let mut room = [0; LONGEST_FULL_FEN];
+        let answer = abi::fen_write_full(place.counted, &mut room);
+        assert_eq!((answer.number, &room[..answer.value as usize]), (0, en_passant_rank(&place.full).0.as_bytes()));
+        assert_eq!(abi::fen_read_full(place.full.as_bytes()).board, place.counted);
+    }
+    let (theirs, ours) = times(places, |p| BoardBuilder::from_str(&p.full), |p| abi::fen_read_full(p.full.as_bytes()));
+    row("FEN read with its counters, the crate without", places.len(), theirs, ours, "");
+    let mut room = [0; LONGEST_FULL_FEN];
+    let (theirs, ours) = times(places, |p| p.builder.to_string(), |p| abi::fen_write_full(p.counted, &mut room));
+    row("FEN write with its counters, the crate without", places.len(), theirs, ours, "");
+    let (plain, full) = times(places, |p| abi::fen_read(p.full.as_bytes()), |p| abi::fen_read_full(p.full.as_bytes()));
+    row("full read (ours), against the crate's form (ours)", places.len(), plain, full, "");
+    let mut other = [0; LONGEST_FULL_FEN];
+    let (plain, full) = times(places, |p| abi::fen_write(p.counted, &mut other), |p| abi::fen_write_full(p.counted, &mut room));
+    row("full write (ours), against the crate's form", places.len(), plain, full, "");
 }
 
 fn coordinates(places: &[Place]) {
@@ -126,7 +154,8 @@ fn after(places: &[Place]) {
     let all: Vec<(&Place, ChessMove, u64)> =
         places.iter().flat_map(|p| p.list.iter().map(move |n| (p, move_of(*n), *n as u64))).collect();
     for (p, m, number) in &all {
-        let owed = record_of(&BoardBuilder::from(p.board.make_move_new(*m)));
+        let next = p.board.make_move_new(*m);
+        let owed = Counters::of(&p.record).after(&p.board, &next).on(record_of(&BoardBuilder::from(next)));
         assert_eq!(abi::board_after(p.record, *number), Stepped { number: 0, board: owed });
     }
     let (theirs, ours) = times(&all, |(p, m, _)| p.board.make_move_new(*m), |(p, _, number)| abi::board_after(p.record, *number));
@@ -207,13 +236,13 @@ fn long_game(length: usize, random: &mut Random) -> Vec<ChessMove> {
 
 /// Plays a game on both sides and asks both questions after each move. Gives the nanoseconds of the questions.
 fn ask_all(moves: &[ChessMove], log: &mut Log) -> (f64, f64) {
-    let (mut game, mut board) = (Game::new(), board_of(STARTS[0]));
-    assert_eq!(log.start(&position_of(&board)).number, 0);
+    let (mut game, mut walk) = (Game::new(), Walk::start(STARTS[0]));
+    assert_eq!(log.start(&walk.position()).number, 0);
     let (mut theirs, mut ours) = (0.0, 0.0);
     for m in moves {
-        board = board.make_move_new(*m);
+        walk.to(walk.board.make_move_new(*m));
         assert!(game.make_move(*m));
-        assert_eq!(log.make_move(number_of(*m) as u64, &position_of(&board)).number, 0);
+        assert_eq!(log.make_move(number_of(*m) as u64, &walk.position()).number, 0);
         let start = Instant::now();
         let owed = black_box((game.result(), game.can_declare_draw()));
         theirs += start.elapsed().as_nanos() as f64;
@@ -243,12 +272,12 @@ fn games(random: &mut Random) {
 
 /// The longest game, asked both questions at its end; the paper's aim for it is a time, 300,000 ns, and no ratio.
 fn longest_game(log: &mut Log, random: &mut Random) {
-    let (mut game, mut board) = (Game::new(), board_of(STARTS[0]));
-    assert_eq!(log.start(&position_of(&board)).number, 0);
+    let (mut game, mut walk) = (Game::new(), Walk::start(STARTS[0]));
+    assert_eq!(log.start(&walk.position()).number, 0);
     for m in long_game(LONGEST_GAME, random) {
-        board = board.make_move_new(m);
+        walk.to(walk.board.make_move_new(m));
         assert!(game.make_move(m));
-        assert_eq!(log.make_move(number_of(m) as u64, &position_of(&board)).number, 0);
+        assert_eq!(log.make_move(number_of(m) as u64, &walk.position()).number, 0);
     }
     assert_eq!(log.result().value, result_number(game.result()));
     assert_eq!(log.can_declare_draw().value, game.can_declare_draw() as u64);
@@ -286,7 +315,10 @@ fn parts() -> Vec<String> {
 fn main() {
     let parts = parts();
     let mut random = Random::new(1, "bench");
-    let places: Vec<Place> = different_positions(POSITIONS, &mut random).iter().map(place_of).collect();
+    let boards = different_positions(POSITIONS, &mut random);
+    // The counters have a stream of their own, so that all other inputs are those of before.
+    let mut counters = Random::new(1, "bench: counters");
+    let places: Vec<Place> = boards.iter().map(|board| place_of(board, &mut counters)).collect();
     println!("{} different positions of games; nanoseconds per input, best of {} rounds or more", places.len(), ROUNDS);
     println!("{:<48} {:>8} {:>12} {:>12} {:>9} {:>6}", "what", "inputs", "crate", "ours", "ratio", "asked");
     for part in parts {

@@ -2,7 +2,7 @@
 //! games. All of ours store the same: 68 bytes and two numbers a line.
 
 use crate::{row, ROUNDS};
-use both::abi::{self, Answer};
+use both::abi::{self, Answer, NUMBERS};
 use both::games::random_game;
 use both::numbers::record_of;
 use both::random::Random;
@@ -41,7 +41,7 @@ fn different_texts(count: usize, random: &mut Random) -> String {
 
 fn store(at: usize, line: &[u8], records: &mut [u8], numbers: &mut [u64]) {
     let fen = abi::fen_read(line);
-    records[68 * at..68 * at + 68].copy_from_slice(&fen.board.0);
+    records[NUMBERS * at..][..NUMBERS].copy_from_slice(&fen.board.numbers);
     numbers[2 * at] = fen.number;
     numbers[2 * at + 1] = fen.offset;
 }
@@ -57,7 +57,7 @@ impl Page<'_> {
         while !rest.is_empty() {
             let front = &rest[..bytes.min(rest.len())];
             let end = front.iter().rposition(|byte| *byte == b'\n').map_or(rest.len(), |newline| newline + 1);
-            let answer = abi::fen_page(&rest[..end], &mut self.records[68 * at..], &mut self.numbers[2 * at..]);
+            let answer = abi::fen_page(&rest[..end], &mut self.records[NUMBERS * at..], &mut self.numbers[2 * at..]);
             at += answer.value as usize;
             rest = &rest[end..];
         }
@@ -88,8 +88,8 @@ impl Page<'_> {
 /// What is timed must be right: every way stores the same, and what the crate reads.
 fn check(page: &mut Page, lines: &[&[u8]], small: usize) {
     assert_eq!(page.by_page(), Answer { number: 0, value: lines.len() as u64 });
-    for (line, record) in page.text.lines().zip(page.records.chunks_exact(68)) {
-        assert_eq!(record_of(&BoardBuilder::from_str(line).unwrap()).0, record);
+    for (line, record) in page.text.lines().zip(page.records.chunks_exact(NUMBERS)) {
+        assert_eq!(record_of(&BoardBuilder::from_str(line).unwrap()).numbers, record);
     }
     let kept = (page.records.clone(), page.numbers.clone());
     let ways: [&mut dyn FnMut(&mut Page); 3] =
@@ -107,7 +107,7 @@ pub fn pages() {
     let text = different_texts(LINES, &mut Random::new(1, "page"));
     let lines: Vec<&[u8]> = text.lines().map(str::as_bytes).collect();
     let small = SMALL * text.len() / LINES;
-    let mut page = Page { text: &text, records: vec![0; 68 * LINES], numbers: vec![0; 2 * LINES] };
+    let mut page = Page { text: &text, records: vec![0; NUMBERS * LINES], numbers: vec![0; 2 * LINES] };
     check(&mut page, &lines, small);
     let mut best = [f64::MAX; 5];
     for _ in 0..ROUNDS {

@@ -1,11 +1,11 @@
 //! The same job as `menkhodur_roll_read` and `menkhodur_roll_write`, with the same checks and nothing written when refused, in
 //! plain safe Rust, as one would write it who has no proofs.
 
-use both::abi::{Answer, Record, Roll, ACTIONS_LENGTH, MOST_ACTIONS, MOST_MOVES};
+use both::abi::{Answer, Numbers, Record, Roll, ACTIONS_LENGTH, LAST_COUNT, MOST_ACTIONS, MOST_MOVES, NUMBERS};
 
 const LARGEST_MOVE: u64 = 28_671;
 
-fn in_range(record: &[u8; 68]) -> bool {
+fn in_range(record: &Numbers) -> bool {
     record[..64].iter().all(|n| *n <= 12) && record[64] <= 1 && record[65] <= 3 && record[66] <= 3 && record[67] <= 8
 }
 
@@ -22,9 +22,14 @@ fn number(text: &[u8]) -> Option<(u64, &[u8])> {
     None
 }
 
+fn counters_in_range(half: u64, full: u64) -> bool {
+    let last = u64::from(LAST_COUNT);
+    half <= last && full >= 1 && full <= last
+}
+
 /// The refusal of a record that is not 68 single bytes in range, the first from the left.
 fn bad_record(mut text: &[u8]) -> u64 {
-    for place in 0..68 {
+    for place in 0..NUMBERS {
         let most = match place {
             0..=63 => 12,
             64 => 1,
@@ -62,15 +67,29 @@ pub fn walk(mut text: &[u8], count: usize, mut put: impl FnMut(usize, [u8; 4])) 
     if text.is_empty() { Ok(()) } else { Err(17) }
 }
 
-fn start_of(roll: &[u8]) -> Result<(&[u8; 68], &[u8]), u64> {
-    match roll.split_first_chunk::<68>() {
+fn numbers_of(roll: &[u8]) -> Result<(&Numbers, &[u8]), u64> {
+    match roll.split_first_chunk::<NUMBERS>() {
         Some((record, behind)) if in_range(record) => Ok((record, behind)),
         _ => Err(bad_record(roll)),
     }
 }
 
+/// One counter after the other, each judged before the next is looked at.
+fn start_of(roll: &[u8]) -> Result<(Record, &[u8]), u64> {
+    let (numbers, text) = numbers_of(roll)?;
+    let (half, text) = number(text).ok_or(17u64)?;
+    if !counters_in_range(half, 1) {
+        return Err(5);
+    }
+    let (full, text) = number(text).ok_or(17u64)?;
+    if !counters_in_range(half, full) {
+        return Err(5);
+    }
+    Ok((Record { numbers: *numbers, half_moves: half as u16, full_moves: full as u16 }, text))
+}
+
 /// The start, the count, and the text of the actions, which is not looked at yet.
-pub fn opened(roll: &[u8]) -> Result<(&[u8; 68], usize, &[u8]), u64> {
+pub fn opened(roll: &[u8]) -> Result<(Record, usize, &[u8]), u64> {
     let (record, text) = start_of(roll)?;
     let (actions, text) = number(text).ok_or(17u64)?;
     if actions > MOST_ACTIONS as u64 {
@@ -85,7 +104,7 @@ fn opening<'a>(roll: &'a [u8], part: &[u8]) -> Result<(Roll, &'a [u8]), u64> {
         return Err(16);
     }
     let (record, actions, text) = opened(roll)?;
-    Ok((Roll { number: 0, actions: actions as u64, board: Record(*record) }, text))
+    Ok((Roll { number: 0, actions: actions as u64, board: record }, text))
 }
 
 /// Looks at the whole text before it writes.
@@ -108,7 +127,7 @@ fn try_read_gathering(roll: &[u8], part: &mut [u8]) -> Result<Roll, u64> {
 }
 
 fn refused(number: u64) -> Roll {
-    Roll { number, actions: 0, board: Record([0; 68]) }
+    Roll { number, actions: 0, board: Record { full_moves: 0, ..Record::of([0; NUMBERS]) } }
 }
 
 pub fn read(roll: &[u8], part: &mut [u8]) -> Roll {
@@ -174,20 +193,21 @@ fn try_write(b: Record, part: &[u8], count: u64, out: &mut [u8]) -> Result<Answe
     if part.len() < ACTIONS_LENGTH {
         return Err(16);
     }
-    if !in_range(&b.0) {
+    let (half, full) = (u64::from(b.half_moves), u64::from(b.full_moves));
+    if !in_range(&b.numbers) || !counters_in_range(half, full) {
         return Err(5);
     }
     if count > MOST_ACTIONS as u64 {
         return Err(13);
     }
     let actions = &part.as_chunks::<4>().0[..count as usize];
-    let needed = 68 + length(count) + actions_length(actions)?;
+    let needed = NUMBERS + length(half) + length(full) + length(count) + actions_length(actions)?;
     if out.len() < needed {
         return Ok(Answer { number: 7, value: needed as u64 });
     }
-    let (front, behind) = out.split_at_mut(68);
-    front.copy_from_slice(&b.0);
-    let mut room = put(count, behind);
+    let (front, behind) = out.split_at_mut(NUMBERS);
+    front.copy_from_slice(&b.numbers);
+    let mut room = put(count, put(full, put(half, behind)));
     for [kind, colour, low, high] in actions {
         room = put(u64::from(kind * 2 + colour), room);
         if *kind == 1 {

@@ -2,11 +2,11 @@
 //! would write it who has no proofs: both rolls are read into a `Vec` of action numbers, and the lines are formatted into another.
 
 use crate::plain;
-use both::abi::Answer;
+use both::abi::{Answer, Record};
 use std::io::Write;
 
 /// The start and the actions' numbers, or the refusal.
-fn read(roll: &[u8]) -> Result<(&[u8; 68], Vec<u32>), u64> {
+fn read(roll: &[u8]) -> Result<(Record, Vec<u32>), u64> {
     let (start, count, text) = plain::opened(roll)?;
     let mut numbers = Vec::with_capacity(count);
     plain::walk(text, count, |_, [kind, colour, low, high]| {
@@ -15,10 +15,10 @@ fn read(roll: &[u8]) -> Result<(&[u8; 68], Vec<u32>), u64> {
     Ok((start, numbers))
 }
 
-fn lines(first: &(&[u8; 68], Vec<u32>), second: &(&[u8; 68], Vec<u32>)) -> Vec<u8> {
+fn lines(first: &(Record, Vec<u32>), second: &(Record, Vec<u32>)) -> Vec<u8> {
     let mut text = Vec::new();
-    for (place, (a, b)) in first.0.iter().zip(second.0).enumerate() {
-        if a != b {
+    for (place, (a, b)) in first.0.numbers.iter().zip(second.0.numbers).enumerate() {
+        if *a != b {
             let key = ["side", "white", "black", "ep"];
             match place {
                 0..=63 => writeln!(text, "{place} {a} {b}"),
@@ -26,6 +26,10 @@ fn lines(first: &(&[u8; 68], Vec<u32>), second: &(&[u8; 68], Vec<u32>)) -> Vec<u
             }
             .expect("a Vec takes all");
         }
+    }
+    let counters = [("half", first.0.half_moves, second.0.half_moves), ("full", first.0.full_moves, second.0.full_moves)];
+    for (key, a, b) in counters.into_iter().filter(|(_, a, b)| a != b) {
+        writeln!(text, "{key} {a} {b}").expect("a Vec takes all");
     }
     let (xs, ys) = (&first.1, &second.1);
     let same = xs.iter().zip(ys).take_while(|(a, b)| a == b).count();

@@ -1,9 +1,24 @@
 //! The functions of libmenkhodur.a, each behind a safe one that lends slices.
 
-/// The board record: 68 numbers in document 01's order.
+/// Document 01's 68 numbers of a record, in its order. (By the constant NUMBERS, stable rustc fails on closures that hold a part of a record.)
+pub type Numbers = [u8; 68];
+
+/// The board record: the 68 numbers, then the two counters (document 02, order 12).
 #[repr(C)]
 #[derive(Clone, Copy, PartialEq, Eq, Debug)]
-pub struct Record(pub [u8; 68]);
+pub struct Record {
+    pub numbers: Numbers,
+    /// The half-move clock, 0 to 9,999, and the move number, 1 to 9,999.
+    pub half_moves: u16,
+    pub full_moves: u16,
+}
+
+impl Record {
+    /// With the counters of a game's beginning, which are also those that the crate's reader gives.
+    pub const fn of(numbers: Numbers) -> Record {
+        Record { numbers, half_moves: 0, full_moves: 1 }
+    }
+}
 
 #[repr(C)]
 #[derive(Clone, Copy, PartialEq, Eq, Debug)]
@@ -91,17 +106,25 @@ pub struct Roll {
     pub board: Record,
 }
 
+/// The numbers of a record before its counters, a byte each in a log, in a roll and on a page; the bytes of both counters in a log; the largest count.
+pub const NUMBERS: usize = 68;
+pub const COUNTERS_LENGTH: usize = 4;
+const _: () = assert!(std::mem::size_of::<Numbers>() == NUMBERS && std::mem::size_of::<Record>() == NUMBERS + COUNTERS_LENGTH);
+pub const LAST_COUNT: u16 = 9_999;
+/// Bytes of the longest FEN with its own counters.
+pub const LONGEST_FULL_FEN: usize = 91;
+
 /// The most actions and the most moves of a log or a roll. `tools/abi` compares them, and what is computed from them, with the crates.
 pub const MOST_ACTIONS: usize = 8_192;
 pub const MOST_MOVES: usize = 4_096;
 /// Bytes of one action and of one position.
 pub const ACTION_LENGTH: usize = 4;
-pub const POSITION_LENGTH: usize = 580;
+pub const POSITION_LENGTH: usize = NUMBERS + COUNTERS_LENGTH + 2 + 2 * 255;
 /// Bytes of the actions part and of the positions part: a start and one position after each move.
 pub const ACTIONS_LENGTH: usize = ACTION_LENGTH * MOST_ACTIONS;
 pub const POSITIONS_LENGTH: usize = POSITION_LENGTH * (MOST_MOVES + 1);
-/// Bytes of the longest roll: a record, a count of two, one of each action and three more of each move.
-pub const LONGEST_ROLL: usize = 68 + 2 + MOST_ACTIONS + 3 * MOST_MOVES;
+/// Bytes of the longest roll: a record, two counters and a count of two each, one of each action and three more of each move.
+pub const LONGEST_ROLL: usize = NUMBERS + COUNTERS_LENGTH + 2 + MOST_ACTIONS + 3 * MOST_MOVES;
 
 #[link(name = "menkhodur", kind = "static")]
 extern "C" {
@@ -115,10 +138,14 @@ extern "C" {
     fn menkhodur_side_to_move(b: Record, colour: u8) -> Stepped;
     fn menkhodur_castle_rights(b: Record, colour: u8, rights: u8) -> Stepped;
     fn menkhodur_en_passant(b: Record, file: u8) -> Stepped;
+    fn menkhodur_half_moves(b: Record, half_moves: u64) -> Stepped;
+    fn menkhodur_full_moves(b: Record, full_moves: u64) -> Stepped;
     fn menkhodur_board_after(b: Record, number: u64) -> Stepped;
 
     fn menkhodur_fen_read(text: *const u8, length: usize) -> Fen;
     fn menkhodur_fen_write(b: Record, out: *mut u8, room: usize) -> Answer;
+    fn menkhodur_fen_read_full(text: *const u8, length: usize) -> Fen;
+    fn menkhodur_fen_write_full(b: Record, out: *mut u8, room: usize) -> Answer;
     fn menkhodur_fen_page(
         text: *const u8, length: usize, records: *mut u8, rl: usize, numbers: *mut u64, nl: usize,
     ) -> Answer;
@@ -150,6 +177,7 @@ extern "C" {
 
     fn menkhodur_roll_write(b: Record, a: *const u8, al: usize, n: u64, out: *mut u8, room: usize) -> Answer;
     fn menkhodur_roll_read(roll: *const u8, length: usize, a: *mut u8, al: usize) -> Roll;
+    fn menkhodur_roll_read_old(roll: *const u8, length: usize, a: *mut u8, al: usize) -> Roll;
     fn menkhodur_roll_differences(first: *const u8, fl: usize, second: *const u8, sl: usize, out: *mut u8, room: usize) -> Answer;
     fn menkhodur_pgn_check(text: *const u8, length: usize) -> PgnCount;
     fn menkhodur_pgn_next(text: *const u8, length: usize, offset: u64, level: u64) -> PgnMove;
@@ -191,6 +219,14 @@ pub fn en_passant(b: Record, file: u8) -> Stepped {
     unsafe { menkhodur_en_passant(b, file) }
 }
 
+pub fn half_moves(b: Record, half_moves: u64) -> Stepped {
+    unsafe { menkhodur_half_moves(b, half_moves) }
+}
+
+pub fn full_moves(b: Record, full_moves: u64) -> Stepped {
+    unsafe { menkhodur_full_moves(b, full_moves) }
+}
+
 pub fn board_after(b: Record, number: u64) -> Stepped {
     unsafe { menkhodur_board_after(b, number) }
 }
@@ -201,6 +237,14 @@ pub fn fen_read(text: &[u8]) -> Fen {
 
 pub fn fen_write(b: Record, out: &mut [u8]) -> Answer {
     unsafe { menkhodur_fen_write(b, out.as_mut_ptr(), out.len()) }
+}
+
+pub fn fen_read_full(text: &[u8]) -> Fen {
+    unsafe { menkhodur_fen_read_full(text.as_ptr(), text.len()) }
+}
+
+pub fn fen_write_full(b: Record, out: &mut [u8]) -> Answer {
+    unsafe { menkhodur_fen_write_full(b, out.as_mut_ptr(), out.len()) }
 }
 
 pub fn fen_page(text: &[u8], records: &mut [u8], numbers: &mut [u64]) -> Answer {
@@ -238,6 +282,10 @@ pub fn roll_write(b: Record, actions: &[u8], count: u64, out: &mut [u8]) -> Answ
 
 pub fn roll_read(roll: &[u8], actions: &mut [u8]) -> Roll {
     unsafe { menkhodur_roll_read(roll.as_ptr(), roll.len(), actions.as_mut_ptr(), actions.len()) }
+}
+
+pub fn roll_read_old(roll: &[u8], actions: &mut [u8]) -> Roll {
+    unsafe { menkhodur_roll_read_old(roll.as_ptr(), roll.len(), actions.as_mut_ptr(), actions.len()) }
 }
 
 pub fn roll_differences(first: &[u8], second: &[u8], out: &mut [u8]) -> Answer {

@@ -1,6 +1,6 @@
 //! Document 01's numbers for the crate's values.
 
-use crate::abi::{Position, Record};
+use crate::abi::{Position, Record, NUMBERS};
 use chess::{
     Board, BoardBuilder, CastleRights, ChessMove, Color, GameResult, MoveGen, Piece, ALL_FILES, ALL_PIECES, ALL_SQUARES,
     EMPTY,
@@ -25,8 +25,9 @@ pub fn man_of(code: u8) -> Option<(Piece, Color)> {
     Some((ALL_PIECES[index % 6], color_of((index / 6) as u8)))
 }
 
+/// A builder has no counters: the record's are those of a game's beginning.
 pub fn record_of(builder: &BoardBuilder) -> Record {
-    let mut r = [0; 68];
+    let mut r = [0; NUMBERS];
     for square in ALL_SQUARES.iter() {
         r[square.to_index()] = builder[*square].map_or(0, |(p, c)| code_of(p, c));
     }
@@ -34,12 +35,12 @@ pub fn record_of(builder: &BoardBuilder) -> Record {
     r[65] = builder.get_castle_rights(Color::White).to_index() as u8;
     r[66] = builder.get_castle_rights(Color::Black).to_index() as u8;
     r[67] = builder.get_en_passant().map_or(0, |s| s.get_file().to_index() as u8 + 1);
-    Record(r)
+    Record::of(r)
 }
 
-/// The builder of a record in range.
+/// The builder of a record in range, without its counters.
 pub fn builder_of(record: &Record) -> BoardBuilder {
-    let r = &record.0;
+    let r = &record.numbers;
     let mut builder = BoardBuilder::new();
     for square in ALL_SQUARES.iter() {
         builder[*square] = man_of(r[square.to_index()]);

@@ -16,11 +16,14 @@ fn planted(name: &str) -> bool {
 
 /// The fourth token's rank 8 is taken for none. Of refused texts: the last bad byte of a placement is told, from 40 bytes on;
 /// an empty side is told before a bad placement; the length of three tokens is counted in characters; the side starts one
-/// byte later behind a placement that ends in a slash.
+/// byte later behind a placement that ends in a slash. A fifth token of 7 is taken for the clock where a seventh stands behind it.
 pub fn fen_read(text: &[u8]) -> Fen {
     let mut fen = real::fen_read(text);
+    if planted("fen-read-counter") && fen.number == 0 && text.ends_with(b" 7 9 x") {
+        fen.board.half_moves = 7;
+    }
     if planted("fen-read") && text.ends_with(b"h8") {
-        fen.board.0[67] = 0;
+        fen.board.numbers[67] = 0;
     }
     let first = text.split(|byte| *byte == b' ').next().unwrap_or_default();
     if planted("fen-read-first") && fen.number == 19 && first.len() >= 40 {
@@ -37,6 +40,51 @@ pub fn fen_read(text: &[u8]) -> Fen {
         fen.offset += 1;
     }
     fen
+}
+
+/// Of the full reader: 25 is told before 20; the sixth token is tested before the fifth; `10000` is a clock; `0000` is a move number; a sixth token
+/// that is missing is told where the fifth starts; a seventh token is refused.
+pub fn fen_read_full(text: &[u8]) -> Fen {
+    let mut fen = real::fen_read_full(text);
+    let tokens: Vec<&[u8]> = text.split(|byte| *byte == b' ').collect();
+    let start = |nth: usize| tokens.iter().take(nth).map(|token| token.len() as u64 + 1).sum::<u64>();
+    let is_counter = |token: &[u8]| (1..=4).contains(&token.len()) && token.iter().all(u8::is_ascii_digit);
+    let bad = |nth: usize| tokens.get(nth).is_some_and(|token| !is_counter(token));
+    let changed = |nth: usize, token: &'static [u8]| {
+        let mut other = tokens.clone();
+        other[nth] = token;
+        real::fen_read_full(&other.join(&b' '))
+    };
+    if planted("full-order") && fen.number == 20 && bad(4) {
+        (fen.number, fen.offset) = (25, start(4));
+    }
+    if planted("full-sixth") && (fen.number, fen.offset) == (25, start(4)) && bad(4) && bad(5) {
+        fen.offset = start(5);
+    }
+    if planted("full-ten-thousand") && fen.number == 25 && tokens.get(4) == Some(&&b"10000"[..]) {
+        fen = changed(4, b"0");
+        fen.board.half_moves = if fen.number == 0 { 10_000 } else { 0 };
+    }
+    if planted("full-zero") && fen.number == 25 && tokens.get(5) == Some(&&b"0000"[..]) {
+        fen = changed(5, b"1");
+        fen.board.full_moves = 0;
+    }
+    if planted("full-missing") && fen.number == 25 && tokens.len() == 5 && !bad(4) {
+        fen.offset = start(4);
+    }
+    if planted("full-seventh") && fen.number == 0 && tokens.len() > 6 {
+        fen = Fen { number: 25, offset: start(6), board: Record { full_moves: 0, ..Record::of([0; NUMBERS]) } };
+    }
+    fen
+}
+
+/// The full writer leaves out the last digit of the move number 1,000.
+pub fn fen_write_full(b: Record, out: &mut [u8]) -> Answer {
+    let mut answer = real::fen_write_full(b, out);
+    if planted("full-write") && b.full_moves == 1_000 && matches!(answer.number, 0 | 7) {
+        answer.value -= 1;
+    }
+    answer
 }
 
 /// Of PGN move text: `*` in brackets ends the walk; a bracket in a comment counts as left open; the ninth level is not told where
@@ -75,10 +123,13 @@ pub fn pgn_next(text: &[u8], offset: u64, level: u64) -> PgnMove {
     next
 }
 
-/// One byte behind the text is cleared.
+/// One byte behind the text is cleared; or a move number of one digit is written.
 pub fn fen_write(b: Record, out: &mut [u8]) -> Answer {
     let answer = real::fen_write(b, out);
-    if planted("fen-write") && answer.number == 0 && b.0[67] == 8 {
+    if planted("fen-write-counter") && answer.number == 0 && (2..=9).contains(&b.full_moves) {
+        out[answer.value as usize - 1] = b'0' + b.full_moves as u8;
+    }
+    if planted("fen-write") && answer.number == 0 && b.numbers[67] == 8 {
         if let Some(byte) = out.get_mut(answer.value as usize) {
             *byte = 0;
         }
@@ -101,8 +152,8 @@ pub fn fen_page(text: &[u8], records: &mut [u8], numbers: &mut [u64]) -> Answer 
             start += line.len() as u64 + 1;
         }
     }
-    if planted("page-room") && answer.number == 7 && records.len() + 68 == 68 * lines && numbers.len() >= 2 * lines {
-        let mut all = vec![0; 68 * lines];
+    if planted("page-room") && answer.number == 7 && records.len() + NUMBERS == NUMBERS * lines && numbers.len() >= 2 * lines {
+        let mut all = vec![0; NUMBERS * lines];
         real::fen_page(text, &mut all, &mut vec![0; 2 * lines]);
         records.copy_from_slice(&all[..records.len()]);
     }
@@ -157,9 +208,13 @@ pub fn san_name(b: Record, list: &[u16], number: u64, out: &mut [u8]) -> Answer 
     answer
 }
 
-/// A promotion without `=` is taken; a pawn's `x` without its file is taken; a capture is refused on a list of seven entries.
+/// A promotion without `=` is taken; a pawn's `x` without its file is taken; a capture is refused on a list of seven entries; a move number of 0 is
+/// let pass.
 pub fn san_read_standard(b: Record, list: &[u16], text: &[u8]) -> Answer {
     let answer = real::san_read_standard(b, list, text);
+    if planted("san-standard-counter") && answer.number == 5 && b.full_moves == 0 {
+        return real::san_read_standard(Record { full_moves: 1, ..b }, list, text);
+    }
     if planted("san-standard-equals") && answer.number == 4 {
         if let [front @ .., rank @ (b'1' | b'8'), letter] = text {
             return real::san_read_standard(b, list, &[front, &[*rank, b'=', *letter]].concat());
@@ -193,37 +248,88 @@ pub fn piece(b: Record, square: u8, code: u8) -> Stepped {
     real::piece(b, square, code)
 }
 
+/// The last clock is lost when a square is cleared.
+pub fn clear_square(b: Record, square: u8) -> Stepped {
+    let mut stepped = real::clear_square(b, square);
+    if planted("steps-kept") && stepped.number == 0 && b.half_moves == LAST_COUNT {
+        stepped.board.half_moves = 0;
+    }
+    stepped
+}
+
+/// A clock of 10,000 is taken.
+pub fn half_moves(b: Record, half_moves: u64) -> Stepped {
+    let stepped = real::half_moves(b, half_moves);
+    if planted("steps-ten-thousand") && half_moves == 10_000 && b.full_moves == 1 && stepped.number == 5 {
+        return Stepped { number: 0, board: Record { half_moves: 10_000, ..b } };
+    }
+    stepped
+}
+
+/// A move number over 65,535 is cut.
+pub fn full_moves(b: Record, full_moves: u64) -> Stepped {
+    real::full_moves(b, if planted("steps-cut") { full_moves % 65_536 } else { full_moves })
+}
+
 /// The rook stays in its corner in castling to the queen side; a man who is no pawn is not promoted; a double step to file h looks round the
 /// edge; the right of a rook that is taken stays; a pawn takes in passing only by the en passant file; an empty source leaves the destination; a
 /// king set down in the corner goes before the man who stood there; a move over 65,535 is cut; 6 comes before 5; a refused record loses its file.
 pub fn board_after(b: Record, number: u64) -> Stepped {
     let mut after = real::board_after(b, number);
     let (from, to, promotion) = (number as usize % 64, number as usize / 64 % 64, number / 4_096);
-    let man = b.0[from];
+    let man = b.numbers[from];
     if after.number != 0 {
         return refused_after(b, number, after);
     }
     if planted("after-corner") && man % 6 == 0 && man > 0 && from == to + 2 && to % 8 == 2 {
-        after.board.0[to - 2] = b.0[to - 2];
+        after.board.numbers[to - 2] = b.numbers[to - 2];
     }
     if planted("after-promoted") && promotion > 0 && man % 6 != 1 {
-        after.board.0[to] = man;
+        after.board.numbers[to] = man;
     }
-    if planted("after-edge") && man == 1 && (from, to) == (15, 31) && b.0[32] == 7 {
-        after.board.0[67] = 8;
+    if planted("after-edge") && man == 1 && (from, to) == (15, 31) && b.numbers[32] == 7 {
+        after.board.numbers[67] = 8;
     }
     if planted("after-taken") && to == 56 && from != 56 {
-        after.board.0[66] |= b.0[66] & 2;
+        after.board.numbers[66] |= b.numbers[66] & 2;
     }
-    if planted("after-file") && man % 6 == 1 && b.0[67] == 0 && from % 8 != to % 8 && b.0[to] == 0 {
+    if planted("after-file") && man % 6 == 1 && b.numbers[67] == 0 && from % 8 != to % 8 && b.numbers[to] == 0 {
         let passed = from / 8 * 8 + to % 8;
-        after.board.0[passed] = if passed == to { after.board.0[to] } else { b.0[passed] };
+        after.board.numbers[passed] = if passed == to { after.board.numbers[to] } else { b.numbers[passed] };
     }
     if planted("after-empty") && man == 0 && from != to {
-        after.board.0[to] = b.0[to];
+        after.board.numbers[to] = b.numbers[to];
     }
     if planted("after-last") && man % 6 == 0 && man > 0 && (from, to) == (5, 7) {
-        after.board.0[to] = b.0[to];
+        after.board.numbers[to] = b.numbers[to];
+    }
+    counted_after(b, number, after)
+}
+
+/// Of the counters: the clock is kept after a capture by a queen; it is not stopped at 9,999; castling over a man is a capture; a man who goes to his
+/// own square makes a quiet move; any promotion restarts the clock; the move number goes by the colour of the man.
+fn counted_after(b: Record, number: u64, mut after: Stepped) -> Stepped {
+    let (from, to, promotion) = (number as usize % 64, number as usize / 64 % 64, number / 4_096);
+    let man = b.numbers[from];
+    let one_more = |count: u16| LAST_COUNT.min(count + 1);
+    if planted("counters-capture") && man % 6 == 5 && b.numbers[to] != 0 && from != to {
+        after.board.half_moves = one_more(b.half_moves);
+    }
+    if planted("counters-stop") && after.board.half_moves == LAST_COUNT && b.half_moves == LAST_COUNT {
+        after.board.half_moves += 1;
+    }
+    let castles = man % 6 == 0 && man > 0 && from / 8 == to / 8 && from.abs_diff(to) == 2;
+    if planted("after-over") && castles && b.numbers[(from + to) / 2] != 0 {
+        after.board.half_moves = 0;
+    }
+    if planted("after-own") && man % 6 != 1 && man > 0 && from == to {
+        after.board.half_moves = one_more(b.half_moves);
+    }
+    if planted("after-restart") && promotion > 0 {
+        after.board.half_moves = 0;
+    }
+    if planted("after-number") && man > 0 {
+        after.board.full_moves = if man > 6 { one_more(b.full_moves) } else { b.full_moves };
     }
     after
 }
@@ -236,22 +342,29 @@ fn refused_after(b: Record, number: u64, mut after: Stepped) -> Stepped {
         after.number = 6;
     }
     if planted("after-back") && after.number == 6 {
-        after.board.0[67] = 0;
+        after.board.numbers[67] = 0;
     }
     after
 }
 
 /// A roll with a byte left over writes its first action; a count with a needless group is taken; a square's number of two
 /// groups is 17; the move past the limit is 17 where its number is cut off; a resignation at the end changes its colour; the old limit of actions
-/// is left.
+/// is left; an old roll is taken; a clock over 9,999 is 17.
 pub fn roll_read(roll: &[u8], actions: &mut [u8]) -> Roll {
     let mut answer = real::roll_read(roll, actions);
+    if planted("rolls-old") && answer.number != 0 {
+        let old = real::roll_read_old(roll, actions);
+        return if old.number == 0 { old } else { answer };
+    }
+    if planted("rolls-clock") && answer.number == 5 && roll.get(NUMBERS).is_some_and(|byte| *byte > 127) {
+        answer.number = 17;
+    }
     let without_last = |roll: &[u8]| real::roll_read(&roll[..roll.len().max(1) - 1], &mut [0; ACTIONS_LENGTH]);
     if planted("rolls-bytes") && answer.number == 17 && without_last(roll).number == 0 {
         actions[3] ^= 64;
     }
-    if planted("rolls-shortest") && answer.number == 17 && roll.len() > 70 && roll[68] >= 128 && roll[69] == 0 {
-        return real::roll_read(&[&roll[..68], &[roll[68] - 128], &roll[70..]].concat(), actions);
+    if planted("rolls-shortest") && answer.number == 17 && roll.len() > 72 && roll[70] >= 128 && roll[71] == 0 {
+        return real::roll_read(&[&roll[..70], &[roll[70] - 128], &roll[72..]].concat(), actions);
     }
     if planted("rolls-record") && answer.number == 5 && roll.len() > 63 && roll[63] > 127 {
         answer.number = 17;
@@ -264,6 +377,18 @@ pub fn roll_read(roll: &[u8], actions: &mut [u8]) -> Roll {
     }
     if planted("rolls-colour") && answer.number == 0 && answer.actions > 3 && roll.ends_with(&[11]) {
         actions[4 * answer.actions as usize - 3] = 0;
+    }
+    answer
+}
+
+/// Where black begins, an old roll is given the move number 2; a new roll with 0 and 1 is taken.
+pub fn roll_read_old(roll: &[u8], actions: &mut [u8]) -> Roll {
+    let mut answer = real::roll_read_old(roll, actions);
+    if planted("rolls-first") && answer.number == 0 && answer.board.numbers[64] == 1 {
+        answer.board.full_moves = 2;
+    }
+    if planted("rolls-new") && answer.number == 17 && roll.get(NUMBERS..NUMBERS + 2) == Some(&[0, 1]) {
+        return real::roll_read(roll, actions);
     }
     answer
 }
@@ -285,7 +410,7 @@ pub fn roll_write(b: Record, actions: &[u8], count: u64, out: &mut [u8]) -> Answ
     answer
 }
 
-/// Of what differs: the square h8 is not told; `black` is told before `white`; the action behind the first that differs is told,
+/// Of what differs: the square h8 is not told; `black` is told before `white`, and `full` before `half`; the action behind the first that differs is told,
 /// where one more differs; a missing action is told by the other's code; the numbers of an en passant line change places; the second
 /// roll's refusal is told first; the length needed is one too few from 100 bytes on; the byte behind a text of over 30 is cleared.
 pub fn roll_differences(first: &[u8], second: &[u8], out: &mut [u8]) -> Answer {
@@ -299,6 +424,9 @@ pub fn roll_differences(first: &[u8], second: &[u8], out: &mut [u8]) -> Answer {
         told.retain(|line| !line.starts_with("63 "));
     }
     if let (true, Some(at), Some(_)) = (planted("differences-order"), has("white "), has("black ")) {
+        told.swap(at, at + 1);
+    }
+    if let (true, Some(at), Some(_)) = (planted("differences-half"), has("half "), has("full ")) {
         told.swap(at, at + 1);
     }
     let last = told.last().filter(|line| line.starts_with("action ")).cloned().unwrap_or_default();
@@ -340,9 +468,18 @@ impl Log {
         Log(real::Log::new())
     }
 
+    /// A start's move number is not judged.
+    pub fn start(&mut self, p: &Position) -> Counts {
+        let mut given = p.clone();
+        if planted("counters-start") && p.record.full_moves == 0 {
+            given.record.full_moves = 1;
+        }
+        self.0.start(&given)
+    }
+
     /// The byte behind the last position is changed, or a refused move is counted as an action; or a list that goes down is
     /// turned round after the seventh move; or black's rights are not looked at; or the old limit of moves is left; or 13 comes after the position
-    /// was written.
+    /// was written; or a clock of two bytes is stored high byte first; or the clock is not compared; or a counter out of range is 24.
     pub fn make_move(&mut self, number: u64, next: &Position) -> Counts {
         let mut next = next.clone();
         let (n, m) = (self.0.action_count, self.0.move_count);
@@ -350,13 +487,13 @@ impl Log {
             return Counts { number: 13, actions: n, moves: m };
         }
         if planted("longer-written") && n == MOST_ACTIONS as u64 && m < MOST_MOVES as u64 {
-            self.0.positions[POSITION_LENGTH * (m as usize + 1)..][..68].copy_from_slice(&next.record.0);
+            self.0.positions[POSITION_LENGTH * (m as usize + 1)..][..NUMBERS].copy_from_slice(&next.record.numbers);
         }
         if planted("log-record") && number <= 28_671 {
-            let at = POSITION_LENGTH * m as usize;
-            let mut now = Record([0; 68]);
-            now.0.copy_from_slice(&self.0.positions[at..at + 68]);
-            next.record.0[66] = real::board_after(now, number).board.0[66];
+            next.record.numbers[66] = real::board_after(self.last(), number).board.numbers[66];
+        }
+        if planted("log-clock") && number <= 28_671 && next.record.half_moves <= LAST_COUNT {
+            next.record.half_moves = real::board_after(self.last(), number).board.half_moves;
         }
         if planted("log-sorted") && self.0.move_count == 7 && next.list.is_sorted_by(|a, b| a > b) {
             next.list.reverse();
@@ -368,7 +505,34 @@ impl Log {
         if planted("log-counts") && counts.number == 11 && counts.moves > 3 {
             counts.actions += 1;
         }
+        if planted("counters-bytes") && counts.number == 0 && next.record.half_moves > 255 {
+            let at = POSITION_LENGTH * counts.moves as usize + NUMBERS;
+            self.0.positions.swap(at, at + 1);
+        }
+        if planted("log-range") && counts.number == 5 && next.record.full_moves > LAST_COUNT {
+            counts.number = 24;
+        }
         counts
+    }
+
+    /// The record of the last position, as it is stored.
+    fn last(&self) -> Record {
+        let bytes = &self.0.positions[POSITION_LENGTH * self.0.move_count as usize..];
+        let mut record = Record::of([0; NUMBERS]);
+        record.numbers.copy_from_slice(&bytes[..NUMBERS]);
+        record.half_moves = u16::from_le_bytes([bytes[NUMBERS], bytes[NUMBERS + 1]]);
+        record.full_moves = u16::from_le_bytes([bytes[NUMBERS + 2], bytes[NUMBERS + 3]]);
+        record
+    }
+
+    /// The high byte of the last position's move number is not looked at.
+    pub fn result(&self) -> Answer {
+        let answer = self.0.result();
+        let high = POSITION_LENGTH * self.0.move_count as usize + NUMBERS + 3;
+        if planted("counters-high") && answer.number == 9 && self.0.move_count > 0 && self.0.positions[high] == 255 {
+            return Answer { number: 0, value: 0 };
+        }
+        answer
     }
 
     /// One action more than the limit is counted.
@@ -383,9 +547,8 @@ impl Log {
     /// The last position is counted as its own predecessor, or 99 moves are enough.
     pub fn can_declare_draw(&self) -> Answer {
         let mut answer = self.0.can_declare_draw();
-        let position = |n: u64| &self.0.positions[POSITION_LENGTH * n as usize..][..POSITION_LENGTH];
         let m = self.0.move_count;
-        let twice = m >= 4 && position(m) == position(m - 4);
+        let twice = m >= 4 && self.position(m) == self.position(m - 4);
         if planted("log-twice") && self.0.result().value == 0 && twice {
             answer.value = 1;
         }
@@ -393,6 +556,17 @@ impl Log {
             answer.value = 1;
         }
         answer
+    }
+
+    /// A position's bytes but for its counters.
+    fn position(&self, n: u64) -> (&[u8], &[u8]) {
+        let bytes = &self.0.positions[POSITION_LENGTH * n as usize..][..POSITION_LENGTH];
+        (&bytes[..NUMBERS], &bytes[NUMBERS + COUNTERS_LENGTH..])
+    }
+
+    /// A position's move number, as it is stored.
+    fn move_number(&self, n: u64) -> &[u8] {
+        &self.0.positions[POSITION_LENGTH * n as usize + NUMBERS + 2..][..2]
     }
 
     /// The crate's count is taken for the Laws'.
@@ -404,7 +578,7 @@ impl Log {
     }
 
     /// A change of rights restarts the Laws' count; a claim by it outlasts a resignation; the two earliest positions are the
-    /// earliest and the latest; the run's first position is not looked at.
+    /// earliest and the latest; the run's first position is not looked at; two positions are equal only with their move numbers.
     pub fn ruling(&self) -> Ruling {
         let mut ruling = self.0.ruling();
         if planted("log-laws-rights") {
@@ -419,14 +593,17 @@ impl Log {
         if planted("log-first") && ruling.equals == 1 && ruling.count + ruling.first == self.0.move_count {
             (ruling.equals, ruling.first) = (0, 0);
         }
+        let last = self.0.move_count;
+        if planted("log-equality") && ruling.equals == 1 && self.move_number(ruling.first) != self.move_number(last) {
+            (ruling.equals, ruling.first) = (0, 0);
+        }
         ruling
     }
 
-    /// The latest position before the last that has its bytes.
+    /// The latest position before the last that is equal to it.
     fn latest_equal(&self) -> u64 {
-        let position = |n: u64| &self.0.positions[POSITION_LENGTH * n as usize..][..POSITION_LENGTH];
         let last = self.0.move_count;
-        (0..last).rev().find(|n| position(*n) == position(last)).unwrap_or(0)
+        (0..last).rev().find(|n| self.position(*n) == self.position(last)).unwrap_or(0)
     }
 }
 

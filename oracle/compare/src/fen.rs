@@ -4,7 +4,7 @@ use crate::lent::check_writer;
 use crate::part::{Part, Tally};
 use crate::rules::{self, EN_PASSANT_RANK};
 use crate::{records, texts};
-use both::abi::{self, Fen, Record};
+use both::abi::{self, Answer, Fen, Record};
 use both::games::{Positions, STARTS};
 use both::numbers::{builder_of, record_of};
 use both::random::Random;
@@ -22,15 +22,15 @@ const PAPER: [&str; 5] =
 #[derive(Default)]
 pub struct FenRead(Positions);
 
-/// What is owed for a text: the crate's record and offset 0, or its refusal with 68 zeros. The crate has one refusal where
-/// document 02 has three: a rule, which is told too, puts number and offset in its place.
+/// What is owed for a text: the crate's record with the counters 0 and 1, whatever stands behind the fourth token, and offset 0; or its refusal with
+/// zeros. The crate has one refusal where document 02 has three: a rule, which is told too, puts number and offset in its place.
 pub fn owed_read(text: &str) -> Result<(Fen, Option<usize>), String> {
     match BoardBuilder::from_str(text) {
         Ok(builder) => Ok((Fen { number: 0, offset: 0, board: record_of(&builder) }, None)),
         Err(Error::InvalidFen { fen }) if fen == text => {
             let fault = rules::fault_of_fen(text);
             let (number, offset) = fault.map_or((1, 0), |fault| (fault.number, fault.offset as u64));
-            Ok((Fen { number, offset, board: records::EMPTY }, fault.map(|fault| fault.rule)))
+            Ok((Fen { number, offset, board: records::ZEROS }, fault.map(|fault| fault.rule)))
         }
         Err(error) => Err(format!("the crate gives {:?}", error)),
     }
@@ -119,13 +119,41 @@ impl Part for FenRead {
 #[derive(Default)]
 pub struct FenWrite(Positions);
 
-/// Every side, rights and en passant file, at every room around the text's length.
+/// Every side, rights and en passant file, at every room around the text's length, with counters that change from one to the next.
 fn small_records() -> impl Iterator<Item = (Record, i64)> {
     (0..2 * 4 * 4 * 9).flat_map(|n: u16| {
-        let mut r = records::EMPTY;
-        r.0[64..].copy_from_slice(&[n % 2, n / 2 % 4, n / 8 % 4, n / 32].map(|n| n as u8));
+        let mut r = Record { half_moves: 35 * n % 10_000, full_moves: 1 + 71 * n % 9_999, ..records::EMPTY };
+        r.numbers[64..].copy_from_slice(&[n % 2, n / 2 % 4, n / 8 % 4, n / 32].map(|n| n as u8));
         (-90..=5).map(move |off| (r, off))
     })
+}
+
+/// What both writers owe: `owed` of a record in range, else 5.
+pub(crate) fn check_counted(
+    record: &Record, owed: &str, off: i64, write: fn(Record, &mut [u8]) -> Answer,
+) -> Result<bool, String> {
+    match records::counters_in_range(record) {
+        true => check_writer(Ok(owed), off, |room| write(*record, room)),
+        // Without a text the room is measured from 0, so it is lent some bytes that must stay.
+        false => check_writer(Err(5), off + 100, |room| write(*record, room)),
+    }
+}
+
+/// The crate's text of a record, by the rule of the en passant rank, and whether that fired. The crate writes ` 0 1` for any record.
+pub(crate) fn owed_text(record: &Record) -> (String, bool) {
+    rules::en_passant_rank(&builder_of(record).to_string())
+}
+
+/// A record of a game or any, with any counters, which are seldom out of range; and how much longer than its text the room is.
+pub(crate) fn any_written(positions: &mut Positions, random: &mut Random) -> (Record, i64) {
+    let mut record = match random.once_in(4) {
+        true => records::counted(record_of(&BoardBuilder::from(positions.next(random))), random),
+        false => records::random(random),
+    };
+    if random.once_in(24) {
+        records::put_counter_out_of_range(&mut record, random);
+    }
+    (record, *random.pick(&[0, 0, 0, 1, 2, 60, -1, -2, -90]))
 }
 
 fn one_man() -> impl Iterator<Item = (Record, i64)> {
@@ -142,16 +170,12 @@ impl Part for FenWrite {
     }
 
     fn random(&mut self, random: &mut Random) -> Option<(Record, i64)> {
-        let record = match random.once_in(4) {
-            true => record_of(&BoardBuilder::from(self.0.next(random))),
-            false => records::random(random),
-        };
-        Some((record, *random.pick(&[0, 0, 0, 1, 2, 60, -1, -2, -90])))
+        Some(any_written(&mut self.0, random))
     }
 
     fn compare(&self, (record, off): &(Record, i64), tally: &mut Tally) -> Result<(), String> {
-        let (owed, fired) = rules::en_passant_rank(&builder_of(record).to_string());
-        let written = check_writer(Ok(&owed), *off, |room| abi::fen_write(*record, room))?;
+        let (owed, fired) = owed_text(record);
+        let written = check_counted(record, &owed, *off, abi::fen_write)?;
         tally.fired[EN_PASSANT_RANK] += fired as u64;
         tally.count("fen-write", written);
         Ok(())

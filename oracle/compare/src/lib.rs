@@ -2,9 +2,13 @@
 
 pub mod after;
 mod after_rule;
+pub mod clock;
+pub mod counters;
 mod damage;
 pub mod differences;
 pub mod fen;
+pub mod full_fen;
+mod full_rule;
 mod lent;
 pub mod lists;
 pub mod log;

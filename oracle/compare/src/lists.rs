@@ -336,7 +336,7 @@ impl Lists {
     fn next_given(&mut self, random: &mut Random) -> Side {
         let place = match random.once_in(2) {
             true => random_place(&mut self.positions, random),
-            false => Place::legal(self.positions.next(random)),
+            false => Place::counted(self.positions.next(random), random),
         };
         if !random.once_in(16) {
             return Side::of(&place);

@@ -5,7 +5,6 @@ use crate::pair::Pair;
 use crate::part::{Part, Tally};
 use crate::script::{self, Script};
 use crate::texts;
-use both::games::board_of;
 use both::random::Random;
 use std::cell::RefCell;
 
@@ -31,7 +30,7 @@ impl Part for LogPart {
 
     fn compare(&self, script: &Script, tally: &mut Tally) -> Result<(), String> {
         let mut pair = self.0.borrow_mut();
-        pair.start(board_of(&script.start), tally)?;
+        pair.start(&script.start, tally)?;
         for act in &script.acts {
             pair.act(*act, tally)?;
         }

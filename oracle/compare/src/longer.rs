@@ -4,12 +4,12 @@
 use crate::pair::Pair;
 use crate::part::{Part, Tally};
 use crate::roll;
+use crate::rolls;
 use crate::script::{self, Act, Script};
 use both::abi::{self, ACTIONS_LENGTH, LONGEST_ROLL, MOST_ACTIONS, MOST_MOVES};
-use both::games::{board_of, moves_of};
-use both::numbers::{number_of, record_of};
+use both::games::moves_of;
+use both::numbers::number_of;
 use both::random::Random;
-use chess::BoardBuilder;
 use std::cell::RefCell;
 
 /// The limits of document 01.
@@ -59,8 +59,8 @@ fn past(pair: &mut Pair, tally: &mut Tally) -> Result<(), String> {
 }
 
 /// The game's roll by our writer, which is the paper's, and by our reader back to its start and actions.
-fn rolled(pair: &Pair, start: &str, tally: &mut Tally) -> Result<(), String> {
-    let (record, count) = (record_of(&BoardBuilder::from(board_of(start))), pair.log.action_count);
+fn rolled(pair: &Pair, script: &Script, tally: &mut Tally) -> Result<(), String> {
+    let (record, count) = (rolls::start_of(script), pair.log.action_count);
     let owed = roll::write(&record, pair.game().actions());
     let mut room = vec![0; LONGEST_ROLL];
     let answer = abi::roll_write(record, &pair.log.actions, count, &mut room);
@@ -111,7 +111,7 @@ impl Part for Longer {
 
     fn compare(&self, script: &Script, tally: &mut Tally) -> Result<(), String> {
         let mut pair = self.0.borrow_mut();
-        pair.begin(board_of(&script.start))?;
+        pair.begin(&script.start)?;
         for act in &script.acts {
             let yes = pair.give(*act)?;
             tally.count(act.label(), yes);
@@ -122,7 +122,7 @@ impl Part for Longer {
         }
         pair.ask(tally)?;
         pair.end()?;
-        rolled(&pair, &script.start, tally)?;
+        rolled(&pair, script, tally)?;
         past(&mut pair, tally)
     }
 

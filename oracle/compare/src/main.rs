@@ -5,15 +5,17 @@ mod args;
 use args::{Options, Request};
 use compare::part::{self, run, Outcome, Part};
 use compare::rules::RULES;
-use compare::{after, differences, fen, lists, log, longer, moves, names, page, pgn, rolls, san, san_standard, steps, tests};
+use compare::{after, counters, differences, fen, full_fen, lists, log, longer, moves, names, page, pgn, rolls, san, san_standard, steps, tests};
 use std::process::exit;
 
 /// Runs the part that has this name.
 type Runner = fn(&Options) -> Outcome;
 
-const PARTS: [(&str, Runner); 18] = [
+const PARTS: [(&str, Runner); 21] = [
     (fen::FenRead::NAME, |o| run(fen::FenRead::default(), o.seed, o.budget)),
     (fen::FenWrite::NAME, |o| run(fen::FenWrite::default(), o.seed, o.budget)),
+    (full_fen::FullRead::NAME, |o| run(full_fen::FullRead::default(), o.seed, o.budget)),
+    (full_fen::FullWrite::NAME, |o| run(full_fen::FullWrite::default(), o.seed, o.budget)),
     (page::FenPage::NAME, |o| run(page::FenPage::default(), o.seed, o.budget)),
     (moves::Moves::NAME, |o| run(moves::Moves, o.seed, o.budget)),
     (san::SanLegal::NAME, |o| run(san::SanLegal::new(), o.seed, o.budget)),
@@ -28,6 +30,7 @@ const PARTS: [(&str, Runner); 18] = [
     (differences::Differences::NAME, |o| run(differences::Differences::new(), o.seed, o.budget)),
     (pgn::Pgn::NAME, |o| run(pgn::Pgn, o.seed, o.budget)),
     (after::After::NAME, |o| run(after::After::default(), o.seed, o.budget)),
+    (counters::CountersPart::NAME, |o| run(counters::CountersPart::new(), o.seed, o.budget)),
     (steps::Steps::NAME, |o| run(steps::Steps, o.seed, o.budget)),
     (tests::Tests::NAME, |o| run(tests::Tests::new(), o.seed, o.budget)),
 ];

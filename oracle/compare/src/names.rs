@@ -55,14 +55,14 @@ fn rank_digit(square: usize) -> char {
 impl Shape {
     fn of(record: &abi::Record, number: u16) -> Shape {
         let (from, to) = (number as usize % 64, number as usize / 64 % 64);
-        let back = 56 * record.0[64] as usize;
+        let back = 56 * record.numbers[64] as usize;
         let castling = match number as usize {
             n if n == back + 4 + 64 * (back + 6) => Some("O-O"),
             n if n == back + 4 + 64 * (back + 2) => Some("O-O-O"),
             _ => None,
         };
-        let kind = (record.0[from] as usize).checked_sub(1).map(|code| code % 6);
-        Shape { number, from, to, kind, promotion: number as usize / 4096, occupied: record.0[to] != 0, castling }
+        let kind = (record.numbers[from] as usize).checked_sub(1).map(|code| code % 6);
+        Shape { number, from, to, kind, promotion: number as usize / 4096, occupied: record.numbers[to] != 0, castling }
     }
 
     /// Source part: bit 0 for the file, bit 1 for the rank.
@@ -151,7 +151,7 @@ fn single_entries() -> impl Iterator<Item = Input> {
     (0..=MOST_MOVE).flat_map(|number| {
         (0..7 * 2 * 2).map(move |n| {
             let mut record = records::with(&[(number as usize / 64 % 64, n / 7 % 2), (number as usize % 64, n % 7)]);
-            record.0[64] = n / 14;
+            record.numbers[64] = n / 14;
             Input { place: Place::any(record, vec![number]), number: number as u64, off: 0 }
         })
     })

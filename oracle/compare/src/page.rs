@@ -3,7 +3,7 @@
 use crate::fen::{four_tokens, good_fen, owed_read, LETTERS};
 use crate::part::{Part, Tally};
 use crate::texts;
-use both::abi::{self, Answer};
+use both::abi::{self, Answer, NUMBERS};
 use both::games::Positions;
 use both::random::Random;
 
@@ -11,8 +11,8 @@ const GUARD: usize = 16;
 const FILL: u8 = 0xA5;
 const FILL_NUMBER: u64 = 0xA5A5_A5A5_A5A5_A5A5;
 
-/// Bytes and numbers that a line has.
-const RECORD: usize = 68;
+/// Bytes and numbers that a line has: the record's without its counters, which a page does not keep (order 12).
+const RECORD: usize = NUMBERS;
 const TOLD: usize = 2;
 
 /// A newline, what ends a token, and bytes that are good in one token or in none.
@@ -48,7 +48,7 @@ fn owed(lines: &[&str]) -> Result<(Vec<u8>, Vec<u64>), String> {
     let (mut records, mut numbers) = (vec![], vec![]);
     for line in lines {
         let (fen, _) = owed_read(line)?;
-        records.extend(fen.board.0);
+        records.extend(fen.board.numbers);
         numbers.extend([fen.number, fen.offset]);
     }
     Ok((records, numbers))

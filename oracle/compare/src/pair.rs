@@ -1,11 +1,13 @@
 //! The crate's `Game` and our log side by side: each action is given to both, and every answer, count and byte compared.
 
+use crate::clock::{Counters, Walk};
 use crate::part::Tally;
 use crate::rules::LAWS_COUNT;
 use crate::ruling::Course;
 use crate::script::Act;
-use both::abi::{Answer, Counts, Log, Position, POSITION_LENGTH};
-use both::numbers::{colour_of, number_of, position_of, result_number};
+use both::abi::{Answer, Counts, Log, Position, Record, COUNTERS_LENGTH, LAST_COUNT, NUMBERS, POSITION_LENGTH};
+use both::games::STARTS;
+use both::numbers::{colour_of, number_of, result_number};
 use both::random::Random;
 use chess::{Action, Board, Game};
 
@@ -22,23 +24,50 @@ pub fn action_bytes(action: &Action) -> [u8; 4] {
     }
 }
 
+/// Where a position's in-check byte lies, behind the record with its counters.
+const IN_CHECK: usize = NUMBERS + COUNTERS_LENGTH;
+
+/// "each as two bytes, low first, after the 68 old record bytes" (order 12); then the in-check byte, the list's length and its moves.
 pub fn position_bytes(position: &Position) -> [u8; POSITION_LENGTH] {
+    let record = &position.record;
     let mut bytes = [0; POSITION_LENGTH];
-    bytes[..68].copy_from_slice(&position.record.0);
-    bytes[68] = position.in_check;
-    bytes[69] = position.list.len() as u8;
-    for (place, number) in bytes[70..].chunks_exact_mut(2).zip(&position.list) {
+    bytes[..NUMBERS].copy_from_slice(&record.numbers);
+    bytes[NUMBERS..NUMBERS + 2].copy_from_slice(&record.half_moves.to_le_bytes());
+    bytes[NUMBERS + 2..IN_CHECK].copy_from_slice(&record.full_moves.to_le_bytes());
+    bytes[IN_CHECK] = position.in_check;
+    bytes[IN_CHECK + 1] = position.list.len() as u8;
+    for (place, number) in bytes[IN_CHECK + 2..].chunks_exact_mut(2).zip(&position.list) {
         place.copy_from_slice(&number.to_le_bytes());
     }
     bytes
+}
+
+/// Puts another number in range at a place of a record, any but the side to move, of which 12 is told; the places 68 and 69 are the counters. Gives
+/// the place.
+fn put_another(record: &mut Record, noise: usize) -> usize {
+    let (kind, noise) = (noise % 8, noise / 8);
+    let other = |number: u16, least: u16, most: u16| {
+        let size = most - least + 1;
+        least + (number - least + 1 + (noise / 64) as u16 % (size - 1)) % size
+    };
+    match kind {
+        0 => record.half_moves = other(record.half_moves, 0, LAST_COUNT),
+        1 => record.full_moves = other(record.full_moves, 1, LAST_COUNT),
+        _ => {
+            let at = if kind == 2 { 65 + noise % 3 } else { noise % 64 };
+            record.numbers[at] = other(record.numbers[at].into(), 0, [12, 1, 3, 3, 8][at.max(63) - 63]) as u8;
+            return at;
+        }
+    }
+    NUMBERS + kind
 }
 
 pub struct Pair {
     /// Whether the host sorts every list of a game, which the crate leaves in its generator's order (document 02, order 13).
     sorts: bool,
     game: Game,
-    /// What stands on the board now; the crate's `Game` would replay all moves to say it.
-    board: Board,
+    /// What stands on the board now; the crate's `Game` would replay all moves to say it, and has no counters.
+    walk: Walk,
     course: Course,
     pub log: Log,
     /// What the two parts must hold: the crate's actions and positions, then the noise that was there before.
@@ -62,30 +91,33 @@ impl Pair {
         let mut random = Random::new(1, "noise");
         let noise: Vec<u8> = log.positions.iter().map(|_| random.next() as u8).collect();
         let (actions, positions) = (log.actions.clone(), log.positions.clone());
-        let (game, board, course) = (Game::new(), Board::default(), Course::default());
-        Pair { sorts, game, board, course, log, actions, positions, noise }
+        let (game, walk, course) = (Game::new(), Walk::start(STARTS[0]), Course::default());
+        Pair { sorts, game, walk, course, log, actions, positions, noise }
     }
 
-    /// A position as the host lends it.
+    /// A position as the host lends it: what stands on the board now, or after a legal move from there.
     fn lent(&self, board: &Board) -> Position {
-        let mut position = position_of(board);
+        let mut walk = self.walk;
+        walk.to(*board);
+        let mut position = walk.position();
         if self.sorts {
             position.list.sort_unstable_by(|a, b| b.cmp(a));
         }
         position
     }
 
-    /// A new game in parts full of noise, for nothing past their used bytes may be looked at or changed.
-    pub fn start(&mut self, board: Board, tally: &mut Tally) -> Result<(), String> {
-        self.begin(board)?;
+    /// A new game from a FEN with its counters, in parts full of noise, for nothing past their used bytes may be looked at or changed.
+    pub fn start(&mut self, fen: &str, tally: &mut Tally) -> Result<(), String> {
+        self.begin(fen)?;
         tally.count("log: start", true);
         self.ask(tally)
     }
 
     /// The same without the questions.
-    pub fn begin(&mut self, board: Board) -> Result<(), String> {
+    pub fn begin(&mut self, fen: &str) -> Result<(), String> {
+        self.walk = Walk::start(fen);
+        let board = self.walk.board;
         self.game = Game::new_with_board(board);
-        self.board = board;
         self.course.start(board);
         for part in [&mut self.actions, &mut self.positions] {
             let length = part.len();
@@ -107,6 +139,7 @@ impl Pair {
         if let Act::Move(number) = act {
             if self.lend_wrongly(number)? {
                 tally.count("log: wrong record", false);
+                tally.count("log: out of range", false);
             }
         }
         let yes = self.give(act)?;
@@ -115,24 +148,38 @@ impl Pair {
         Ok(yes)
     }
 
-    /// Lends a legal move with a record that has another number, which is refused with 24 and changes nothing. The crate makes its positions
-    /// itself, so it has no answer of this kind. Says whether the move could be made.
+    /// Lends a legal move with a record that has another number, which is refused with 24, and with one that has a counter out of range, which is 5;
+    /// neither changes anything. The crate makes its positions itself, so it has no answer of this kind. Says whether the move could be made.
     fn lend_wrongly(&mut self, number: u16) -> Result<bool, String> {
         let act = Act::Move(number);
-        if self.game.result().is_some() || act.after(&self.board) == self.board {
+        let next = act.after(&self.walk.board);
+        if self.game.result().is_some() || next == self.walk.board {
             return Ok(false);
         }
-        let (n, m) = (self.log.action_count, self.log.move_count);
-        let mut position = self.lent(&act.after(&self.board));
+        let n = self.log.action_count;
+        let right = self.lent(&next);
         let noise = usize::from(self.noise[n as usize]) * 257 + usize::from(self.noise[number as usize]);
-        // Any number but the side to move, of which 12 is told.
-        let at = [noise % 64, 65, 66, 67][if noise % 5 == 0 { 1 + noise % 3 } else { 0 }];
-        let most = [12, 1, 3, 3, 8][at.max(63) - 63];
-        position.record.0[at] = (position.record.0[at] + 1 + (noise / 64 % most) as u8) % (most as u8 + 1);
-        let (owed, ours) = (Counts { number: 24, actions: n, moves: m }, self.log.make_move(number as u64, &position));
+        let mut another = right.clone();
+        let at = put_another(&mut another.record, noise * 65_537);
+        self.refuses(24, act, &another, &format!("with another record at {}", at))?;
+        let mut outside = right;
+        match noise % 3 {
+            0 => outside.record.half_moves = LAST_COUNT + 1 + noise as u16 % 50_000,
+            1 => outside.record.full_moves = LAST_COUNT + 1 + noise as u16 % 50_000,
+            _ => outside.record.full_moves = 0,
+        }
+        self.refuses(5, act, &outside, "with a counter out of range")?;
+        Ok(true)
+    }
+
+    /// Our log refuses the move with this position by this number; every byte is looked at when all is asked.
+    fn refuses(&mut self, owed: u64, act: Act, position: &Position, what: &str) -> Result<(), String> {
+        let Act::Move(number) = act else { return Ok(()) };
+        let (actions, moves) = (self.log.action_count, self.log.move_count);
+        let (owed, ours) = (Counts { number: owed, actions, moves }, self.log.make_move(number as u64, position));
         match ours == owed {
-            true => Ok(true),
-            false => Err(differs(&format!("action {} {} with another record at {}", n, act.show(), at), owed, ours)),
+            true => Ok(()),
+            false => Err(differs(&format!("action {} {} {}", actions, act.show(), what), owed, ours)),
         }
     }
 
@@ -167,7 +214,7 @@ impl Pair {
     /// A call past the limits, of which the crate has none: ours refuses it with 13, and nothing changes.
     pub fn past(&mut self, act: Act, tally: &mut Tally) -> Result<(), String> {
         let owed = Counts { number: 13, actions: self.log.action_count, moves: self.log.move_count };
-        let counts = self.ours(act, &act.after(&self.board));
+        let counts = self.ours(act, &act.after(&self.walk.board));
         if counts != owed {
             return Err(differs(&format!("past the limit, {}", act.show()), owed, counts));
         }
@@ -177,11 +224,11 @@ impl Pair {
 
     fn call(&mut self, act: Act) -> (u64, Counts) {
         // A move that is not listed is refused before its position is looked at, so any will do.
-        let next = act.after(&self.board);
+        let next = act.after(&self.walk.board);
         let counts = self.ours(act, &next);
         let number = act.play(&mut self.game);
         if number == 0 {
-            self.board = next;
+            self.walk.to(next);
         }
         (number, counts)
     }
@@ -192,9 +239,9 @@ impl Pair {
         self.actions[4 * n..4 * n + 4].copy_from_slice(&action_bytes(last));
         if moved {
             let at = POSITION_LENGTH * moves;
-            let bytes = position_bytes(&self.lent(&self.board));
+            let bytes = position_bytes(&self.lent(&self.walk.board));
             self.positions[at..at + POSITION_LENGTH].copy_from_slice(&bytes);
-            self.course.add(self.board);
+            self.course.add(self.walk.board);
         }
     }
 
@@ -250,7 +297,7 @@ impl Pair {
 
     /// The crate's own replay must come to the position and the bytes that were built up step by step.
     pub fn end(&self) -> Result<(), String> {
-        if self.game.current_position() != self.board {
+        if self.game.current_position() != self.walk.board {
             return Err("the crate's replay comes to another position".to_string());
         }
         let bytes: Vec<u8> = self.game.actions().iter().flat_map(action_bytes).collect();
@@ -265,7 +312,11 @@ impl Pair {
     }
 
     pub fn board(&self) -> Board {
-        self.board
+        self.walk.board
+    }
+
+    pub fn counters(&self) -> Counters {
+        self.walk.counters
     }
 
     pub fn result(&self) -> u64 {

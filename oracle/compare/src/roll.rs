@@ -1,7 +1,8 @@
-//! Rolls as document 02, order 1, tells them. Written from the paper's words over the crate's own actions and never from our
-//! code, so that it can judge our writer and our reader.
+//! Rolls as document 02 tells them: orders 1 and 11, and order 12 for the counters behind the record's 68 numbers and for the old rolls without them.
+//! Written from the paper's words over the crate's own actions and never from our code, so that it can judge our writer and our readers.
 
-use both::abi::{Record, ACTIONS_LENGTH};
+use crate::records::counters_in_range;
+use both::abi::{Record, ACTIONS_LENGTH, LAST_COUNT, NUMBERS};
 pub use both::abi::{MOST_ACTIONS, MOST_MOVES};
 use both::numbers::{color_of, colour_of, move_of, number_of, MOST_MOVE};
 use chess::Action;
@@ -25,7 +26,14 @@ pub fn largest(place: usize) -> u8 {
 }
 
 fn in_range(record: &Record) -> bool {
-    record.0.iter().enumerate().all(|(place, number)| *number <= largest(place))
+    record.numbers.iter().enumerate().all(|(place, number)| *number <= largest(place)) && counters_in_range(record)
+}
+
+/// Which rolls a call reads: those that carry the two counters, or those from before them.
+#[derive(Clone, Copy, PartialEq, Eq, Debug)]
+pub enum Form {
+    New,
+    Old,
 }
 
 /// Lowest group first, the top bit set on all but the last.
@@ -52,12 +60,27 @@ fn put_action(action: &Action, roll: &mut Vec<u8>) {
     }
 }
 
+/// "A roll writes both after the old 68 numbers."
 pub fn write(start: &Record, actions: &[Action]) -> Vec<u8> {
+    write_as(Form::New, start, actions)
+}
+
+/// An old roll has no place for the counters.
+pub fn write_as(form: Form, start: &Record, actions: &[Action]) -> Vec<u8> {
     let mut roll = vec![];
-    start.0.iter().for_each(|number| put_number(*number as u64, &mut roll));
+    start.numbers.iter().for_each(|number| put_number(*number as u64, &mut roll));
+    if form == Form::New {
+        [start.half_moves, start.full_moves].iter().for_each(|counter| put_number(*counter as u64, &mut roll));
+    }
     put_number(actions.len() as u64, &mut roll);
     actions.iter().for_each(|action| put_action(action, &mut roll));
     roll
+}
+
+/// The old roll with the counters 0 and 1 put in behind its 68th byte; none if it is shorter.
+pub fn made_new(old: &[u8]) -> Option<Vec<u8>> {
+    let (start, behind) = old.split_at_checked(NUMBERS)?;
+    Some([start, &[0, 1], behind].concat())
 }
 
 /// The crate's action whose four bytes in the log these are, if they are any's.
@@ -73,7 +96,7 @@ pub fn action_of(bytes: &[u8]) -> Option<Action> {
     }
 }
 
-/// The roll owed by our writer, or its refusal: 16, 5, 13, 17. Bytes that are no action are no move either.
+/// The roll owed by our writer, or its refusal: 16, 5, 13, 17. It writes no old rolls. Bytes that are no action are no move either.
 pub fn owed_write(start: &Record, part: &[u8], count: u64) -> Result<Vec<u8>, u64> {
     if part.len() < ACTIONS_LENGTH {
         return Err(PART_TOO_SHORT);
@@ -107,14 +130,21 @@ impl Left<'_> {
         Ok(groups.iter().rev().fold(0, |sum, group| sum * 128 + (*group % 128) as u64))
     }
 
-    fn start(&mut self) -> Result<Record, u64> {
-        let mut record = Record([0; 68]);
-        for (place, number) in record.0.iter_mut().enumerate() {
-            let given = self.number()?;
-            if given > largest(place) as u64 {
-                return Err(OUT_OF_RANGE);
-            }
-            *number = given as u8;
+    /// The next number, or 5 if it is not from `least` to `most`.
+    fn between(&mut self, least: u16, most: u16) -> Result<u16, u64> {
+        let number = self.number()?;
+        if (u64::from(least)..=u64::from(most)).contains(&number) { Ok(number as u16) } else { Err(OUT_OF_RANGE) }
+    }
+
+    /// "Old rolls .. get 0 and 1."
+    fn start(&mut self, form: Form) -> Result<Record, u64> {
+        let mut record = Record::of([0; NUMBERS]);
+        for (place, number) in record.numbers.iter_mut().enumerate() {
+            *number = self.between(0, largest(place).into())? as u8;
+        }
+        if form == Form::New {
+            record.half_moves = self.between(0, LAST_COUNT)?;
+            record.full_moves = self.between(1, LAST_COUNT)?;
         }
         Ok(record)
     }
@@ -133,13 +163,13 @@ impl Left<'_> {
     }
 }
 
-/// What our reader owes: the start and the actions' bytes, or its refusal: 16, then the first from the left of 5, 13 and 17.
-pub fn owed_read(roll: &[u8], room: usize) -> Result<(Record, Vec<u8>), u64> {
+/// What our readers owe: the start and the actions' bytes, or its refusal: 16, then the first from the left of 5, 13 and 17.
+pub fn owed_read(form: Form, roll: &[u8], room: usize) -> Result<(Record, Vec<u8>), u64> {
     if room < ACTIONS_LENGTH {
         return Err(PART_TOO_SHORT);
     }
     let mut left = Left(roll);
-    let start = left.start()?;
+    let start = left.start(form)?;
     let count = left.number()?;
     if count > MOST_ACTIONS as u64 {
         return Err(PAST_THE_LIMIT);
@@ -162,5 +192,22 @@ fn numbers_of_the_paper() {
     assert_eq!(Left(&[255, 255, 255, 255, 127]).number(), Ok((1 << 35) - 1));
     for bad in [&[][..], &[128], &[128, 0], &[172, 130, 0], &[128, 128, 128, 128, 128, 1]] {
         assert_eq!(Left(bad).number(), Err(BAD_ROLL));
+    }
+}
+
+#[test]
+fn one_text_that_is_both() {
+    let roll = [vec![0; NUMBERS], vec![1, 2, 0]].concat();
+    let counted = Record { half_moves: 1, full_moves: 2, ..Record::of([0; NUMBERS]) };
+    assert_eq!(owed_read(Form::New, &roll, ACTIONS_LENGTH), Ok((counted, vec![])));
+    assert_eq!(owed_read(Form::Old, &roll, ACTIONS_LENGTH), Ok((Record::of([0; NUMBERS]), vec![1, 0, 0, 0])));
+    let counters = |bytes: &[u8]| owed_read(Form::New, &[&[0; NUMBERS], bytes, &[0]].concat(), ACTIONS_LENGTH).map(|(start, _)| start.half_moves);
+    assert_eq!(counters(&[0, 1]), Ok(0));
+    assert_eq!(counters(&[143, 78, 143, 78]), Ok(9_999));
+    for bad in [&[0, 0][..], &[144, 78, 1], &[0, 144, 78]] {
+        assert_eq!(counters(bad), Err(OUT_OF_RANGE));
+    }
+    for bad in [&[128, 0, 1][..], &[144, 206, 0, 1], &[0, 129, 0], &[128, 128, 128, 128, 128, 1, 1]] {
+        assert_eq!(counters(bad), Err(BAD_ROLL));
     }
 }

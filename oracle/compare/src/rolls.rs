@@ -1,12 +1,14 @@
 //! `rolls`: games go through both the crate's `Game` and our log, the log's roll, our reader and back into a `Game`. The roll
-//! owed and what is owed for any other bytes come from `roll`, which was written from the paper.
+//! owed and what is owed for any other bytes come from `roll`, which was written from the paper. All bytes are given to the reader of old rolls too
+//! (document 02, order 12), and what it makes of them is held against the reader of new ones.
 
+use crate::clock::Counters;
 use crate::damage;
 use crate::lent::{check_bytes, Lent};
 use crate::pair::{action_bytes, Pair};
 use crate::part::{Part, Tally};
 use crate::records;
-use crate::roll::{self, action_of};
+use crate::roll::{self, action_of, Form};
 use crate::rollwork;
 use crate::script::{self, Script};
 use crate::texts;
@@ -52,36 +54,58 @@ impl Rolls {
         Rolls { pair: RefCell::new(Pair::new()), lent, damaged: Box::new(std::iter::empty()) }
     }
 
-    /// Our reader on a roll: its answer and each byte of the part, its guards and the text. Gives the actions' bytes.
-    fn read(&self, roll: &[u8], room: usize) -> Result<(Roll, Vec<u8>), String> {
-        let owed = roll::owed_read(roll, room);
+    /// One of our readers on a roll: its answer and each byte of the part, its guards and the text. Gives the actions' bytes.
+    fn read(&self, form: Form, roll: &[u8], room: usize) -> Result<(Roll, Vec<u8>), String> {
+        let owed = roll::owed_read(form, roll, room);
         let text = roll.to_vec();
         let mut lent = self.lent.borrow_mut();
-        let ours = abi::roll_read(&text, lent.part(room));
+        let ours = match form {
+            Form::New => abi::roll_read(&text, lent.part(room)),
+            Form::Old => abi::roll_read_old(&text, lent.part(room)),
+        };
         let (answer, bytes) = match owed {
             Ok((board, bytes)) => (Roll { number: 0, actions: bytes.len() as u64 / 4, board }, bytes),
-            Err(number) => (Roll { number, actions: 0, board: records::EMPTY }, vec![]),
+            Err(number) => (Roll { number, actions: 0, board: records::ZEROS }, vec![]),
         };
         let untouched = lent.holds(&bytes);
         if ours != answer {
             let shown = |r: &Roll| format!("{} with {} actions, {}", r.number, r.actions, records::show(&r.board));
-            return Err(format!("part of {}: owed {}, ours {}", room, shown(&answer), shown(&ours)));
+            return Err(format!("{:?} form, part of {}: owed {}, ours {}", form, room, shown(&answer), shown(&ours)));
         }
         if !untouched || text != roll {
-            return Err(format!("part of {}: owed {}, and a lent byte is not as owed", room, answer.number));
+            return Err(format!("{:?} form, part of {}: owed {}, and a lent byte is not as owed", form, room, answer.number));
         }
         Ok((answer, bytes))
     }
 
-    /// A roll that may be anything. One that is accepted must be written back as it came.
+    /// A roll that may be anything, by both readers. One that the first accepts must be written back as it came.
     fn compare_read(&self, roll: &[u8], room: usize, tally: &mut Tally) -> Result<(), String> {
-        let (answer, bytes) = self.read(roll, room)?;
+        let (answer, bytes) = self.read(Form::New, roll, room)?;
         tally.count("rolls: read", answer.number == 0);
         if answer.number == 0 {
-            let mut part = vec![0xA5; ACTIONS_LENGTH];
-            part[..bytes.len()].copy_from_slice(&bytes);
-            check_bytes(Ok(roll), 0, |out| abi::roll_write(answer.board, &part, answer.actions, out), show_bytes)?;
+            written(&answer, &bytes, roll)?;
             tally.count("rolls: written back", true);
+        }
+        self.compare_old(roll, room, tally)
+    }
+
+    /// An old roll is accepted exactly if the one with 0 and 1 put in behind its 68th byte is accepted as a new one, with the same start and actions,
+    /// and that is how it is written. A roll that is too short for it is refused.
+    fn compare_old(&self, roll: &[u8], room: usize, tally: &mut Tally) -> Result<(), String> {
+        let old = self.read(Form::Old, roll, room)?;
+        let accepted = old.0.number == 0;
+        tally.count("rolls: read old", accepted);
+        let Some(made) = roll::made_new(roll) else {
+            return if accepted { Err("an old roll without a whole record is accepted".to_string()) } else { Ok(()) };
+        };
+        let new = self.read(Form::New, &made, room)?;
+        if accepted != (new.0.number == 0) || accepted && old != new {
+            return Err(format!("the old reader gives {:?}, the new one with 0 and 1 put in {:?}", old, new));
+        }
+        tally.count("rolls: old as new", accepted);
+        if accepted {
+            written(&old.0, &old.1, &made)?;
+            tally.count("rolls: written anew", true);
         }
         Ok(())
     }
@@ -102,26 +126,33 @@ impl Rolls {
 
     fn compare_game(&self, script: &Script, tally: &mut Tally) -> Result<(), String> {
         let mut pair = self.pair.borrow_mut();
-        let start = board_of(&script.start);
-        pair.begin(start)?;
+        pair.begin(&script.start)?;
         for act in &script.acts {
             pair.give(*act)?;
         }
-        let record = record_of(&BoardBuilder::from(start));
+        let record = start_of(script);
         let owed = roll::write(&record, pair.game().actions());
         for off in [0, 9, -1, -(owed.len() as i64)] {
             let write = |out: &mut [u8]| abi::roll_write(record, &pair.log.actions, pair.log.action_count, out);
             tally.count("rolls: write", check_bytes(Ok(&owed), off, write, show_bytes)?);
         }
-        let (answer, bytes) = self.read(&owed, ACTIONS_LENGTH)?;
+        let (answer, bytes) = self.read(Form::New, &owed, ACTIONS_LENGTH)?;
         let used: Vec<u8> = pair.game().actions().iter().flat_map(action_bytes).collect();
         let same = answer == Roll { number: 0, actions: pair.log.action_count, board: record };
         if !same || bytes != used || !pair.log.actions.starts_with(&bytes) {
             return Err(format!("the reader gives other actions than the log has: {:?} {:?}", answer, bytes));
         }
         tally.count("rolls: read", true);
+        self.compare_old(&roll::write_as(Form::Old, &record, pair.game().actions()), ACTIONS_LENGTH, tally)?;
         compare_ends(&mut pair, &answer.board, &bytes, tally)
     }
+}
+
+/// What was read is written as these bytes.
+fn written(read: &Roll, bytes: &[u8], owed: &[u8]) -> Result<(), String> {
+    let mut part = vec![0xA5; ACTIONS_LENGTH];
+    part[..bytes.len()].copy_from_slice(bytes);
+    check_bytes(Ok(owed), 0, |out| abi::roll_write(read.board, &part, read.actions, out), show_bytes).map(|_| ())
 }
 
 /// Result, claim, and whether an offer could be accepted.
@@ -168,26 +199,35 @@ fn compare_ends(pair: &mut Pair, start: &Record, bytes: &[u8], tally: &mut Tally
     Ok(())
 }
 
+/// The crate's record of a script's start, with the counters that its text says.
+pub fn start_of(script: &Script) -> Record {
+    Counters::said_by(&script.start).on(record_of(&BoardBuilder::from(board_of(&script.start))))
+}
+
 /// The start and the actions of what the crate accepts of a script.
 pub fn game_of(script: &Script) -> (Record, Vec<Action>) {
-    let start = board_of(&script.start);
-    let mut game = Game::new_with_board(start);
+    let mut game = Game::new_with_board(board_of(&script.start));
     for act in &script.acts {
         act.play(&mut game);
     }
-    (record_of(&BoardBuilder::from(start)), game.actions().clone())
+    (start_of(script), game.actions().clone())
 }
 
 /// Its roll.
 pub fn roll_of(script: &Script) -> Vec<u8> {
-    let (start, actions) = game_of(script);
-    roll::write(&start, &actions)
+    rolled(Form::New, script)
 }
 
-/// Every damage of the rolls of all told scripts.
+fn rolled(form: Form, script: &Script) -> Vec<u8> {
+    let (start, actions) = game_of(script);
+    roll::write_as(form, &start, &actions)
+}
+
+/// Every damage of the rolls, new and old, of all told scripts.
 fn told_damaged() -> impl Iterator<Item = Vec<u8>> {
-    let told = script::told().into_iter().map(|s| roll_of(&s));
-    told.flat_map(|roll| damage::all(roll, 0, Random::new(1, "damage")))
+    let told = script::told().into_iter().chain(script::counted());
+    let rolls = told.flat_map(|s| [Form::New, Form::Old].map(|form| rolled(form, &s)));
+    rolls.flat_map(|roll| damage::all(roll, 0, Random::new(1, "damage")))
 }
 
 /// Every damage of a roll, and as many rolls with two.
@@ -198,9 +238,10 @@ fn damaged(roll: &[u8], random: &mut Random) -> Box<dyn Iterator<Item = Vec<u8>>
 
 /// Good and bad rolls with parts of other lengths.
 fn short_parts() -> impl Iterator<Item = Input> {
-    let rolls: Vec<Vec<u8>> = vec![vec![], vec![128], vec![13; 69], vec![0; 69], roll_of(&script::told()[1])];
+    let told = [Form::New, Form::Old].map(|form| rolled(form, &script::told()[1]));
+    let rolls = [vec![], vec![128], vec![13; 69], vec![0; 69]].into_iter().chain(told);
     let lengths = [0, 1, 4, 8, ACTIONS_LENGTH - 4, ACTIONS_LENGTH - 1, ACTIONS_LENGTH + 1, LONGEST_PART];
-    rolls.into_iter().flat_map(move |roll| lengths.map(|length| Input::Read(roll.clone(), length)))
+    rolls.flat_map(move |roll| lengths.map(|length| Input::Read(roll.clone(), length)))
 }
 
 /// Bytes in decimal, equal ones next to each other told once.
@@ -232,7 +273,8 @@ impl Part for Rolls {
         }
         Some(match random.below(16) {
             0 => {
-                let roll = roll_of(&script::random(random));
+                let form = if random.once_in(3) { Form::Old } else { Form::New };
+                let roll = rolled(form, &script::random(random));
                 self.damaged = damaged(&roll, random);
                 Input::Read(roll, ACTIONS_LENGTH)
             }

@@ -1,12 +1,12 @@
-//! Inputs for `rolls` that are not games: numbers in every place, the limits, and what a writer may be given.
+//! Inputs for `rolls` that are not games: numbers in every place of new and old rolls, the limits, and what a writer may be given.
 
 use crate::damage;
 use crate::pair::action_bytes;
 use crate::records;
-use crate::roll::{self, largest, MOST_ACTIONS, MOST_MOVES};
+use crate::roll::{self, largest, Form, MOST_ACTIONS, MOST_MOVES};
 use crate::rolls::Written;
 use crate::texts;
-use both::abi::{Record, ACTIONS_LENGTH};
+use both::abi::{Record, ACTIONS_LENGTH, LAST_COUNT, NUMBERS};
 use both::numbers::{color_of, move_of, MOST_MOVE};
 use both::random::Random;
 use chess::{Action, Color};
@@ -14,16 +14,26 @@ use chess::{Action, Color};
 /// What stands before a number in a roll, and what behind it.
 type Place = (Vec<u8>, Vec<u8>);
 
-/// Each kind of number that a roll has, in a short roll: those of the record, the count, a code, a move's.
+/// The empty record as a roll begins with it: with the counters 0 and 1 behind it, or without them.
+pub fn empty_start(form: Form) -> Vec<u8> {
+    let counters: &[u8] = if form == Form::New { &[0, 1] } else { &[] };
+    [&[0; NUMBERS][..], counters].concat()
+}
+
+/// Each kind of number that a roll has, in a short roll: those of the record, the counters, the count, a code, a move's; of an old roll those behind
+/// its record.
 fn places() -> Vec<Place> {
     let zeros = |n: usize| vec![0; n];
-    let record = [0, 31, 63, 64, 65, 66, 67].map(|at| (zeros(at), zeros(68 - at)));
-    let behind = |bytes: &[u8]| [&zeros(68), bytes].concat();
-    let others = [
-        (behind(&[]), vec![2, 140, 14]), (behind(&[]), vec![]), (behind(&[1]), vec![]), (behind(&[1]), vec![12]),
-        (behind(&[2]), vec![6]), (behind(&[1, 2]), vec![]), (behind(&[2, 2]), vec![8]),
-    ];
-    record.into_iter().chain(others).collect()
+    let record = [0, 31, 63, 64, 65, 66, 67].map(|at| (zeros(at), [zeros(NUMBERS - 1 - at), vec![0, 1, 0]].concat()));
+    let counters = [(zeros(NUMBERS), vec![1, 0]), (zeros(NUMBERS + 1), vec![0]), (zeros(NUMBERS + 1), vec![1, 6])];
+    let others = [Form::New, Form::Old].into_iter().flat_map(|form| {
+        let behind = |bytes: &[u8]| [&empty_start(form), bytes].concat();
+        [
+            (behind(&[]), vec![2, 140, 14]), (behind(&[]), vec![]), (behind(&[1]), vec![]), (behind(&[1]), vec![12]),
+            (behind(&[2]), vec![6]), (behind(&[1, 2]), vec![]), (behind(&[2, 2]), vec![8]),
+        ]
+    });
+    record.into_iter().chain(counters).chain(others).collect()
 }
 
 /// Each text in each place of a number.
@@ -46,16 +56,23 @@ fn all(bytes: &[u8], most: u32) -> Vec<Vec<u8>> {
 }
 
 /// All single bytes, and all texts of up to 6 bytes at the edges of a group, in each place; every move, and 4,096 numbers that
-/// are none.
+/// are none; every count as either counter, and as many that are none.
 pub fn numbers() -> impl Iterator<Item = Vec<u8>> {
     let single = (0..=255).map(|b| vec![b]).collect();
     let edges = all(&[0, 1, 127, 128, 255], 6);
-    let moves = (0..=MOST_MOVE as u64 + 4_096).map(|number| {
-        let mut roll = [vec![0; 68], vec![1, 2]].concat();
-        roll::put_number(number, &mut roll);
-        roll
+    let moves = (0..=MOST_MOVE as u64 + 4_096).map(|number| with_number(&[&empty_start(Form::New)[..], &[1, 2]].concat(), number, &[]));
+    let counts = (0..=u64::from(LAST_COUNT) + 4_096).flat_map(|number| {
+        [with_number(&[0; NUMBERS], number, &[1, 0]), with_number(&[0; NUMBERS + 1], number, &[0])]
     });
-    everywhere(single).chain(everywhere(edges)).chain(moves)
+    everywhere(single).chain(everywhere(edges)).chain(moves).chain(counts)
+}
+
+/// A number between what stands before it and behind it.
+fn with_number(before: &[u8], number: u64, behind: &[u8]) -> Vec<u8> {
+    let mut roll = before.to_vec();
+    roll::put_number(number, &mut roll);
+    roll.extend(behind);
+    roll
 }
 
 /// So many moves of two kings to and fro, as the crate's actions.
@@ -64,8 +81,9 @@ fn king_moves(count: usize) -> Vec<Action> {
     round.into_iter().cycle().take(count).collect()
 }
 
+/// Two kings late in a game, so that each counter has two groups.
 fn kings() -> Record {
-    records::with(&[(20, 6), (44, 12)])
+    Record { half_moves: 128, full_moves: LAST_COUNT, ..records::with(&[(20, 6), (44, 12)]) }
 }
 
 /// Around the limits of moves and of actions. The one move too many is cut in each place, and is followed by much else.
@@ -74,8 +92,8 @@ pub fn limits() -> impl Iterator<Item = Vec<u8>> {
     let mut rolls = vec![];
     for moves in [0, 1, MOST_MOVES - 1, MOST_MOVES, MOST_MOVES + 1, MOST_MOVES + 2] {
         for others in [0, 1, MOST_MOVES - 1, MOST_MOVES, MOST_MOVES + 1, 2 * MOST_MOVES, 2 * MOST_MOVES + 1] {
-            rolls.push(roll::write(&kings(), &[king_moves(moves), offers(others)].concat()));
-            rolls.push(roll::write(&kings(), &[offers(others), king_moves(moves)].concat()));
+            let lists = [[king_moves(moves), offers(others)].concat(), [offers(others), king_moves(moves)].concat()];
+            rolls.extend(lists.iter().flat_map(|list| [Form::New, Form::Old].map(|form| roll::write_as(form, &kings(), list))));
         }
     }
     let mut full = roll::write(&kings(), &[king_moves(MOST_MOVES), offers(1)].concat());
@@ -127,8 +145,8 @@ impl Written {
     }
 }
 
-/// Counts and moves around the limits, each record number out of range, each byte of an action wrong, short parts, and two of
-/// these at once, for the order in which they are refused.
+/// Counts and moves around the limits, each record number and counter out of range, each byte of an action wrong, short parts, and
+/// two of these at once, for the order in which they are refused.
 pub fn writes() -> Vec<Written> {
     let offers = vec![Action::OfferDraw(Color::White); 2 * MOST_MOVES];
     let (few, most) = (king_moves(3), [king_moves(MOST_MOVES), offers.clone()].concat());
@@ -148,13 +166,19 @@ pub fn writes() -> Vec<Written> {
         let mut bad = base.clone();
         bad.part[8..12].copy_from_slice(&[1, 1, 0, 0]);
         let mut outside = bad.clone();
-        outside.start.0[64] = 2;
-        all.extend([short, bad, outside]);
+        outside.start.numbers[64] = 2;
+        let mut counter = bad.clone();
+        counter.start.full_moves = 0;
+        all.extend([short, bad, outside, counter]);
     }
-    all.extend((0..68).flat_map(|at| [largest(at), largest(at) + 1, 255].map(|number| {
+    all.extend((0..NUMBERS).flat_map(|at| [largest(at), largest(at) + 1, 255].map(|number| {
         let mut given = Written::of(kings(), &few, 3, 0);
-        given.start.0[at] = number;
+        given.start.numbers[at] = number;
         given
+    })));
+    let counts = [0, 1, 127, 128, LAST_COUNT, LAST_COUNT + 1, 16_383, 16_384, u16::MAX];
+    all.extend(counts.into_iter().flat_map(|half_moves| counts.map(|full_moves| {
+        Written::of(Record { half_moves, full_moves, ..kings() }, &few, 3, 0)
     })));
     all.extend((0..4 * 256).map(|n| {
         let mut given = Written::of(kings(), &few, 3, 0);
@@ -182,10 +206,11 @@ pub fn random(random: &mut Random) -> Written {
     let off = *random.pick(&[0, 0, 0, 1, 50, -1, -2, -70]);
     let mut given = Written::of(records::random(random), &actions, used as u64, off);
     match random.below(12) {
-        0 => given.start.0[random.below(68)] = random.next() as u8,
+        0 => given.start.numbers[random.below(NUMBERS)] = random.next() as u8,
         1 | 2 => given.part[random.below(4 * used.clamp(1, 100))] = random.next() as u8,
         3 => given.count = random.below(2_100) as u64,
         4 => given.part.truncate(ACTIONS_LENGTH - random.below(2)),
+        5 => records::put_counter_out_of_range(&mut given.start, random),
         _ => (),
     }
     given
@@ -196,7 +221,7 @@ pub fn random(random: &mut Random) -> Written {
 pub fn smaller_rolls(roll: &[u8]) -> Vec<Vec<u8>> {
     let mut smaller = texts::cut_lists(roll);
     smaller.retain(|cut| roll.len() < 1_000 || roll.len() - cut.len() > 7);
-    smaller.extend((0..roll.len().min(68)).filter(|at| roll[*at] != 0).map(|at| {
+    smaller.extend((0..roll.len().min(NUMBERS)).filter(|at| roll[*at] != 0).map(|at| {
         let mut other = roll.to_vec();
         other[at] = 0;
         other

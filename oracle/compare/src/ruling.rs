@@ -29,7 +29,7 @@ impl Course {
     }
 
     /// Article 9.3: the moves of either side since a pawn was moved or a man captured. Rights do not come into it.
-    fn laws_count(&self) -> usize {
+    pub fn laws_count(&self) -> usize {
         let steps = self.boards.windows(2).rev();
         steps.take_while(|step| !pawn_moved(&step[0], &step[1]) && !captured(&step[0], &step[1])).count()
     }
@@ -54,7 +54,8 @@ impl Course {
         (count, run)
     }
 
-    /// The positions of the run before its last that have the last one's record, and its list in order.
+    /// The positions of the run before its last that have the last one's record, and its list in order. The crate's boards have no counters, so
+    /// these do not come into it (order 12).
     fn equal(&self, run: &[usize]) -> Vec<usize> {
         let (last, earlier) = run.split_last().expect("the position on the board is in the run");
         let place = |i: usize| (&self.positions[i].record, &self.positions[i].list);

@@ -3,7 +3,7 @@
 
 use crate::part::{Part, Tally};
 use crate::{records, texts};
-use both::abi::{self, Answer, Record};
+use both::abi::{self, Answer, Position, Record};
 use both::games::{board_of, Positions, STARTS};
 use both::numbers::{list_of, move_of, number_of, position_of, MOST_MOVE};
 use both::random::Random;
@@ -31,12 +31,18 @@ enum Reader {
 
 impl Place {
     pub fn legal(board: Board) -> Rc<Place> {
-        let position = position_of(&board);
-        Rc::new(Place { record: position.record, list: position.list, reader: Reader::Legal(board) })
+        let Position { record, list, .. } = position_of(&board);
+        Rc::new(Place { record, list, reader: Reader::Legal(board) })
+    }
+
+    /// The same with any counters, which no answer depends on (order 12).
+    pub fn counted(board: Board, random: &Random) -> Rc<Place> {
+        let Position { record, list, .. } = position_of(&board);
+        Rc::new(Place { record: records::counted(record, random), list, reader: Reader::Legal(board) })
     }
 
     pub fn any(record: Record, list: Vec<u16>) -> Rc<Place> {
-        let reader = Reader::Any(sanlist::board::Board::new(record.0, &list));
+        let reader = Reader::Any(sanlist::board::Board::new(record.numbers, &list));
         Rc::new(Place { record, list, reader })
     }
 
@@ -125,7 +131,7 @@ pub fn near_text(place: &Place, random: &mut Random) -> String {
     };
     let m = move_of(number);
     let (from, to) = (number as usize % 64, number as usize / 64 % 64);
-    let kind = (place.record.0[from] as usize + 5) % 6;
+    let kind = (place.record.numbers[from] as usize + 5) % 6;
     let piece = if random.once_in(16) { *random.pick(&PIECES) } else { PIECES[kind] };
     let source = match random.below(6) {
         0 => source_part(random.below(81)),
@@ -134,7 +140,7 @@ pub fn near_text(place: &Place, random: &mut Random) -> String {
         3 => source_part(from % 8 + 1 + 9 * (from / 8 + 1)),
         _ => String::new(),
     };
-    let occupied = place.record.0[to] != 0 || kind == 0 && from % 8 != to % 8;
+    let occupied = place.record.numbers[to] != 0 || kind == 0 && from % 8 != to % 8;
     let takes = if occupied != random.once_in(8) { "x" } else { "" };
     let promotion = match (m.get_promotion(), random.once_in(12)) {
         (Some(p), false) => p.to_string(chess::Color::White),
@@ -174,7 +180,7 @@ impl LegalPlaces {
 
     pub fn next(&mut self, random: &mut Random) -> Rc<Place> {
         if random.once_in(TEXTS_A_PLACE) {
-            self.place = Place::legal(self.positions.next(random));
+            self.place = Place::counted(self.positions.next(random), random);
         }
         self.place.clone()
     }
@@ -247,7 +253,7 @@ pub fn random_place(positions: &mut Positions, random: &mut Random) -> Rc<Place>
     let kinds = [1 + random.below(12) as u8, 1 + random.below(12) as u8];
     for number in &list {
         if random.below(4) > 0 {
-            record.0[*number as usize % 64] = *random.pick(&kinds);
+            record.numbers[*number as usize % 64] = *random.pick(&kinds);
         }
     }
     Place::any(record, list)

@@ -5,7 +5,7 @@ use crate::lent::check_writer;
 use crate::part::{Part, Tally};
 use crate::san::{paper_places, random_place, Place, LETTERS};
 use crate::{records, standard, texts};
-use both::abi::{self, Answer, Record};
+use both::abi::{self, Answer, Record, NUMBERS};
 use both::games::{board_of, Positions, STARTS};
 use both::numbers::MOST_MOVE;
 use both::random::Random;
@@ -105,7 +105,7 @@ fn single_entries() -> impl Iterator<Item = Input> {
     (0..=MOST_MOVE).flat_map(|number| {
         (0..14u8).map(move |n| {
             let mut record = records::with(&[(number as usize / 64 % 64, n / 7), (number as usize % 64, n % 7)]);
-            record.0[64] = (number / 512 % 2) as u8;
+            record.numbers[64] = (number / 512 % 2) as u8;
             Input::Name(Rc::new(Given { record, list: vec![number] }), number as u64, 0)
         })
     })
@@ -153,10 +153,10 @@ fn near_text(given: &Given, random: &mut Random) -> String {
         false => *random.pick(&given.list) as usize,
     };
     let (from, to, promotion) = (number % 64, number / 64 % 64, number / 4096);
-    let kind = (given.record.0[from] as usize + 5) % 6;
+    let kind = (given.record.numbers[from] as usize + 5) % 6;
     let piece = if random.once_in(16) { *random.pick(&PIECES) } else { PIECES[kind] };
     let source = if random.once_in(12) { random.below(64) } else { from };
-    let captures = given.record.0[to] != 0 || kind == 0 && from % 8 != to % 8;
+    let captures = given.record.numbers[to] != 0 || kind == 0 && from % 8 != to % 8;
     // A pawn's capture mostly has its file, since nothing else is taken.
     let parts = if kind == 0 && captures && !random.once_in(6) { 1 } else { *random.pick(&[0, 0, 0, 1, 2, 3]) };
     let takes = if captures != random.once_in(8) { "x" } else { "" };
@@ -186,11 +186,13 @@ pub fn random_text(given: &Given, random: &mut Random) -> Vec<u8> {
     text.into_bytes()
 }
 
-/// Seldom a record number, an entry or the length of the list goes out of range, or two of them.
+/// Seldom a record number, a counter, an entry or the length of the list goes out of range, or two of them.
 pub fn put_out_of_range(given: &mut Given, random: &mut Random) {
     if random.once_in(2) {
-        let at = random.below(68);
-        given.record.0[at] = [13, 2, 4, 4, 9][at.saturating_sub(63)] + random.pick(&[0, 0, 1, 100]);
+        let at = random.below(NUMBERS);
+        given.record.numbers[at] = [13, 2, 4, 4, 9][at.saturating_sub(63)] + random.pick(&[0, 0, 1, 100]);
+    } else if random.once_in(2) {
+        records::put_counter_out_of_range(&mut given.record, random);
     }
     if random.once_in(2) && !given.list.is_empty() {
         let at = random.below(given.list.len());
@@ -217,7 +219,7 @@ impl SanStandard {
     fn next_given(&mut self, random: &mut Random) -> Given {
         let place = match random.once_in(2) {
             true => random_place(&mut self.positions, random),
-            false => Place::legal(self.positions.next(random)),
+            false => Place::counted(self.positions.next(random), random),
         };
         let mut given = Given { record: place.record, list: place.list.clone() };
         if random.once_in(24) {

@@ -1,5 +1,7 @@
 //! Scripts of actions for the log: walks of exact lengths, and random games in several manners.
 
+use crate::clock::Counters;
+use crate::records;
 use both::abi::MOST_MOVES;
 use both::games::{board_of, moves_of, random_move, STARTS};
 use both::numbers::{color_of, move_of, number_of};
@@ -249,9 +251,37 @@ pub fn full() -> Script {
     Script { start: STARTS[0].to_string(), acts, claim: Some(true), laws: Some(true) }
 }
 
+/// Games that come to the last count of either counter, to it and past it, by quiet moves of either side first; that leave it by a capture, a pawn's
+/// move and a promotion; and that repeat positions below it and at it.
+pub fn counted() -> Vec<Script> {
+    let round = "b1c3 g8f6 c3b1 f6g8 ";
+    let games = [
+        (STARTS[0], [9_990, 9_995], &round.repeat(6)[..]), (STARTS[0], [9_999, 9_999], &round.repeat(3)),
+        (STARTS[0], [9_998, 9_998], "b1c3 e7e5 c3b1 f8c5"), (STARTS[0], [255, 255], "b1c3 b8c6 c3b1 c6b8"),
+        (ENDINGS[1], [9_997, 9_998], "g8f6 b1c3 f6g8 c3b1 g8f6"),
+        (STARTS[5], [9_999, 1], "e1g1 e8c8 a1a7 d8d2 a7a8"), (STARTS[5], [99, 9_999], "a1a8 e8e7 a8h8 e7d6"),
+        (STARTS[12], [9_999, 9_999], "e4d3 e1d2 c5d4"), (ENDINGS[7], [127, 127], "e8g8 e1c1 f8f1 d1f1"),
+        ("4k3/P7/8/8/8/8/8/4K3 w - - 0 1", [50, 16], "e1e2 e8e7 a7a8q e7d6 a8a1"),
+    ];
+    let script = |(start, [half, full], text): &(&str, [u16; 2], &str)| {
+        let start = Counters { half: *half, full: *full }.behind(start);
+        Script { start, acts: acts_of(text), claim: None, laws: None }
+    };
+    games.iter().map(script).collect()
+}
+
+/// The start with other counters every other time; the choice takes nothing from the stream.
+fn with_counters(start: &str, random: &Random) -> String {
+    match Counters::of(&records::counted(records::EMPTY, random)) {
+        Counters::FIRST => start.to_string(),
+        other => other.behind(start),
+    }
+}
+
 pub fn fixed() -> Vec<Script> {
     let mut random = Random::new(1, "walks");
     let mut scripts = told();
+    scripts.extend(counted());
     scripts.extend(counts(&mut random));
     scripts.extend(broken_counts(&mut random));
     scripts.extend(lost_rights(&mut random));
@@ -333,7 +363,8 @@ impl Player<'_> {
 }
 
 pub fn random(random: &mut Random) -> Script {
-    let start = if random.once_in(3) { random.pick(&ENDINGS) } else { random.pick(&STARTS) }.to_string();
+    let start = if random.once_in(3) { random.pick(&ENDINGS) } else { random.pick(&STARTS) };
+    let start = with_counters(start, random);
     let manner = *random.pick(&[Manner::Wild, Manner::Quiet, Manner::Back]);
     let most = *random.pick(&[6, 12, 24, 24, 40, 40, 80, 80, 140, 300]);
     let board = board_of(&start);
@@ -361,7 +392,8 @@ pub fn random(random: &mut Random) -> Script {
 /// A random game of exactly so many moves and actions, which has not ended: the others are offers, spread over it.
 pub fn long(moves: usize, actions: usize, random: &mut Random) -> Script {
     loop {
-        let start = random.pick(&STARTS).to_string();
+        let start = *random.pick(&STARTS);
+        let start = with_counters(start, random);
         let manner = *random.pick(&[Manner::Wild, Manner::Quiet, Manner::Back]);
         let board = board_of(&start);
         let mut player = Player { board, acts: vec![], last: [None, None], seen: HashMap::new(), run: 0, manner, random };
@@ -389,5 +421,13 @@ pub fn long(moves: usize, actions: usize, random: &mut Random) -> Script {
 fn starts_are_sane() {
     for start in ENDINGS.iter().chain(&STARTS) {
         board_of(start);
+    }
+}
+
+#[test]
+fn counted_games_are_legal() {
+    for script in counted() {
+        let mut game = Game::new_with_board(board_of(&script.start));
+        assert!(script.acts.iter().all(|act| act.play(&mut game) == 0), "{}", script.start);
     }
 }

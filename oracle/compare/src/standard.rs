@@ -1,6 +1,7 @@
 //! SAN as the PGN standard writes it (its section 8.2.3), by the words of document 02, order 6: a reader and a namer, which
 //! the crate has not. A text is taken apart from its end, since its last square is the destination.
 
+use crate::records::counters_in_range;
 use both::abi::Record;
 use both::numbers::MOST_MOVE;
 
@@ -30,9 +31,9 @@ struct Entry {
 impl Entry {
     fn of(record: &Record, number: u16) -> Entry {
         let (from, to) = ((number % 64) as u8, (number / 64 % 64) as u8);
-        let code = record.0[from as usize];
+        let code = record.numbers[from as usize];
         let kind = if code > 6 { code - 6 } else { code };
-        Entry { from, to, promotion: (number / 4096) as u8, kind, occupied: record.0[to as usize] != 0 }
+        Entry { from, to, promotion: (number / 4096) as u8, kind, occupied: record.numbers[to as usize] != 0 }
     }
 
     /// "The destination is occupied or a pawn changes files."
@@ -47,7 +48,7 @@ impl Entry {
 
     /// The text of a king's castling: from e to g or c on the back rank of the side to move, without promotion.
     fn castling(&self, record: &Record) -> Option<&'static str> {
-        let back = if record.0[64] == 0 { 0 } else { 56 };
+        let back = if record.numbers[64] == 0 { 0 } else { 56 };
         match (self.kind, self.promotion, self.from.wrapping_sub(back), self.to.wrapping_sub(back)) {
             (KING, 0, 4, 6) => Some("O-O"),
             (KING, 0, 4, 2) => Some("O-O-O"),
@@ -141,9 +142,9 @@ fn resolve(record: &Record, list: &[u16], text: &[u8]) -> Option<u16> {
 
 /// 5 or 6, in document 01's order, for a record or a list that is out of range.
 pub fn check_ranges(record: &Record, list: &[u16]) -> Result<(), u64> {
-    let r = &record.0;
+    let r = &record.numbers;
     let good = r[..64].iter().all(|code| *code <= 12) && r[64] <= 1 && r[65] <= 3 && r[66] <= 3 && r[67] <= 8;
-    if !good {
+    if !good || !counters_in_range(record) {
         return Err(BAD_RECORD);
     }
     if list.len() > MOST_ENTRIES || list.iter().any(|number| *number > MOST_MOVE) {

@@ -1,9 +1,11 @@
 //! `steps`: the leaves, which are squares, rights and `CASTLES_PER_SQUARE` (square.rs, castle_rights.rs), and the builder's
-//! steps (board_builder.rs), on numbers in range.
+//! steps (board_builder.rs), on numbers in range. The crate's builder has no counters: that its steps keep them, that the two steps of document 02's
+//! order 12 set them, and what is out of range comes from the order's words.
 
+use crate::clock::Counters;
 use crate::part::{Part, Tally};
 use crate::records;
-use both::abi::{self, Answer, Record, Stepped};
+use both::abi::{self, Answer, Record, Stepped, LAST_COUNT};
 use both::numbers::{builder_of, color_of, man_of, record_of};
 use both::random::Random;
 use chess::{CastleRights, Square, ALL_FILES, ALL_RANKS, ALL_SQUARES};
@@ -23,6 +25,8 @@ pub enum Step {
     Side(u8),
     Rights(u8, u8),
     EnPassant(u8),
+    HalfMoves(u64),
+    FullMoves(u64),
 }
 
 #[derive(Clone)]
@@ -47,7 +51,29 @@ fn leaf_answers(leaf: &Leaf) -> (usize, Answer) {
     }
 }
 
-fn step_answers(record: &Record, step: &Step) -> (Record, Stepped) {
+/// Order 12: what a counter's step sets; none if the number, which has 64 bits and is never cut, is out of range.
+fn counted(record: &Record, step: &Step) -> Option<Record> {
+    let last = u64::from(LAST_COUNT);
+    match *step {
+        Step::HalfMoves(n) if n <= last => Some(Record { half_moves: n as u16, ..*record }),
+        Step::FullMoves(n) if n >= 1 && n <= last => Some(Record { full_moves: n as u16, ..*record }),
+        _ => None,
+    }
+}
+
+/// What is owed, and ours. A step on a record with a counter out of range is 5 too, and hands it back.
+fn step_answers(record: &Record, step: &Step) -> (Stepped, Stepped) {
+    let (of_crate, ours) = builder_answers(record, step);
+    let after = match step {
+        _ if !records::counters_in_range(record) => None,
+        Step::HalfMoves(_) | Step::FullMoves(_) => counted(record, step),
+        _ => Some(Counters::of(record).on(of_crate)),
+    };
+    (after.map_or(Stepped { number: 5, board: *record }, |board| Stepped { number: 0, board }), ours)
+}
+
+/// The crate's record after a step, which has no counters, and our answer.
+fn builder_answers(record: &Record, step: &Step) -> (Record, Stepped) {
     let mut builder = builder_of(record);
     let ours = match *step {
         Step::Piece(square, code) => {
@@ -71,8 +97,30 @@ fn step_answers(record: &Record, step: &Step) -> (Record, Stepped) {
             builder.en_passant((file as usize).checked_sub(1).map(|f| ALL_FILES[f]));
             abi::en_passant(*record, file)
         }
+        Step::HalfMoves(n) => abi::half_moves(*record, n),
+        Step::FullMoves(n) => abi::full_moves(*record, n),
     };
     (record_of(&builder), ours)
+}
+
+/// Every count around the range, and numbers that would be in range if they were cut, on two records.
+fn every_count() -> impl Iterator<Item = Input> {
+    let far = [16, 31, 32, 48, 63].into_iter().flat_map(|bit| [0, 1, 7, 9_999].map(|n| (1 << bit) + n)).chain([u64::MAX, 65_535]);
+    let counts = (0..u64::from(LAST_COUNT) + 100).chain(far);
+    counts.flat_map(|n| {
+        let full = Record { half_moves: LAST_COUNT, full_moves: LAST_COUNT, ..records::with(&[(4, 6)]) };
+        [records::EMPTY, full].into_iter().flat_map(move |r| [Step::HalfMoves(n), Step::FullMoves(n)].map(|s| Input::Step(r, s)))
+    })
+}
+
+/// Each step on records with a counter just out of range, zeros among them.
+fn out_of_range() -> impl Iterator<Item = Input> {
+    let over = LAST_COUNT + 1;
+    let given = [records::ZEROS, Record { half_moves: over, ..records::EMPTY }, Record { full_moves: over, ..records::EMPTY }];
+    let steps = [
+        Step::Piece(0, 1), Step::Clear(0), Step::Side(1), Step::Rights(0, 3), Step::EnPassant(8), Step::HalfMoves(0), Step::FullMoves(1),
+    ];
+    steps.into_iter().flat_map(move |step| given.map(|record| Input::Step(record, step.clone())))
 }
 
 pub struct Steps;
@@ -85,19 +133,26 @@ impl Part for Steps {
         let squares = (0..64).map(|n| Leaf::Square(n / 8, n % 8));
         let rights = (0..16).flat_map(|n| [Leaf::Add(n / 4, n % 4), Leaf::Remove(n / 4, n % 4)]);
         let castles = (0..128).map(|n| Leaf::SquareRights(n / 64, n % 64));
-        Box::new(squares.chain(rights).chain(castles).map(Input::Leaf))
+        Box::new(squares.chain(rights).chain(castles).map(Input::Leaf).chain(every_count()).chain(out_of_range()))
     }
 
     fn random(&mut self, random: &mut Random) -> Option<Input> {
+        let far = random.next() >> random.below(64);
         let mut n = |most: usize| random.below(most) as u8;
-        let step = match n(5) {
+        let step = match n(7) {
             0 => Step::Piece(n(64), 1 + n(12)),
             1 => Step::Clear(n(64)),
             2 => Step::Side(n(2)),
             3 => Step::Rights(n(2), n(4)),
-            _ => Step::EnPassant(n(9)),
+            4 => Step::EnPassant(n(9)),
+            5 => Step::HalfMoves(far),
+            _ => Step::FullMoves(far),
         };
-        Some(Input::Step(records::random(random), step))
+        let mut record = records::random(random);
+        if random.once_in(16) {
+            records::put_counter_out_of_range(&mut record, random);
+        }
+        Some(Input::Step(record, step))
     }
 
     fn compare(&self, input: &Input, tally: &mut Tally) -> Result<(), String> {
@@ -111,11 +166,11 @@ impl Part for Steps {
             }
             Input::Step(record, step) => {
                 let (owed, ours) = step_answers(record, step);
-                if ours != (Stepped { number: 0, board: owed }) {
-                    let shown = records::show(&ours.board);
-                    return Err(format!("crate {}, ours {} {}", records::show(&owed), ours.number, shown));
+                if ours != owed {
+                    let shown = |s: &Stepped| format!("{} {}", s.number, records::show(&s.board));
+                    return Err(format!("owed {}, ours {}", shown(&owed), shown(&ours)));
                 }
-                tally.count("steps: builder", true);
+                tally.count("steps: builder", owed.number == 0);
             }
         }
         Ok(())

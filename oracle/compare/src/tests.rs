@@ -67,7 +67,7 @@ fn games_of_test() -> Vec<(&'static str, bool)> {
 /// What `fake_pgn_parser` does, on both sides, and then the claim.
 fn play(text: &str, claim: bool, tally: &mut Tally) -> Result<(), String> {
     let mut pair = Pair::new();
-    pair.start(Board::default(), tally)?;
+    pair.start(STARTS[0], tally)?;
     for san in text.split_whitespace().filter(|s| !s.ends_with('.')) {
         let number = both_read(&pair.board(), san, tally)?;
         expect(san, pair.act(Act::Move(number), tally)?)?;
@@ -112,7 +112,7 @@ fn examples() -> Vec<Example> {
 
 fn run_example(example: &Example, tally: &mut Tally) -> Result<(), String> {
     let mut pair = Pair::new();
-    pair.start(Board::default(), tally)?;
+    pair.start(STARTS[0], tally)?;
     let mut accepted = true;
     for act in &example.acts {
         accepted = pair.act(*act, tally)?;

@@ -1,9 +1,10 @@
 //! One question to both sides. An answer is the text that the table has.
 
-use both::abi::{self, Answer, Fen, Log, Placed, Position, Record};
+use both::abi::{self, Answer, Fen, Log, Placed, Position, Record, LONGEST_FULL_FEN};
 use both::games::{board_of, moves_of};
-use both::numbers::{code_of, move_of, number_of, position_of, result_number};
+use both::numbers::{code_of, move_of, number_of, result_number};
 use chess::{Board, BoardBuilder, ChessMove, Error, Game, Piece, Square, ALL_COLORS, ALL_PIECES};
+use compare::clock::{Counters, Walk};
 use compare::san::Place;
 use compare::script::Act;
 use compare::{moves, records, rules};
@@ -17,6 +18,7 @@ type Told = Result<(String, String), String>;
 pub fn both(what: &str, input: &str) -> Told {
     match what {
         "fen" => fen(input),
+        "full" => full(input),
         "bytes" => Ok((NOT_ASKED.to_string(), fen_of_ours(&[number(input)? as u8]))),
         "get_en_passant" => get_en_passant(input),
         "board" => board(input),
@@ -28,23 +30,24 @@ pub fn both(what: &str, input: &str) -> Told {
         "log" => log(input),
         "sorted" => log_as(input, |_, list| list.sort_unstable()),
         "turned" => log_as(input, |last, list| if last { list.reverse() }),
-        "after" => after(input),
+        "after" => after(input, |fen| abi::fen_read(fen).board, text_of_ours),
+        "after_full" => after(input, |fen| abi::fen_read_full(fen).board, full_text_of_ours),
         "laws" => laws(input),
         "ruling" => ruling(input),
         _ => Err("nothing of that name is asked".to_string()),
     }
 }
 
-/// The key after a move; the crate's by the rule of the rank, and only if the move is legal there.
-fn after(input: &str) -> Told {
+/// The key after a move, or the full FEN; the crate's text by the rule of the rank, and only if the move is legal there.
+fn after(input: &str, read: impl Fn(&[u8]) -> Record, write: impl Fn(Record) -> String) -> Told {
     let (fen, text) = input.split_once("; ").ok_or("a FEN; a move are wanted")?;
     let m = ChessMove::from_str(text).map_err(|e| e.to_string())?;
     let of_crate = match Board::from_str(fen) {
         Ok(board) if board.legal(m) => rules::en_passant_rank(&BoardBuilder::from(board.make_move_new(m)).to_string()).0,
         _ => NOT_ASKED.to_string(),
     };
-    let stepped = abi::board_after(abi::fen_read(fen.as_bytes()).board, number_of(m) as u64);
-    Ok((of_crate, text_of_ours(stepped.board)))
+    let stepped = abi::board_after(read(fen.as_bytes()), number_of(m) as u64);
+    Ok((of_crate, write(stepped.board)))
 }
 
 fn number(text: &str) -> Result<u64, String> {
@@ -68,20 +71,39 @@ fn text_of_ours(record: Record) -> String {
     written(a, &room)
 }
 
-fn fen_of_ours(text: &[u8]) -> String {
-    match abi::fen_read(text) {
-        Fen { number: 0, board, .. } => text_of_ours(board),
+fn full_text_of_ours(record: Record) -> String {
+    let mut room = [0; LONGEST_FULL_FEN];
+    let a = abi::fen_write_full(record, &mut room);
+    written(a, &room)
+}
+
+/// What a reader of ours gave, written again.
+fn told(read: Fen, write: impl Fn(Record) -> String) -> String {
+    match read {
+        Fen { number: 0, board, .. } => write(board),
         Fen { number, offset, .. } => format!("{} {}", number, offset),
     }
 }
 
+fn fen_of_ours(text: &[u8]) -> String {
+    told(abi::fen_read(text), text_of_ours)
+}
+
+fn fen_of_crate(text: &str) -> Result<String, String> {
+    match BoardBuilder::from_str(text) {
+        Ok(builder) => Ok(builder.to_string()),
+        Err(Error::InvalidFen { .. }) => Ok("InvalidFen".to_string()),
+        Err(error) => Err(format!("the crate gives {:?}", error)),
+    }
+}
+
 fn fen(text: &str) -> Told {
-    let of_crate = match BoardBuilder::from_str(text) {
-        Ok(builder) => builder.to_string(),
-        Err(Error::InvalidFen { .. }) => "InvalidFen".to_string(),
-        Err(error) => return Err(format!("the crate gives {:?}", error)),
-    };
-    Ok((of_crate, fen_of_ours(text.as_bytes())))
+    Ok((fen_of_crate(text)?, fen_of_ours(text.as_bytes())))
+}
+
+/// By our pair that keeps the counters, which the crate drops.
+fn full(text: &str) -> Told {
+    Ok((fen_of_crate(text)?, told(abi::fen_read_full(text.as_bytes()), full_text_of_ours)))
 }
 
 /// Ours is the square that the FEN writer writes; the getter itself is no function of the archive, and `leaves` asks it.
@@ -103,7 +125,7 @@ fn board(text: &str) -> Told {
 
 /// The record without an en passant file that no enemy pawn stands beside, as docs/DIFFERENCES.md tells whoever files under keys.
 fn only_beside_a_pawn(record: Record) -> Record {
-    let r = &record.0;
+    let r = &record.numbers;
     let (rank, pawn) = if r[64] == 0 { (4, 1) } else { (3, 7) };
     let file = r[67] as i32 - 1;
     let mut beside = [file - 1, file + 1].into_iter().filter(|f| (0..8).contains(f));
@@ -211,19 +233,19 @@ fn played(input: &str) -> Result<Played, String> {
 /// With each list as the host arranges it, which is told whether it is the last one.
 fn played_as(input: &str, arrange: impl Fn(bool, &mut Vec<u16>)) -> Result<Played, String> {
     let (start, script) = input.split_once("; ").ok_or("a start; what is done are wanted")?;
-    let mut board = board_of(start);
-    let (mut game, mut log) = (Game::new_with_board(board), Log::new());
-    let mut position = position_of(&board);
+    let mut walk = Walk { board: board_of(start), counters: Counters::FIRST };
+    let (mut game, mut log) = (Game::new_with_board(walk.board), Log::new());
+    let mut position = walk.position();
     position.record = abi::fen_read(start.as_bytes()).board;
     arrange(false, &mut position.list);
     let begun = log.start(&position).number;
     let (mut number, mut our_number) = (0, begun);
     let words = words(script)?;
     for (at, word) in words.iter().enumerate() {
-        let act = act(word, &board)?;
-        board = act.after(&board);
+        let act = act(word, &walk.board)?;
+        walk.to(act.after(&walk.board));
         number = act.play(&mut game);
-        let mut next = position_of(&board);
+        let mut next = walk.position();
         arrange(at + 1 == words.len(), &mut next.list);
         if begun == 0 {
             our_number = play(&mut log, act, &next);

@@ -1,6 +1,7 @@
-//! Document 02, order 9: the record after a listed move, legal or not, sentence by sentence.
+//! Document 02, order 9: the record after a listed move, legal or not, sentence by sentence; and order 12: its counters.
 
-use crate::position::{Record, BLACK_RIGHTS, EN_PASSANT, SIDE, WHITE_RIGHTS};
+use crate::limits::LAST_COUNT;
+use crate::position::{Counters, Record, BLACK_RIGHTS, EN_PASSANT, SIDE, WHITE_RIGHTS};
 
 const PAWN: u8 = 1;
 const KING: u8 = 6;
@@ -56,6 +57,18 @@ pub fn record_after(before: &Record, m: u64) -> Record {
     }
     next[dest] = if promotion == 0 { man } else { of_colour(promotion, is_black(man)) };
     next
+}
+
+/// "by the PGN rule and stops at 9,999": the clock starts anew with a pawn on the source or an occupied destination, which is document 01's test of a
+/// move that is not reversible; the move number rises when black is to move.
+pub fn counters_after(before: &Record, counters: Counters, m: u64) -> Counters {
+    let (source, dest) = ((m % 64) as usize, (m / 64 % 64) as usize);
+    let restarts = kind(before[source]) == PAWN || before[dest] != 0;
+    let one_more = |count: u16| if count == LAST_COUNT { count } else { count + 1 };
+    Counters {
+        half: if restarts { 0 } else { one_more(counters.half) },
+        full: if before[SIDE] == 1 { one_more(counters.full) } else { counters.full },
+    }
 }
 
 /// A double pawn step that arrives beside an enemy pawn sets its file.

@@ -1,6 +1,6 @@
 //! A game as the calls that were accepted, with what documents 01 and 02 say of the next one, of results and of claims.
 
-use crate::after::record_after;
+use crate::after::{counters_after, record_after};
 use crate::limits::{ACTION, MOST_ACTIONS, MOST_MOVES, POSITION};
 use crate::position::{Position, BLACK_RIGHTS, SIDE, WHITE_RIGHTS};
 
@@ -122,7 +122,8 @@ impl History {
         if next.record[SIDE] == self.side() {
             return 12;
         }
-        if next.record != record_after(&self.last().record, m) {
+        let last = self.last();
+        if next.record != record_after(&last.record, m) || next.counters != counters_after(&last.record, last.counters, m) {
             return 24;
         }
         0
@@ -179,6 +180,7 @@ impl History {
 
     pub fn ruling(&self) -> Ruling {
         let (count, laws_count, run) = self.counts_and_run();
+        // "Equality of positions for repetition ignores both" counters.
         let key = |k: usize| (&self.positions[k].record, &self.positions[k].list);
         let (last, earlier) = run.split_last().expect("the last position is in the run");
         let equal: Vec<usize> = earlier.iter().copied().filter(|k| key(*k) == key(*last)).collect();

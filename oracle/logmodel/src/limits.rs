@@ -1,13 +1,16 @@
-//! The papers' numbers of the log, in one place: document 01's, the limits those of document 02, order 11.
+//! The papers' numbers of the log, in one place: document 01's, the limits those of document 02, order 11, the counters those of order 12.
 
 pub const MOST_ACTIONS: usize = 8_192;
 pub const MOST_MOVES: usize = 4_096;
 pub const LONGEST_LIST: usize = 255;
 pub const LARGEST_MOVE: u64 = 28_671;
+pub const LAST_COUNT: u16 = 9_999;
 
 pub const RECORD: usize = 68;
+/// The two counters, two bytes each.
+pub const COUNTERS: usize = 4;
 pub const ACTION: usize = 4;
-pub const POSITION: usize = RECORD + 2 + 2 * LONGEST_LIST;
+pub const POSITION: usize = RECORD + COUNTERS + 2 + 2 * LONGEST_LIST;
 
 /// The two lent parts.
 pub const ACTIONS_PART: usize = ACTION * MOST_ACTIONS;

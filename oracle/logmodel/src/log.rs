@@ -1,8 +1,9 @@
 //! The two lent parts, the counts, and what a line of the script makes of them.
 
+use crate::after::counters_after;
 use crate::history::{Call, History};
-use crate::limits::{ACTION, ACTIONS_PART, MOST_ACTIONS, MOST_MOVES, POSITION, POSITIONS_PART, SPARE};
-use crate::position::Position;
+use crate::limits::{ACTION, ACTIONS_PART, LARGEST_MOVE, MOST_ACTIONS, MOST_MOVES, POSITION, POSITIONS_PART, SPARE};
+use crate::position::{Counters, Position};
 
 pub struct Log {
     pub actions: Vec<u8>,
@@ -62,7 +63,17 @@ impl Log {
         self.counted(number)
     }
 
-    /// A new action writes its 4 bytes, a new position its 580.
+    /// The counters that a move gives from the position that the counts say is the last. Where that is none, or it is no move, the call is refused
+    /// whatever the counters are.
+    pub fn counters_after(&self, m: u64) -> Counters {
+        let at = POSITION * self.counts.1.min(MOST_MOVES as u64) as usize;
+        match Position::stored(&self.positions[at..at + POSITION]) {
+            Some(last) if last.answer() == 0 && m <= LARGEST_MOVE => counters_after(&last.record, last.counters, m),
+            _ => Counters::FIRST,
+        }
+    }
+
+    /// A new action writes its 4 bytes, a new position its 584.
     fn write(&mut self, call: &Call) {
         let (n, m) = (self.counts.0 as usize, self.counts.1 as usize);
         self.actions[ACTION * n..ACTION * (n + 1)].copy_from_slice(&call.bytes());

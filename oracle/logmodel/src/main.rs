@@ -3,8 +3,9 @@
 //!     oracle/remake-log           makes them anew in crates/replay/stdout
 //!     oracle/remake-log --check   only compares
 //!
-//! Written from the documents' words: order 5 for the count of article 9.3, order 9 for the record after a move. Neither our code nor the
-//! crate's is used. A log is good if the bytes can be read back into a start and calls that, played again, are all accepted and leave these bytes.
+//! Written from the documents' words: order 5 for the count of article 9.3, order 9 for the record after a move, order 12 for its counters. Neither our
+//! code nor the crate's is used. A log is good if the bytes can be read back into a start and calls that, played again, are all accepted and leave these
+//! bytes.
 
 mod after;
 mod history;
@@ -15,11 +16,11 @@ mod position;
 use history::Call;
 use limits::{LONGEST_READ, RECORD};
 use log::Log;
-use position::{read_fen, Position};
+use position::{read_counters, read_fen, Counters, Position};
 use std::io::{self, Read, Write};
 
-/// One of the 68 numbers of the next board, and what it is set to.
-type Poke = Option<(usize, u8)>;
+/// One of the 70 numbers of the next board, the last two its counters, and what it is set to; of a number before them the low byte.
+type Poke = Option<(usize, u16)>;
 
 fn number(word: &[u8]) -> Option<u64> {
     let digits = std::str::from_utf8(word).ok()?;
@@ -41,12 +42,17 @@ fn list(word: &[u8]) -> Option<Vec<u16>> {
     moves.filter(|moves| moves.len() <= LONGEST_READ)
 }
 
-fn position(check: &[u8], moves: &[u8], fen: &[&[u8]], poke: Poke) -> Option<Position> {
-    let mut record = read_fen(&fen.join(&b' '))?;
-    if let Some((at, value)) = poke.filter(|(at, _)| *at < RECORD) {
-        record[at] = value;
+/// The position that a line gives, with its own counters or, if its FEN has none, with the others.
+fn position(check: &[u8], moves: &[u8], fen: &[&[u8]], poke: Poke, others: Counters) -> Option<Position> {
+    let fen = fen.join(&b' ');
+    let (mut record, mut counters) = (read_fen(&fen)?, read_counters(&fen).unwrap_or(others));
+    match poke {
+        Some((at @ ..RECORD, value)) => record[at] = (value % 256) as u8,
+        Some((RECORD, value)) => counters.half = value,
+        Some((at, value)) if at == RECORD + 1 => counters.full = value,
+        _ => (),
     }
-    Some(Position { record, check: byte(check)?, list: list(moves)? })
+    Some(Position { record, counters, check: byte(check)?, list: list(moves)? })
 }
 
 /// Sets a byte of a part. None: there is no such part or byte.
@@ -64,10 +70,12 @@ fn set(log: &mut Log, part: &[u8], offset: u64, value: u8) -> Option<()> {
 fn play(log: &mut Log, poke: &mut Poke, line: &[u8]) -> Option<String> {
     let words: Vec<&[u8]> = line.split(|b| *b == b' ').collect();
     let said = match words[..] {
-        [b"s", check, moves, ref fen @ ..] if !fen.is_empty() => log.start(&position(check, moves, fen, poke.take())?),
+        [b"s", check, moves, ref fen @ ..] if !fen.is_empty() => log.start(&position(check, moves, fen, poke.take(), Counters::FIRST)?),
         [b"m", m, check, moves, ref fen @ ..] if !fen.is_empty() => {
-            let next = position(check, moves, fen, poke.take());
-            log.call(&Call::Move(number(m)?, next?))
+            let poke = poke.take();
+            let m = number(m)?;
+            let next = position(check, moves, fen, poke, log.counters_after(m))?;
+            log.call(&Call::Move(m, next))
         }
         [b"o", colour] => log.call(&Call::Offer(byte(colour)?)),
         [b"r", colour] => log.call(&Call::Resign(byte(colour)?)),
@@ -89,7 +97,7 @@ fn set_up(log: &mut Log, poke: &mut Poke, words: &[&[u8]]) -> Option<()> {
         [b"c", actions, moves] => log.counts = (number(actions)?, number(moves)?),
         [b"l", actions, positions] => log.lent = (number(actions)?, number(positions)?),
         [b"f", value] => log.fill(byte(value)?),
-        [b"k", at, value] => *poke = Some((usize::from(byte(at)?), byte(value)?)),
+        [b"k", at, value] => *poke = Some((usize::from(byte(at)?), u16::try_from(number(value)?).ok()?)),
         [b"b", part, offset, value] => set(log, part, number(offset)?, byte(value)?)?,
         _ => return None,
     }

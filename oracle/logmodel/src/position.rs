@@ -1,6 +1,7 @@
-//! A position of the log: record, in-check byte and list. Records come from FEN texts, as document 01 reads them, or from stored bytes.
+//! A position of the log: record with its counters, in-check byte and list. Records come from FEN texts, as documents 01 and 02 (order 12) read them, or
+//! from stored bytes.
 
-use crate::limits::{LARGEST_MOVE, LONGEST_LIST, POSITION, RECORD};
+use crate::limits::{COUNTERS, LARGEST_MOVE, LAST_COUNT, LONGEST_LIST, POSITION, RECORD};
 
 pub const SIDE: usize = 64;
 pub const WHITE_RIGHTS: usize = 65;
@@ -10,9 +11,26 @@ pub const EN_PASSANT: usize = 67;
 /// 64 squares, side, white's rights, black's rights, en passant.
 pub type Record = [u8; RECORD];
 
+/// The half-move clock, 0 to 9,999, and the move number, 1 to 9,999.
+#[derive(Clone, Copy, PartialEq)]
+pub struct Counters {
+    pub half: u16,
+    pub full: u16,
+}
+
+impl Counters {
+    /// "The crate's FEN reader sets 0 and 1."
+    pub const FIRST: Counters = Counters { half: 0, full: 1 };
+
+    fn in_range(self) -> bool {
+        self.half <= LAST_COUNT && self.full != 0 && self.full <= LAST_COUNT
+    }
+}
+
 #[derive(Clone, PartialEq)]
 pub struct Position {
     pub record: Record,
+    pub counters: Counters,
     pub check: u8,
     pub list: Vec<u16>,
 }
@@ -26,7 +44,7 @@ impl Position {
             EN_PASSANT => 8,
             _ => 12,
         };
-        if self.check > 1 || self.record.iter().enumerate().any(|(at, n)| *n > most(at)) {
+        if self.check > 1 || !self.counters.in_range() || self.record.iter().enumerate().any(|(at, n)| *n > most(at)) {
             return 5;
         }
         if self.list.len() > LONGEST_LIST || self.list.iter().any(|m| u64::from(*m) > LARGEST_MOVE) {
@@ -35,9 +53,10 @@ impl Position {
         0
     }
 
-    /// The 580 bytes; unused entries are 0. Only of a position that is not refused.
+    /// The 584 bytes: "each as two bytes, low first, after the 68 old record bytes"; unused entries are 0. Only of a position that is not refused.
     pub fn bytes(&self) -> Vec<u8> {
         let mut bytes = self.record.to_vec();
+        bytes.extend([self.counters.half, self.counters.full].iter().flat_map(|counter| counter.to_le_bytes()));
         bytes.push(self.check);
         bytes.push(u8::try_from(self.list.len()).expect("a list of at most 255"));
         bytes.extend(self.list.iter().flat_map(|m| m.to_le_bytes()));
@@ -45,17 +64,30 @@ impl Position {
         bytes
     }
 
-    /// The position that is written as these 580 bytes, if there is one: unused entries are 0.
+    /// The position that is written as these 584 bytes, if there is one: unused entries are 0.
     pub fn stored(bytes: &[u8]) -> Option<Position> {
-        let mut record = [0; RECORD];
-        record.copy_from_slice(&bytes[..RECORD]);
-        let (used, unused) = bytes[RECORD + 2..].split_at(2 * usize::from(bytes[RECORD + 1]));
+        let two = |b: &[u8]| u16::from_le_bytes([b[0], b[1]]);
+        let (numbers, behind) = bytes.split_at(RECORD);
+        let (counters, behind) = behind.split_at(COUNTERS);
+        let (used, unused) = behind[2..].split_at(2 * usize::from(behind[1]));
         if unused.iter().any(|b| *b != 0) {
             return None;
         }
-        let list = used.chunks_exact(2).map(|e| u16::from_le_bytes([e[0], e[1]])).collect();
-        Some(Position { record, check: bytes[RECORD], list })
+        let mut record = [0; RECORD];
+        record.copy_from_slice(numbers);
+        let counters = Counters { half: two(counters), full: two(&counters[2..]) };
+        Some(Position { record, counters, check: behind[0], list: used.chunks_exact(2).map(two).collect() })
     }
+}
+
+/// The counters that a FEN text says in its fifth and its sixth token, one to four digits each, or none.
+pub fn read_counters(text: &[u8]) -> Option<Counters> {
+    let mut said = text.split(|b| *b == b' ').skip(4).map(|token| match token.len() {
+        1..=4 if token.iter().all(u8::is_ascii_digit) => Some(token.iter().fold(0, |sum, digit| 10 * sum + u16::from(digit - b'0'))),
+        _ => None,
+    });
+    let counters = Counters { half: said.next()??, full: said.next()?? };
+    counters.in_range().then_some(counters)
 }
 
 /// The record that a FEN text says, or none.

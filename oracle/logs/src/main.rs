@@ -6,10 +6,10 @@
 //! For each game N the files N.actions, N.positions and N.told. A line of the last is the start or an action and what holds
 //! after it, in words between tabs, by the names of `HEAD`.
 
-use both::games::board_of;
-use both::numbers::{number_of, position_of, result_number};
+use both::numbers::{number_of, result_number};
 use both::random::Random;
 use chess::{Action, Board, Game};
+use compare::clock::{Counters, Walk};
 use compare::names::owed;
 use compare::pair::{action_bytes, position_bytes};
 use compare::rules::en_passant_rank;
@@ -21,13 +21,13 @@ use std::path::Path;
 const RANDOM_GAMES: usize = 40;
 
 const HEAD: &str = "action\tmoves\tside\tkind\tname\tcoordinates\tkey\tin_check\tlist\tresult\tclaim\tlaws_claim\tcount\tlaws_count\t\
-                    equals\tfirst\tsecond\tcauses";
+                    equals\tfirst\tsecond\tcauses\thalf\tfull";
 
 /// A game of the crate with what a log of it holds.
 struct Told {
     game: Game,
     course: Course,
-    board: Board,
+    walk: Walk,
     moves: usize,
     actions: Vec<u8>,
     positions: Vec<u8>,
@@ -37,20 +37,20 @@ struct Told {
 }
 
 impl Told {
-    fn start(board: Board) -> Result<Told, String> {
-        let mut course = Course::default();
-        course.start(board);
-        let positions = position_bytes(&position_of(&board)).to_vec();
-        let game = Game::new_with_board(board);
-        let causes = "start".to_string();
-        let mut told = Told { game, course, board, moves: 0, actions: vec![], positions, lines: vec![HEAD.to_string()], causes };
+    fn start(fen: &str) -> Result<Told, String> {
+        let (walk, mut course) = (Walk::start(fen), Course::default());
+        course.start(walk.board);
+        let positions = position_bytes(&walk.position()).to_vec();
+        let game = Game::new_with_board(walk.board);
+        let (causes, lines) = ("start".to_string(), vec![HEAD.to_string()]);
+        let mut told = Told { game, course, walk, moves: 0, actions: vec![], positions, lines, causes };
         told.tell(["-".to_string(), "start".to_string(), "-".to_string(), "-".to_string()])?;
         Ok(told)
     }
 
     /// Gives the act to the crate; what it refuses is in no log.
     fn act(&mut self, act: Act) -> Result<(), String> {
-        let before = self.board;
+        let before = self.walk.board;
         let next = act.after(&before);
         if act.play(&mut self.game) != 0 {
             return Ok(());
@@ -58,10 +58,10 @@ impl Told {
         let action = *self.game.actions().last().ok_or("an accepted action")?;
         self.actions.extend(action_bytes(&action));
         if let Act::Move(_) = act {
-            self.board = next;
+            self.walk.to(next);
             self.course.add(next);
             self.moves += 1;
-            self.positions.extend(position_bytes(&position_of(&next)));
+            self.positions.extend(position_bytes(&self.walk.position()));
             self.causes = causes(&before, &next);
         }
         let words = words(&before, &action)?;
@@ -69,18 +69,18 @@ impl Told {
     }
 
     fn tell(&mut self, words: [String; 4]) -> Result<(), String> {
-        let position = position_of(&self.board);
+        let position = self.walk.position();
         let (owed, claim) = (self.course.owed(&self.game), self.game.can_declare_draw());
         if claim != (owed.claim != 0) {
             return Err("the crate and document 01's words differ about a claim".to_string());
         }
         let (number, moves, words) = (self.actions.len() / 4, self.moves, words.join("\t"));
-        let (key, _) = en_passant_rank(&self.board.to_string());
+        let (key, _) = en_passant_rank(&self.walk.board.to_string());
         let (in_check, list, result) = (position.in_check, position.list.len(), result_number(self.game.result()));
         let counts = [owed.claim, owed.laws_claim, owed.count, owed.laws_count, owed.equals, owed.first, owed.second];
         let counts = counts.map(|n| n.to_string()).join("\t");
-        let causes = &self.causes;
-        self.lines.push(format!("{number}\t{moves}\t{words}\t{key}\t{in_check}\t{list}\t{result}\t{counts}\t{causes}"));
+        let (causes, Counters { half, full }) = (&self.causes, self.walk.counters);
+        self.lines.push(format!("{number}\t{moves}\t{words}\t{key}\t{in_check}\t{list}\t{result}\t{counts}\t{causes}\t{half}\t{full}"));
         Ok(())
     }
 }
@@ -111,7 +111,7 @@ fn causes(before: &Board, after: &Board) -> String {
 }
 
 fn write(folder: &Path, number: usize, script: &Script) -> Result<(), String> {
-    let mut told = Told::start(board_of(&script.start))?;
+    let mut told = Told::start(&script.start)?;
     for act in &script.acts {
         told.act(*act)?;
     }

@@ -5,8 +5,10 @@
 //! without check marks; where they differ, both are shown.
 //!
 //!     openings FILE.pgn
-//!     openings --random    only writes random games with castling, promotions and en passant, their moves by squares
+//!     openings --fens FILE.pgn    only compares the FENs, clocks and move numbers too, that stand behind each move as pgn-extract writes them
+//!     openings --random           only writes random games with castling, promotions and en passant, their moves by squares
 
+mod fens;
 mod pgn;
 
 use both::abi;
@@ -94,7 +96,7 @@ impl Player {
         }
         self.standard(&place, text, number)?;
         for listed in &place.list {
-            After::default().compare(&after::Input::Legal(self.pair.board(), *listed), &mut self.tally)?;
+            After::default().compare(&after::Input::Legal(self.pair.board(), self.pair.counters(), *listed), &mut self.tally)?;
         }
         if !self.pair.act(Act::Move(number), &mut self.tally)? {
             return Err(format!("{:?} is not logged", text));
@@ -103,9 +105,8 @@ impl Player {
     }
 
     fn game(&mut self, texts: &[String]) -> Result<(), String> {
-        let start = board_of(STARTS[0]);
-        self.pair.start(start, &mut self.tally)?;
-        self.key(&start)?;
+        self.pair.start(STARTS[0], &mut self.tally)?;
+        self.key(&board_of(STARTS[0]))?;
         for (i, text) in texts.iter().enumerate() {
             self.play(text).map_err(|why| format!("move {} of {:?}: {}", i + 1, texts.join(" "), why))?;
         }
@@ -167,20 +168,50 @@ fn report(player: &Player) {
     println!("standard's form: {} texts are refused in document 01's form", player.only_standard);
 }
 
-fn main() {
-    let words: Vec<String> = std::env::args().skip(1).collect();
-    let [path] = &words[..] else {
-        eprintln!("usage: openings FILE.pgn | --random");
-        exit(2);
-    };
-    if path == "--random" {
-        return print!("{}", pgn::random_games(RANDOM_GAMES));
-    }
-    let text = std::fs::read_to_string(path).unwrap_or_else(|why| {
+fn text_of(path: &str) -> String {
+    std::fs::read_to_string(path).unwrap_or_else(|why| {
         eprintln!("openings: {}: {}", path, why);
         exit(2);
-    });
-    let games = walked_games(&text);
+    })
+}
+
+/// The FENs behind the moves of a file. Says whether all are ours.
+fn compare_fens(text: &str) -> bool {
+    let games = fens::games(text);
+    let (mut positions, mut differ) = (0, 0);
+    for (i, game) in games.iter().enumerate() {
+        match fens::compare(game) {
+            Ok(compared) => positions += compared,
+            Err(why) => {
+                println!("differs: game {}: {}", i + 1, why);
+                differ += 1;
+            }
+        }
+    }
+    println!("fens: {} games, {} positions with the clock and the move number of the file, {} games differ", games.len(), positions, differ);
+    differ == 0 && positions > 0
+}
+
+fn main() {
+    let words: Vec<String> = std::env::args().skip(1).collect();
+    let words: Vec<&str> = words.iter().map(String::as_str).collect();
+    let good = match words[..] {
+        ["--random"] => return print!("{}", pgn::random_games(RANDOM_GAMES)),
+        ["--fens", path] => compare_fens(&text_of(path)),
+        [path] => play_all(&text_of(path)),
+        _ => {
+            eprintln!("usage: openings FILE.pgn | --fens FILE.pgn | --random");
+            exit(2);
+        }
+    };
+    if !good {
+        exit(1);
+    }
+}
+
+/// Plays the games of a file. Says whether all agreed.
+fn play_all(text: &str) -> bool {
+    let games = walked_games(text);
     let mut player = Player { pair: Pair::new(), tally: Tally::default(), only_standard: 0, as_in_file: 0, otherwise: vec![] };
     let mut differ = 0;
     for (line, texts) in &games {
@@ -195,7 +226,5 @@ fn main() {
     }
     report(&player);
     println!("openings: {} games, {} comparisons, {} games differ", games.len(), player.tally.agreed(), differ);
-    if differ > 0 || games.is_empty() {
-        exit(1);
-    }
+    differ == 0 && !games.is_empty()
 }

@@ -4,7 +4,7 @@ use both::games::{board_of, random_move, STARTS};
 use both::random::Random;
 use chess::Color;
 
-const RESULTS: [&str; 4] = ["*", "1-0", "0-1", "1/2-1/2"];
+pub const RESULTS: [&str; 4] = ["*", "1-0", "0-1", "1/2-1/2"];
 
 /// The text with comments as spaces, so that lines keep their numbers.
 fn without_comments(text: &str) -> String {
@@ -17,7 +17,7 @@ fn without_comments(text: &str) -> String {
 }
 
 /// A word without the move number before it; nothing if it is only that.
-fn move_text(word: &str) -> Option<&str> {
+pub fn move_text(word: &str) -> Option<&str> {
     let text = word.trim_start_matches(|c: char| c.is_ascii_digit()).trim_start_matches('.');
     if text.len() == word.len() || word.contains('.') { Some(text).filter(|t| !t.is_empty()) } else { None }
 }

@@ -62,7 +62,7 @@ fn board(builder: &BoardBuilder) -> String {
         told += &accepted(builder.get_castle_rights(color).to_index());
     }
     told += &accepted(en_passant(builder));
-    let men = &record_of(builder).0[..64];
+    let men = &record_of(builder).numbers[..64];
     men.iter().fold(told, |told, code| told + &accepted(*code as usize))
 }
 

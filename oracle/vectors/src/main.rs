@@ -7,19 +7,22 @@
 mod leaves;
 mod pages;
 
-use both::games::{board_of, Positions};
-use both::numbers::{builder_of, move_of, position_of, result_number, MOST_MOVE};
+use both::games::{random_move, Positions};
+use both::numbers::{builder_of, move_of, number_of, result_number, MOST_MOVE};
 use both::random::Random;
-use chess::{Board, Game};
+use chess::Game;
+use compare::clock::{Counters, Walk};
 use compare::part::Part;
 use compare::san::{random_place, Input as SanInput, Place, SanAny, SanLegal};
 use compare::script::{self, Act, Script};
-use compare::{fen, moves, names, records, rules};
+use compare::{fen, full_fen, moves, names, records, rules};
 use std::collections::HashSet;
 use std::fmt::Write as _;
 use std::rc::Rc;
 
 const TEXTS: usize = 5_000;
+/// So many FENs with their counters, and boards after a move (document 02, order 12).
+const COUNTED: usize = 2_000;
 const GAMES: usize = 100;
 /// Long texts and games are the comparison's; here they would only make the files large.
 const LONGEST_TEXT: usize = 100;
@@ -105,6 +108,39 @@ fn fen_texts(out: &mut Vectors) -> Result<(), String> {
     let (mut part, mut random) = (fen::FenRead::default(), Random::new(1, "vectors: FEN"));
     let texts = different(TEXTS, || part.random(&mut random));
     texts.iter().try_for_each(|text| fen_text(out, text))
+}
+
+/// A full FEN: of its first four tokens the crate decides, of its counters the words of order 12.
+fn full_text(out: &mut Vectors, text: &str) -> Result<(), String> {
+    let owed = full_fen::owed_full(text)?;
+    let told = if owed.number == 0 { full_fen::owed_full_text(&owed.board)? } else { owed.offset.to_string() };
+    out.told(&format!("G {}", text), &format!("{} {}", owed.number, told));
+    Ok(())
+}
+
+fn full_texts(out: &mut Vectors) -> Result<(), String> {
+    out.heading(&format!("{} FEN texts with their counters: the number, and the full FEN of the board or the place of what is wrong", COUNTED));
+    let (mut part, mut random) = (full_fen::FullRead::default(), Random::new(1, "vectors: full FEN"));
+    let texts = different(COUNTED, || part.random(&mut random));
+    texts.iter().try_for_each(|text| full_text(out, text))
+}
+
+/// Legal moves of random games, from positions with any counters.
+fn boards_after(out: &mut Vectors) -> Result<(), String> {
+    out.heading(&format!("the board after {} legal moves: the number and its full FEN", COUNTED));
+    let (mut positions, mut random) = (Positions::default(), Random::new(1, "vectors: after"));
+    let mut left = COUNTED;
+    while left > 0 {
+        let board = positions.next(&mut random);
+        let mut walk = Walk { board, counters: Counters::of(&records::counted(records::EMPTY, &random)) };
+        let Some(m) = random_move(&board, &mut random) else { continue };
+        let before = full_fen::owed_full_text(&walk.position().record)?;
+        walk.to(board.make_move_new(m));
+        let after = full_fen::owed_full_text(&walk.position().record)?;
+        out.told(&format!("A {} {}", number_of(m), before), &format!("0 {}", after));
+        left -= 1;
+    }
+    Ok(())
 }
 
 fn coordinate_text(out: &mut Vectors, text: &str) -> Result<(), String> {
@@ -205,12 +241,13 @@ fn names_of_moves(out: &mut Vectors) -> Result<(), String> {
     Ok(())
 }
 
-fn position_words(board: &Board) -> String {
-    let position = position_of(board);
-    format!("{} {} {}", position.in_check, list_text(&position.list), key_of(&position.record))
+/// The position as the log's lines have it, its FEN with its counters.
+fn position_words(walk: &Walk) -> String {
+    let position = walk.position();
+    format!("{} {} {}", position.in_check, list_text(&position.list), walk.counters.behind(&key_of(&position.record)))
 }
 
-fn act_line(act: Act, after: &Board) -> String {
+fn act_line(act: Act, after: &Walk) -> String {
     match act {
         Act::Move(number) => format!("m {} {}", number, position_words(after)),
         Act::Offer(colour) => format!("o {}", colour),
@@ -225,20 +262,21 @@ fn ask(out: &mut Vectors, game: &Game) {
     out.told("?", &format!("0 {} 0 {}", result, claim));
 }
 
-/// One game, asked after each action.
+/// One game, asked after each action. Its counters are counted from the crate's boards.
 fn play(out: &mut Vectors, script: &Script) {
-    let mut board = board_of(&script.start);
-    let mut game = Game::new_with_board(board);
+    let mut walk = Walk::start(&script.start);
+    let mut game = Game::new_with_board(walk.board);
     let (mut actions, mut moves) = (0, 0);
-    out.told(&format!("s {}", position_words(&board)), "0 0 0");
+    out.told(&format!("s {}", position_words(&walk)), "0 0 0");
     ask(out, &game);
     for act in &script.acts {
-        let after = act.after(&board);
+        let mut after = walk;
+        after.to(act.after(&walk.board));
         let number = act.play(&mut game);
         if number == 0 {
             actions += 1;
             moves += matches!(act, Act::Move(_)) as u64;
-            board = after;
+            walk = after;
         }
         out.told(&act_line(*act, &after), &format!("{} {} {}", number, actions, moves));
         ask(out, &game);
@@ -249,7 +287,7 @@ fn games(out: &mut Vectors) {
     let mut random = Random::new(1, "vectors: games");
     let chance = std::iter::repeat_with(|| script::random(&mut random));
     let short = chance.filter(|s| s.acts.len() <= LONGEST_GAME).take(GAMES);
-    let all: Vec<Script> = script::told().into_iter().chain(short).collect();
+    let all: Vec<Script> = script::told().into_iter().chain(script::counted()).chain(short).collect();
     out.heading(&format!("{} games, asked after each action", all.len()));
     for script in &all {
         play(out, script);
@@ -268,6 +306,8 @@ fn make() -> Result<Vectors, String> {
     san_texts(&mut out, "legal lists", || legal.random(&mut random))?;
     san_texts(&mut out, "any lists", || any.random(&mut random))?;
     names_of_moves(&mut out)?;
+    full_texts(&mut out)?;
+    boards_after(&mut out)?;
     games(&mut out);
     Ok(out)
 }

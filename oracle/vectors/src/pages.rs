@@ -149,7 +149,7 @@ fn record(fen: &Fen) -> String {
         return "-".to_string();
     }
     let digits = |numbers: &[u8]| numbers.iter().map(|n| format!("{:x}", n)).collect::<String>();
-    fen.board.0.chunks(8).map(digits).collect::<Vec<_>>().join("/")
+    fen.board.numbers.chunks(8).map(digits).collect::<Vec<_>>().join("/")
 }
 
 fn put(out: &mut String, page: &Page) -> Result<(), String> {
