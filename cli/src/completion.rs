@@ -10,8 +10,7 @@ pub fn run(asked: &Asked) -> Result<Status, Stop> {
     let script = match asked.words[0].as_bytes() {
         b"bash" => bash(),
         b"zsh" => zsh(),
-        b"fish" => fish(),
-        other => return Err(Stop::Trouble([b"completion: ", other, b" is not bash, zsh or fish"].concat())),
+        _ => fish(),
     };
     let mut output: Output = Output::new()?;
     output.put(script.as_bytes())?;
@@ -42,8 +41,12 @@ fn bash() -> String {
         let options: Vec<String> = flags(command).map(|flag| format!("--{}", flag.name)).collect();
         let words =
             [options.as_slice(), &choices(command).unwrap_or_default().iter().map(|word| word.to_string()).collect::<Vec<_>>()].concat();
+        let (name, words) = (command.name, words.join(" "));
         let files = if takes_files(command) { " files=1" } else { "" };
-        told += &format!("    *:{}) words='{}'{files} ;;\n", command.name, words.join(" "));
+        if takes_files(command) && choices(command).is_some() {
+            told += &format!("    2:{name}) words='{words}' ;;\n");
+        }
+        told += &format!("    *:{name}) words='{words}'{files} ;;\n");
     }
     told += "    esac\n    COMPREPLY=()\n    [ -z \"$files\" ] || case $now in -*) ;; *) mapfile -t COMPREPLY < <(compgen -f -- \"$now\") ;; esac\n";
     told += "    [ \"${#COMPREPLY[@]}\" -gt 0 ] || mapfile -t COMPREPLY < <(compgen -W \"$words\" -- \"$now\")\n}\n";
@@ -69,12 +72,9 @@ fn zsh() -> String {
             let value = flag.value.map_or(String::new(), |value| format!(":{value}: "));
             quoted(&format!("--{}[{}]{value}", flag.name, escaped(flag.about)))
         };
-        let rest = match (choices(command), takes_files(command)) {
-            (Some(words), _) => vec![quoted(&format!("*:word:({})", words.join(" ")))],
-            (None, true) => vec![quoted("*:file:_files")],
-            (None, false) => vec![],
-        };
-        let words: Vec<String> = flags(command).map(flag).chain(rest).collect();
+        let choice = choices(command).map(|words| quoted(&format!("1:word:({})", words.join(" "))));
+        let files = takes_files(command).then(|| quoted("*:file:_files"));
+        let words: Vec<String> = flags(command).map(flag).chain(choice).chain(files).collect();
         told += &format!("    {}) shift words; (( CURRENT-- )); _arguments {} ;;\n", command.name, words.join(" "));
     }
     told + "    esac\n}\n_menkhodur \"$@\"\n"
@@ -96,7 +96,9 @@ fn fish() -> String {
             told += &format!("complete -c menkhodur -n {seen} -F\n");
         }
         if let Some(words) = choices(command) {
-            told += &format!("complete -c menkhodur -n {seen} -a {}\n", quoted(&words.join(" ")));
+            let words = words.join(" ");
+            let wanted = quoted(&format!("__fish_seen_subcommand_from {}; and not __fish_seen_subcommand_from {words}", command.name));
+            told += &format!("complete -c menkhodur -n {wanted} -a {}\n", quoted(&words));
         }
     }
     told

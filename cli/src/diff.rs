@@ -3,24 +3,21 @@
 use crate::input;
 use crate::options::{Asked, Flag, Status, Stop};
 use crate::output::Output;
+use crate::roll;
 use crate::told;
-use menkhodur::lent::MAX_ROLL;
-use menkhodur::{Action, CastleRights, Color, Difference, File, Piece, Which, differences};
-use std::ffi::OsStr;
-use std::io::Read;
+use menkhodur::{Action, CastleRights, Color, Difference, Differences, File, Piece, Refused, Roll, Which, differences};
 
 pub const NAMES: Flag = Flag { name: "names", value: None, about: "after a tab, name squares, men and actions in words" };
-
-/// No roll has more bytes than this, and no number in one more than five: what stands behind them changes no answer.
-const LOOKED_AT: u64 = MAX_ROLL as u64 + 8;
+pub const OLD_FIRST: Flag = Flag { name: "old-first", value: None, about: "FIRST is an old roll, without counters" };
+pub const OLD_SECOND: Flag = Flag { name: "old-second", value: None, about: "SECOND is an old roll, without counters" };
 
 pub fn run(asked: &Asked) -> Result<Status, Stop> {
     if asked.words.iter().all(|word| word == "-") {
         return Err(Stop::trouble("standard input can be only one of FIRST and SECOND"));
     }
-    let (first, second) = (roll(&asked.words[0])?, roll(&asked.words[1])?);
+    let (first, second) = (roll::read(&asked.words[0])?, roll::read(&asked.words[1])?);
     let mut output: Output = Output::new()?;
-    let lines = match differences(first, second) {
+    let lines = match compared(asked, first, second) {
         Ok(lines) => lines,
         Err(refused) => {
             output.put(format!("{}\n", refused.error.number()).as_bytes())?;
@@ -41,11 +38,17 @@ pub fn run(asked: &Asked) -> Result<Status, Stop> {
     Ok(status)
 }
 
-fn roll(word: &OsStr) -> Result<Vec<u8>, Stop> {
-    let mut bytes = vec![];
-    let read = input::open(word).and_then(|file| file.take(LOOKED_AT).read_to_end(&mut bytes));
-    read.map_err(|error| Stop::Trouble(input::failed(word, &error)))?;
-    Ok(bytes)
+/// What differs, old rolls being compared as they are written anew. Where both would be refused, it is the first.
+fn compared(asked: &Asked, first: Vec<u8>, second: Vec<u8>) -> Result<Differences, Refused> {
+    let anew = |roll: Vec<u8>, old: &Flag| if asked.has(old) { roll::upgraded(&roll) } else { Ok(roll) };
+    let first = anew(first, &OLD_FIRST).map_err(|error| Refused { roll: Which::First, error })?;
+    match anew(second, &OLD_SECOND) {
+        Ok(second) => differences(first, second),
+        Err(error) => Err(match Roll::from_bytes(first) {
+            Ok(_) => Refused { roll: Which::Second, error },
+            Err(error) => Refused { roll: Which::First, error },
+        }),
+    }
 }
 
 /// What a line says, in words: what it is of, then the first and the second game.
@@ -56,6 +59,8 @@ fn named(difference: &Difference) -> String {
         Difference::White { first, second } => format!("white may castle: {}, {}", rights(first), rights(second)),
         Difference::Black { first, second } => format!("black may castle: {}, {}", rights(first), rights(second)),
         Difference::EnPassant { first, second } => format!("en passant file: {}, {}", file(first), file(second)),
+        Difference::HalfMoves { first, second } => format!("half-move clock: {first}, {second}"),
+        Difference::FullMoves { first, second } => format!("move number: {first}, {second}"),
         Difference::Action { index, first, second } => format!("action {index}: {}, {}", action(first), action(second)),
     }
 }

@@ -105,24 +105,18 @@ impl Entry {
             What::Move(made, name) => object.text_or_null("name", name.as_deref()).text("coordinates", &made.to_string()),
             _ => object,
         };
-        object.text("key", &self.board.to_fen()).raw("in_check", self.in_check).raw("list", self.list).end()
+        self.placed(object).raw("in_check", self.in_check).raw("list", self.list).end()
+    }
+
+    /// The position: its key, and its FEN with the counters, which are no part of a key.
+    pub fn placed(&self, object: Object) -> Object {
+        let object = object.text("key", &self.board.to_fen()).text("fen", &self.board.to_fen_full());
+        object.raw("half_moves", self.board.get_half_moves()).raw("full_moves", self.board.get_full_moves())
     }
 }
 
-/// The number of a move as people count them, in pairs: `4.` for white's and `4...` for black's.
-pub fn pair(moves: usize, first: Color) -> String {
-    let half = moves + first as usize - 1;
-    format!("{}.{}", half / 2 + 1, if half % 2 == 0 { "" } else { ".." })
-}
-
-#[cfg(test)]
-mod tests {
-    use super::*;
-
-    #[test]
-    fn pairs_are_counted_from_whoever_begins() {
-        let pairs = |first| (1..=4).map(|moves| pair(moves, first)).collect::<Vec<_>>();
-        assert_eq!(pairs(Color::White), ["1.", "1...", "2.", "2..."]);
-        assert_eq!(pairs(Color::Black), ["1...", "2.", "2...", "3."]);
-    }
+/// The number of a move as people write it, by the position that it is made in: `4.` for white's and `4...` for black's.
+pub fn number(before: &Board) -> String {
+    let dots = if before.get_side_to_move() == Color::White { "." } else { "..." };
+    format!("{}{dots}", before.get_full_moves())
 }

@@ -10,11 +10,16 @@ use menkhodur::{ALL_COLORS, ALL_FILES, ALL_RANKS, Board, CastleRights, Error, Sq
 use std::ffi::OsStr;
 use std::os::unix::ffi::OsStrExt;
 
+pub const FULL: Flag = Flag {
+    name: "full",
+    value: None,
+    about: "read the half-move clock and the move number too, refuse a text without them, and print the FEN that has them",
+};
 pub const JSON: Flag = Flag { name: "json", value: None, about: "print one JSON object for each text" };
 
 pub fn run(asked: &Asked) -> Result<Status, Stop> {
-    let mut explain =
-        Explain { json: asked.has(&JSON), output: Output::new()?, status: Status::Well, explained: 0, progress: Progress::new() };
+    let form = Form { full: asked.has(&FULL), json: asked.has(&JSON) };
+    let mut explain = Explain { form, output: Output::new()?, status: Status::Well, explained: 0, progress: Progress::new() };
     if asked.words.len() == 1 && asked.words[0] == "-" {
         return explain.lines_of(&asked.words[0]);
     }
@@ -25,8 +30,14 @@ pub fn run(asked: &Asked) -> Result<Status, Stop> {
     Ok(explain.status)
 }
 
-struct Explain {
+#[derive(Clone, Copy)]
+struct Form {
+    full: bool,
     json: bool,
+}
+
+struct Explain {
+    form: Form,
     output: Output,
     status: Status,
     explained: u64,
@@ -46,7 +57,7 @@ impl Lines for Explain {
 
     fn long(&mut self, place: Place<'_>) -> Result<(), Stop> {
         self.found();
-        let told = match self.json {
+        let told = match self.form.json {
             true => Object::new().raw("line", place.line).raw("accepted", false).raw("long", true).end(),
             false => format!("line {}: refused: the line has more than {LONGEST} bytes", place.line),
         };
@@ -72,15 +83,13 @@ impl Explain {
     }
 
     fn put(&mut self, place: Option<Place<'_>>, text: &[u8]) -> Result<(), Stop> {
-        let read = Board::from_fen(text);
-        let mut warnings = vec![];
-        match read {
-            Ok(_) => standard::find(text, &mut warnings),
-            Err(_) => self.found(),
+        let said = Said::of(text, self.form.full);
+        if said.read.is_err() {
+            self.found();
         }
-        let told = match self.json {
-            true => object(place, text, read, &warnings) + "\n",
-            false => self.between(place) + &explained(text, read, &warnings),
+        let told = match self.form.json {
+            true => said.object(place) + "\n",
+            false => self.between(place) + &said.explained(),
         };
         self.explained += 1;
         self.output.put(told.as_bytes())
@@ -93,34 +102,99 @@ impl Explain {
     }
 }
 
-fn explained(text: &[u8], read: Result<Board, Error>, warnings: &[Warning]) -> String {
-    match read {
-        Ok(board) => accepted(text, &board, warnings),
-        Err(refused) => {
-            let offset = refused.offset().unwrap_or_default();
-            let why = format!("refused: {}, at byte {offset} (answer {})", refused.meaning(), refused.number());
-            format!("{why}\n{}", pointed(text, offset))
-        }
-    }
+/// A text, and what is said about it.
+struct Said<'a> {
+    text: &'a [u8],
+    full: bool,
+    /// By the reader that was asked for.
+    read: Result<Board, Error>,
+    /// By the full reader: the same board with the text's counters, or why it has none.
+    counted: Result<Board, Error>,
+    warnings: Vec<Warning>,
 }
 
-fn accepted(text: &[u8], board: &Board, warnings: &[Warning]) -> String {
-    let mut told = match warnings.len() as u64 {
-        0 => "accepted\n".to_string(),
-        count => format!("accepted, with {}: the PGN standard (16.1) would not allow this text\n", told::counted(count, "warning")),
-    };
-    let (shown, _) = excerpt(text, 0);
-    told += &format!("  {shown}\n\n{}\n", diagram(board));
-    told += &format!("  key         {board}{}\n", if board.to_fen().as_bytes() == text { ", the same as the text" } else { "" });
-    told += &format!("  to move     {}\n", board.get_side_to_move());
-    let rights = ALL_COLORS.map(|color| format!("{color} {}", rights(board.get_castle_rights(color))));
-    told += &format!("  castling    {}\n", rights.join(", "));
-    told += &format!("  en passant  {}\n", en_passant(board).as_deref().unwrap_or("none"));
-    for warning in warnings {
-        let (name, offset) = (warning.oddity.name(), warning.offset);
-        told += &format!("\nwarning {name}, at byte {offset}: {}\n{}", warning.oddity, pointed(text, offset));
+impl Said<'_> {
+    fn of(text: &[u8], full: bool) -> Said<'_> {
+        let counted = Board::from_fen_full(text);
+        let read = if full { counted } else { Board::from_fen(text) };
+        let mut warnings = vec![];
+        if read.is_ok() {
+            standard::find(text, &mut warnings);
+        }
+        Said { text, full, read, counted, warnings }
     }
-    told
+
+    fn explained(&self) -> String {
+        match self.read {
+            Ok(board) => self.accepted(&board),
+            Err(refused) => format!("refused: {refused}\n{}", pointed(self.text, refused.offset().unwrap_or_default())),
+        }
+    }
+
+    fn accepted(&self, board: &Board) -> String {
+        let mut told = match self.warnings.len() as u64 {
+            0 => "accepted\n".to_string(),
+            count => format!("accepted, with {}: the PGN standard (16.1) would not allow this text\n", told::counted(count, "warning")),
+        };
+        let (shown, _) = excerpt(self.text, 0);
+        told += &format!("  {shown}\n\n{}\n", diagram(board));
+        told += &self.rows(board).iter().map(|(name, about)| format!("  {name:11} {about}\n")).collect::<String>();
+        for warning in &self.warnings {
+            let (name, offset) = (warning.oddity.name(), warning.offset);
+            told += &format!("\nwarning {name}, at byte {offset}: {}\n{}", warning.oddity, pointed(self.text, offset));
+        }
+        told
+    }
+
+    /// What an accepted text says, by name.
+    fn rows(&self, board: &Board) -> Vec<(&'static str, String)> {
+        let compared = |fen: String| if fen.as_bytes() == self.text { fen + ", the same as the text" } else { fen };
+        let rights = ALL_COLORS.map(|color| format!("{color} {}", rights(board.get_castle_rights(color))));
+        let mut rows = vec![("key", compared(board.to_fen()))];
+        if self.full {
+            rows.push(("full FEN", compared(board.to_fen_full())));
+        }
+        rows.push(("to move", board.get_side_to_move().to_string()));
+        rows.push(("castling", rights.join(", ")));
+        rows.push(("en passant", en_passant(board).unwrap_or("none".to_string())));
+        match self.counted {
+            Ok(counted) => {
+                rows.push(("half-moves", counted.get_half_moves().to_string()));
+                rows.push(("move number", counted.get_full_moves().to_string()));
+            }
+            Err(refused) => rows.push(("counters", format!("none: {refused}"))),
+        }
+        rows
+    }
+
+    fn object(&self, place: Option<Place<'_>>) -> String {
+        let object = Object::new();
+        let object = match place {
+            Some(place) => object.raw("line", place.line),
+            None => object,
+        };
+        let object = object.bytes("text", self.text).raw("accepted", self.read.is_ok());
+        match self.read {
+            Err(refused) => {
+                let offset = refused.offset().unwrap_or_default();
+                object.raw("number", refused.number()).raw("offset", offset).text("reason", refused.meaning()).end()
+            }
+            Ok(board) => self.accepted_object(object, &board),
+        }
+    }
+
+    fn accepted_object(&self, object: Object, board: &Board) -> String {
+        let castling = board.to_fen().split(' ').nth(2).unwrap_or_default().to_string();
+        let ranks = (0..8).rev().map(|rank| json::quoted(&rank_of(board, rank)));
+        let object = object.text("key", &board.to_fen());
+        let object = if self.full { object.text("fen", &board.to_fen_full()) } else { object };
+        let object = object.raw("ranks", json::array(ranks)).text("side", &board.get_side_to_move().to_string());
+        let object = object.text("castling", &castling).text_or_null("en_passant", en_passant(board).as_deref());
+        let counted = self.counted.ok();
+        let object = object.raw_or_null("half_moves", counted.map(|board| board.get_half_moves()));
+        let object = object.raw_or_null("full_moves", counted.map(|board| board.get_full_moves()));
+        object.raw("warnings", json::array(self.warnings.iter().map(warning))).end()
+    }
 }
 
 fn rights(rights: CastleRights) -> &'static str {
@@ -176,29 +250,6 @@ fn excerpt(text: &[u8], offset: usize) -> (String, usize) {
 pub fn pointed(text: &[u8], offset: usize) -> String {
     let (shown, column) = excerpt(text, offset);
     format!("  {shown}\n  {}^\n", " ".repeat(column))
-}
-
-fn object(place: Option<Place<'_>>, text: &[u8], read: Result<Board, Error>, warnings: &[Warning]) -> String {
-    let object = Object::new();
-    let object = match place {
-        Some(place) => object.raw("line", place.line),
-        None => object,
-    };
-    let object = object.bytes("text", text).raw("accepted", read.is_ok());
-    match read {
-        Err(refused) => {
-            let offset = refused.offset().unwrap_or_default();
-            object.raw("number", refused.number()).raw("offset", offset).text("reason", refused.meaning()).end()
-        }
-        Ok(board) => {
-            let side = board.get_side_to_move().to_string();
-            let castling = board.to_fen().split(' ').nth(2).unwrap_or_default().to_string();
-            let ranks = (0..8).rev().map(|rank| json::quoted(&rank_of(&board, rank)));
-            let object = object.text("key", &board.to_fen()).raw("ranks", json::array(ranks)).text("side", &side);
-            let object = object.text("castling", &castling).text_or_null("en_passant", en_passant(&board).as_deref());
-            object.raw("warnings", json::array(warnings.iter().map(warning))).end()
-        }
-    }
 }
 
 fn warning(warning: &Warning) -> String {

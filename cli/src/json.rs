@@ -21,12 +21,19 @@ impl Object {
         self
     }
 
+    pub fn raw_or_null(self, name: &str, value: Option<impl Display>) -> Object {
+        match value {
+            Some(value) => self.raw(name, value),
+            None => self.raw(name, "null"),
+        }
+    }
+
     pub fn text(self, name: &str, value: &str) -> Object {
         self.raw(name, quoted(value))
     }
 
     pub fn text_or_null(self, name: &str, value: Option<&str>) -> Object {
-        self.raw(name, value.map_or("null".to_string(), quoted))
+        self.raw_or_null(name, value.map(quoted))
     }
 
     /// Any bytes. JSON has characters only: where they are no UTF-8, each bad part is U+FFFD, and `NAME_hex` has the bytes themselves.

@@ -1,11 +1,10 @@
 //! What the archive says about lines, page by page, on as many threads as the machine has for it: a call keeps nothing, and any thread may make it.
 
-use menkhodur::lent::{self, Record};
+use menkhodur::lent::{self, MAX_FEN, Numbers, Record};
 use menkhodur::{Error, PageReader};
 use std::thread::{self, Builder};
 
-/// Bytes of the longest key, and of the shortest.
-pub const LONGEST_KEY: usize = 85;
+/// Bytes of the shortest key.
 const SHORTEST_KEY: usize = 25;
 
 /// Bytes of a page: few enough that its records are still near the processor when their keys are written. Pages one after the other are the
@@ -60,22 +59,22 @@ impl Judged {
     fn judge_page(&mut self, text: &[u8]) {
         let mut end = self.lines.last().map_or(0, |line| line.end);
         let page = self.reader.read(text);
-        let room = end + page.len() * LONGEST_KEY;
+        let room = end + page.len() * MAX_FEN;
         if self.keys.len() < room {
             self.keys.resize(room, 0);
         }
-        for (index, (record, [number, _])) in page.records().iter().zip(page.numbers()).enumerate() {
+        for (index, (numbers, [number, _])) in page.records().iter().zip(page.numbers()).enumerate() {
             let refused = if *number == 0 { None } else { page.get(index).and_then(Result::err) };
             if refused.is_none() {
-                end += key_of(record, &mut self.keys[end..]);
+                end += key_of(numbers, &mut self.keys[end..]);
             }
             self.lines.push(Line { end, refused });
         }
     }
 }
 
-fn key_of(record: &Record, room: &mut [u8]) -> usize {
-    lent::fen_write(record, room).expect("a record that was read has a key, and the room is long enough")
+fn key_of(numbers: &Numbers, room: &mut [u8]) -> usize {
+    lent::fen_write(&Record::from(*numbers), room).expect("a record that was read has a key, and the room is long enough")
 }
 
 /// How many bytes are whole lines from a text's front: as many lines as fit in `about` bytes, or the first.

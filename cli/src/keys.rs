@@ -2,12 +2,13 @@
 
 use crate::input::{self, LONGEST, Lines, Place};
 use crate::json::Object;
-use crate::judged::{Judged, Judges, LONGEST_KEY};
+use crate::judged::{Judged, Judges};
 use crate::options::{Asked, Flag, Status, Stop};
 use crate::output::Output;
 use crate::standard::{self, Warning};
 use crate::told::{self, Progress};
 use menkhodur::Error;
+use menkhodur::lent::MAX_FEN;
 use std::io::Write;
 
 pub const CHECK: Flag = Flag { name: "check", value: None, about: "print only the lines that are not their own key" };
@@ -119,7 +120,7 @@ impl Keys {
     /// As the proved program `keys`: one line per line. What the lines are is not looked at.
     fn plain(&mut self, judged: &Judged) -> Result<(), Stop> {
         for answer in judged.answers() {
-            let space = self.output.space(LONGEST_KEY + 1)?;
+            let space = self.output.space(MAX_FEN + 1)?;
             let length = match answer {
                 Ok(key) => {
                     space[..key.len()].copy_from_slice(key);
@@ -196,7 +197,6 @@ impl Keys {
     }
 }
 
-/// Writes the key of a record that the archive has read, and answers its length.
 /// `! N OFFSET`, as the proved program `keys` has it.
 fn refusal(refused: Error, mut room: &mut [u8]) -> usize {
     let before = room.len();
@@ -209,7 +209,7 @@ fn answered(said: Said<'_>, made: &mut Vec<u8>) {
     match said {
         Said::Key(key) => made.extend(key),
         Said::Refused(refused) => {
-            let mut room = [0; LONGEST_KEY];
+            let mut room = [0; MAX_FEN];
             let length = refusal(refused, &mut room);
             made.extend(&room[..length]);
         }

@@ -14,12 +14,14 @@ mod man;
 mod options;
 mod output;
 mod pgn;
+mod roll;
 mod ruling;
 mod show;
 mod standard;
 mod stored;
 mod table;
 mod told;
+mod whole;
 
 use options::{Asked, Status, Stop, Wanted};
 use output::Output;

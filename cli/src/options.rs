@@ -39,6 +39,7 @@ pub struct Flag {
 pub enum Takes {
     File,
     Text,
+    /// Of an argument that no other of any number comes before.
     OneOf(&'static [&'static str]),
 }
 
@@ -132,6 +133,7 @@ fn of_command(command: &'static Command, words: &[OsString]) -> Result<Wanted, S
             _ => asked.words.push(word.clone()),
         }
     }
+    choose(&asked)?;
     count(&asked)?;
     Ok(Wanted::Run(asked))
 }
@@ -171,4 +173,18 @@ fn count(asked: &Asked) -> Result<(), Stop> {
         Some(most) if asked.words.len() > most => Err(refused("one word too many: ", &asked.words[most], &see)),
         _ => Ok(()),
     }
+}
+
+/// Whether each word that must be one of some is.
+fn choose(asked: &Asked) -> Result<(), Stop> {
+    for (argument, word) in asked.command.arguments.iter().zip(&asked.words) {
+        if let Takes::OneOf(choices @ [others @ .., last]) = argument.takes {
+            let listed = if others.is_empty() { last.to_string() } else { format!("{} or {last}", others.join(", ")) };
+            if choices.iter().all(|choice| word != choice) {
+                let told = [asked.command.name.as_bytes(), b": ", word.as_bytes(), b" is not ", listed.as_bytes()];
+                return Err(Stop::Trouble(told.concat()));
+            }
+        }
+    }
+    Ok(())
 }

@@ -8,7 +8,7 @@ use crate::output::Output;
 use crate::stored::Stored;
 use crate::told;
 use menkhodur::lent::CLAIM_COUNT;
-use menkhodur::{ALL_COLORS, Board, Log, Piece, Reason, Ruling};
+use menkhodur::{ALL_COLORS, Board, Log, Piece, Position, Reason, Ruling};
 
 pub const AT: Flag = Flag { name: "at", value: Some("N"), about: "rule after the first N actions, not after the last; 0 is the start" };
 pub const JSON: Flag = Flag { name: "json", value: None, about: "print one JSON object" };
@@ -87,10 +87,7 @@ impl Case {
     fn place(&self, moves: usize) -> String {
         match moves {
             0 => "the start".to_string(),
-            moves => {
-                let first = self.entries[0].board.get_side_to_move();
-                format!("move {moves} ({} {})", entry::pair(moves, first), self.after(moves).written())
-            }
+            moves => format!("move {moves} ({} {})", entry::number(&self.after(moves - 1).board), self.after(moves).written()),
         }
     }
 
@@ -99,7 +96,7 @@ impl Case {
         let result = self.ruling.result.map_or("the game goes on".to_string(), |result| result.to_string());
         let (actions, moves) = (self.entries.len() as u64 - 1, self.ruling.moves as u64);
         let rows = [
-            row("start", self.entries[0].board.to_string()),
+            row("start", self.entries[0].board.to_fen_full()),
             wrapped(&self.game()) + "\n",
             row("result", format!("{result}, after {} and {}", told::counted(actions, "action"), told::counted(moves, "move"))),
             row("claim", claim(self.ruling.claim)),
@@ -119,7 +116,7 @@ impl Case {
         format!("{count} of {CLAIM_COUNT} moves without {without}, {began}")
     }
 
-    /// How many positions are equal, and each of them, the last too.
+    /// How many positions are equal, and each of them, the last too, with their one key: the counters, which differ, are not compared.
     fn equals(&self) -> String {
         let last = self.ruling.moves;
         let mut told = match self.equal.len() {
@@ -129,19 +126,19 @@ impl Case {
         for moves in self.equal.iter().copied().chain([last]) {
             let which = if moves == last { ", the last" } else { "" };
             let after = if moves == 0 { "at" } else { "after" };
-            told += &format!("\n{:13}{after} {}{which}: {}", "", self.place(moves), self.after(moves).board);
+            told += &format!("\n{:13}{after} {}{which}: {}", "", self.place(moves), self.after(moves).board.to_fen());
         }
         told
     }
 
     /// The words of the game, with the numbers of a score sheet.
     fn game(&self) -> Vec<String> {
-        let first = self.entries[0].board.get_side_to_move();
         let mut words = vec![];
         let mut is_new = true;
-        for entry in &self.entries[1..] {
+        for pair in self.entries.windows(2) {
+            let (before, entry) = (&pair[0].board, &pair[1]);
             if let What::Move(..) = entry.what {
-                let number = entry::pair(entry.moves, first);
+                let number = entry::number(before);
                 // Black's move needs its number only where something stands between it and white's.
                 if is_new || !number.ends_with("...") {
                     words.push(number);
@@ -167,7 +164,7 @@ impl Case {
         let object = object.raw("laws_count", ruling.laws_count).raw("laws_since", since(&self.laws_since));
         let position = |moves: &usize| {
             let after = self.after(*moves);
-            Object::new().raw("moves", *moves).raw("action", after.action).text("key", &after.board.to_fen()).end()
+            after.placed(Object::new().raw("moves", *moves).raw("action", after.action)).end()
         };
         let object = object.raw("equals", ruling.equals).raw("equal", json::array(self.equal.iter().map(position)));
         let object = object.raw("last", position(&ruling.moves));
@@ -194,11 +191,13 @@ fn causes(entries: &[Entry], moves: usize) -> Vec<&'static str> {
     told.iter().filter(|(holds, _)| *holds).map(|(_, cause)| *cause).collect()
 }
 
-/// All earlier positions of the run that equal the last in board and list. How many there are, and the two earliest, are the archive's.
+/// All earlier positions of the run that equal the last in board, counters apart, and list. How many there are, and the two earliest, are the
+/// archive's.
 fn equal(log: &Log, ruling: &Ruling) -> Vec<usize> {
     let (last, list) = (log.current_position(), log.current_moves());
     let earlier = log.positions().enumerate().skip(ruling.moves - ruling.count).take(ruling.count);
-    let equal: Vec<usize> = earlier.filter(|(_, other)| other.board == last && other.list == list).map(|(moves, _)| moves).collect();
+    let equals_last = |other: &Position<'_>| other.board.numbers() == last.numbers() && other.list == list;
+    let equal: Vec<usize> = earlier.filter(|(_, other)| equals_last(other)).map(|(moves, _)| moves).collect();
     let earliest: Vec<usize> = ruling.earliest.iter().flatten().copied().collect();
     assert!(equal.len() == ruling.equals && equal.starts_with(&earliest), "the equal positions are those that the archive tells");
     equal

@@ -13,7 +13,7 @@ pub fn run(asked: &Asked) -> Result<Status, Stop> {
     let stored = Stored::load(&asked.words)?;
     let fault = stored.fault();
     let good = match fault {
-        Some(Fault::Start) => None,
+        Some(Fault::Start(_)) => None,
         Some(Fault::Action { number, .. }) => stored.log(number - 1),
         _ => stored.log(stored.action_count),
     };
@@ -33,7 +33,8 @@ pub fn run(asked: &Asked) -> Result<Status, Stop> {
     }
 }
 
-/// Action, moves made, side, what was done, and of the position after it the length of its list and its key.
+/// Action, moves made, side, what was done, and of the position after it the length of its list and its FEN with the counters.
 fn line(entry: &Entry) -> String {
-    format!("{:4} {:4} {:5} {:13} {:3} {}", entry.action, entry.moves, entry.side(), entry.done(), entry.list, entry.board)
+    let fen = entry.board.to_fen_full();
+    format!("{:4} {:4} {:5} {:13} {:3} {fen}", entry.action, entry.moves, entry.side(), entry.done(), entry.list)
 }

@@ -2,11 +2,14 @@
 
 use crate::input;
 use crate::options::Stop;
-use menkhodur::lent::{self, ACTION_BYTES, ACTIONS_PART, POSITION_BYTES, POSITIONS_PART, Record};
+use menkhodur::lent::{self, ACTION_BYTES, ACTIONS_PART, MAX_COUNT, POSITION_BYTES, POSITIONS_PART, Record};
 use menkhodur::{Board, Counts, Error, Log};
 use std::ffi::{OsStr, OsString};
 use std::fmt;
 use std::io::Read;
+
+/// Before version 12 a position had no counters, which take two bytes each.
+const OLD_POSITION_BYTES: usize = POSITION_BYTES - 4;
 
 /// The two parts as a call is lent them, zeros behind what the files hold.
 pub struct Stored {
@@ -19,7 +22,8 @@ pub struct Stored {
 
 /// The first action that does not stand, and what is wrong with it.
 pub enum Fault {
-    Start,
+    /// The start is no position, for these counters if they are out of range.
+    Start(Vec<Counter>),
     Action {
         number: usize,
         why: Why,
@@ -33,15 +37,27 @@ pub enum Fault {
 
 pub enum Why {
     Refused(Error),
-    /// The position that the file has after a move, and the one that the move leads to.
-    Record {
-        held: Board,
-        owed: Board,
+    /// The position that the file has after a move is refused: that one and the one that the move leads to, if it is for another board, and
+    /// the counters that differ.
+    Position {
+        refused: Error,
+        boards: Option<(Board, Board)>,
+        counters: Vec<Counter>,
     },
     Kind(u8),
     NoPosition,
     Bytes,
 }
+
+/// A counter that is not what it must be.
+pub struct Counter {
+    name: &'static str,
+    held: u16,
+    owed: String,
+}
+
+const CLOCK: &str = "half-move clock";
+const NUMBER: &str = "move number";
 
 impl Stored {
     /// Reads the files that two words name.
@@ -69,7 +85,7 @@ impl Stored {
 
     fn stands(&self, actions: usize) -> bool {
         let counts = self.counts(actions);
-        // Past the positions that are there the part has zeros, which could pass for one.
+        // Past the positions that are there the part has zeros: nothing should be said of a position that is missing.
         (counts.moves as usize) < self.position_count && lent::game_result(&self.actions, &self.positions, counts).is_ok()
     }
 
@@ -81,7 +97,7 @@ impl Stored {
             return (owed < self.position_count).then_some(Fault::Positions { owed, held: self.position_count });
         }
         if !self.stands(0) {
-            return Some(Fault::Start);
+            return Some(Fault::Start(self.start_counters()));
         }
         let (mut good, mut bad) = (0, self.action_count);
         while bad - good > 1 {
@@ -91,37 +107,58 @@ impl Stored {
         Some(Fault::Action { number: bad, why: self.why(bad) })
     }
 
+    /// The counters of the start that are out of range.
+    fn start_counters(&self) -> Vec<Counter> {
+        let Some(start) = lent::stored_position(&self.positions, 0) else { return vec![] };
+        let Record { half_moves, full_moves, .. } = start.record;
+        let empty = Board::new();
+        let out = [
+            (CLOCK, half_moves, 0, empty.half_moves(half_moves.into()).is_err()),
+            (NUMBER, full_moves, 1, empty.full_moves(full_moves.into()).is_err()),
+        ];
+        let counter = |(name, held, least, _)| Counter { name, held, owed: format!("from {least} to {MAX_COUNT}") };
+        out.into_iter().filter(|(.., is_out)| *is_out).map(counter).collect()
+    }
+
     /// Makes the call that the action stands for, of a log that is good up to it, and sees what the archive answers.
     fn why(&self, number: usize) -> Why {
-        let (mut actions, mut positions, counts) = (self.actions.clone(), self.positions.clone(), self.counts(number - 1));
+        let (mut actions, counts) = (self.actions.clone(), self.counts(number - 1));
         let action = &self.actions[ACTION_BYTES * (number - 1)..][..ACTION_BYTES];
         let (kind, colour, made) = (action[0], action[1], u64::from(u16::from_le_bytes([action[2], action[3]])));
-        let after = match self.counts(number).moves as usize {
-            moves if moves < self.position_count => lent::stored_position(&self.positions, moves),
-            _ => None,
-        };
         // The kinds of action as host/menkhodur.h numbers them.
-        let call = match (kind, &after) {
-            (1, None) => return Why::NoPosition,
-            (1, Some(after)) => lent::game_make_move(&mut actions, &mut positions, counts, made, after.given()),
-            (2, _) => lent::game_offer_draw(&mut actions, &positions, counts, colour),
-            (3, _) => lent::game_accept_draw(&mut actions, &positions, counts),
-            (4, _) => lent::game_declare_draw(&mut actions, &positions, counts),
-            (5, _) => lent::game_resign(&mut actions, &positions, counts, colour),
-            (kind, _) => return Why::Kind(kind),
+        let call = match kind {
+            1 => return self.why_move(counts, made),
+            2 => lent::game_offer_draw(&mut actions, &self.positions, counts, colour),
+            3 => lent::game_accept_draw(&mut actions, &self.positions, counts),
+            4 => lent::game_declare_draw(&mut actions, &self.positions, counts),
+            5 => lent::game_resign(&mut actions, &self.positions, counts, colour),
+            kind => return Why::Kind(kind),
         };
-        match (call, after) {
-            (Ok(_), _) => Why::Bytes,
-            (Err(Error::WrongRecord), Some(after)) => self.record(counts, made, &after.record).unwrap_or(Why::Refused(Error::WrongRecord)),
-            (Err(refused), _) => Why::Refused(refused),
+        call.map_or_else(Why::Refused, |_| Why::Bytes)
+    }
+
+    fn why_move(&self, counts: Counts, made: u64) -> Why {
+        let moves = counts.moves as usize + 1;
+        let after = if moves < self.position_count { lent::stored_position(&self.positions, moves) } else { None };
+        let Some(after) = after else { return Why::NoPosition };
+        let (mut actions, mut positions) = (self.actions.clone(), self.positions.clone());
+        match lent::game_make_move(&mut actions, &mut positions, counts, made, after.given()) {
+            Ok(_) => Why::Bytes,
+            Err(refused @ (Error::OutOfRange | Error::WrongRecord)) => self.why_position(counts, made, &after.record, refused),
+            Err(refused) => Why::Refused(refused),
         }
     }
 
-    /// The two positions after a move that came with the wrong one.
-    fn record(&self, counts: Counts, made: u64, held: &Record) -> Option<Why> {
-        let before = lent::stored_position(&self.positions, counts.moves as usize)?;
-        let owed = lent::board_after(&before.record, made).ok()?;
-        Some(Why::Record { held: Board::from_numbers(held).ok()?, owed: Board::from_numbers(&owed).ok()? })
+    /// Compares the position after a move that came with the wrong one with the one that the move leads to.
+    fn why_position(&self, counts: Counts, made: u64, held: &Record, refused: Error) -> Why {
+        let before = lent::stored_position(&self.positions, counts.moves as usize);
+        let Some(owed) = before.and_then(|before| lent::board_after(&before.record, made).ok()) else { return Why::Refused(refused) };
+        let both = [(CLOCK, held.half_moves, owed.half_moves), (NUMBER, held.full_moves, owed.full_moves)];
+        let counter = |(name, held, owed): (_, _, u16)| Counter { name, held, owed: owed.to_string() };
+        let counters = both.into_iter().filter(|(_, held, owed)| held != owed).map(counter).collect();
+        // Out of range may be something beside the record, and then the boards could be equal.
+        let boards = if refused == Error::WrongRecord { Board::from_record(held).ok().zip(Board::from_record(&owed).ok()) } else { None };
+        Why::Position { refused, boards, counters }
     }
 }
 
@@ -136,7 +173,11 @@ fn part(word: &OsStr, what: &str, size: usize, length: usize) -> Result<(Vec<u8>
     }
     if held % size != 0 {
         let (whole, over) = (held / size, held % size);
-        return Err(wrong(format!("{held} bytes are not a whole number of {what}s of {size} bytes: {whole}, and {over} over")));
+        let old = match size == POSITION_BYTES && held % OLD_POSITION_BYTES == 0 {
+            true => format!("; without counters, as before version 12, a position had {OLD_POSITION_BYTES}"),
+            false => String::new(),
+        };
+        return Err(wrong(format!("{held} bytes are not a whole number of {what}s of {size} bytes: {whole}, and {over} over{old}")));
     }
     bytes.resize(length, 0);
     Ok((bytes, held / size))
@@ -146,7 +187,8 @@ impl fmt::Display for Fault {
     fn fmt(&self, f: &mut fmt::Formatter<'_>) -> fmt::Result {
         f.write_str("the log is not good: ")?;
         match self {
-            Fault::Start => f.write_str("the start is not a position"),
+            Fault::Start(counters) if counters.is_empty() => f.write_str("the start is not a position"),
+            Fault::Start(counters) => write!(f, "the start is not a position: {}", joined(counters)),
             Fault::Positions { owed, held } => write!(f, "its moves lead to {owed} positions, counting the start, but there are {held}"),
             Fault::Action { number, why } => write!(f, "action {number} does not stand: {why}"),
         }
@@ -157,10 +199,26 @@ impl fmt::Display for Why {
     fn fmt(&self, f: &mut fmt::Formatter<'_>) -> fmt::Result {
         match self {
             Why::Refused(refused) => write!(f, "{refused}"),
-            Why::Record { held, owed } => write!(f, "{}: it is {held}, and the move leads to {owed}", Error::WrongRecord),
+            Why::Position { refused, boards, counters } => {
+                write!(f, "{refused}")?;
+                if let Some((held, owed)) = boards {
+                    write!(f, ": it is {}, and the move leads to {}", held.to_fen_full(), owed.to_fen_full())?;
+                }
+                if counters.is_empty() { Ok(()) } else { write!(f, "; {}", joined(counters)) }
+            }
             Why::Kind(kind) => write!(f, "there is no action of kind {kind}"),
             Why::NoPosition => f.write_str("the position after it is missing"),
             Why::Bytes => f.write_str("a byte of it, or of the position after it, is not 0 where it must be"),
         }
     }
+}
+
+impl fmt::Display for Counter {
+    fn fmt(&self, f: &mut fmt::Formatter<'_>) -> fmt::Result {
+        write!(f, "its {} is {}, and must be {}", self.name, self.held, self.owed)
+    }
+}
+
+fn joined(counters: &[Counter]) -> String {
+    counters.iter().map(Counter::to_string).collect::<Vec<_>>().join("; ")
 }

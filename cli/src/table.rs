@@ -2,9 +2,9 @@
 //! module of its own.
 
 use crate::options::{Argument, Command, Example, Flag, Takes};
-use crate::{completion, diff, explain, keys, man, pgn, ruling, show};
+use crate::{completion, diff, explain, keys, man, pgn, roll, ruling, show};
 
-pub const ABOUT: &str = "FEN keys, explanations, PGN games, rulings, stored logs and what differs between games";
+pub const ABOUT: &str = "FEN keys, explanations, PGN games, rulings, stored logs, what differs between games, and old rolls written anew";
 
 pub const TEXT: &[&str] = &[
     "A chess archive files each position once, under its FEN text. Every judgement of this program, keys, numbers, offsets, names and \
@@ -13,7 +13,8 @@ pub const TEXT: &[&str] = &[
      read brings less than it could, so that a slow pipe gets each one at once; if the reader of a pipe has gone, the program ends quietly.",
 ];
 
-pub const TROUBLE: &str = "trouble: an option, a file that could not be read to its end, or a write that failed";
+pub const TROUBLE: &str =
+    "trouble: an option, a file that could not be read to its end, a log or roll that is refused, or a write that failed";
 
 /// Options that every command takes.
 pub const COMMON: &[Flag] = &[
@@ -28,7 +29,7 @@ const LOG: &[Argument] = &[
         takes: Takes::File,
         least: 1,
         most: Some(1),
-        about: "the used bytes of its positions: that of the start, and one for each move",
+        about: "the used bytes of its positions, 584 for the start and for each move",
     },
 ];
 
@@ -73,21 +74,31 @@ pub const COMMANDS: &[Command] = &[
             most: None,
             about: "the text; several words are joined by single spaces, and - alone reads texts, one per line, from standard input",
         }],
-        flags: &[explain::JSON],
+        flags: &[explain::FULL, explain::JSON],
         text: &[
             "Prints whether the text is accepted; if not, why, with a caret under the byte; if so, the board, the key, the side to move, the \
-             castling rights and the en passant square. Then come warnings, each with a name and a caret: what the rules of the archive let \
-             pass and the PGN standard, section 16.1, would not. Warnings do not change the exit status; `menkhodur keys --strict` refuses \
-             whatever has a warning.",
+             castling rights, the en passant square, and the half-move clock and the move number, or why the text has none that can be read. Then \
+             come warnings, each with a name and a caret: what the rules of the archive let pass and the PGN standard, section 16.1, would not. \
+             Warnings do not change the exit status; `menkhodur keys --strict` refuses whatever has a warning.",
+            "A key has no counters: it ends in ` 0 1` whatever they are. With --full the full FEN is printed too, which ends in the text's \
+             own, and a text without two good ones is refused: 25, at the start of the fifth or sixth field if that is not one to four digits, or \
+             is a move number of 0, and at the text's length if it is missing.",
             "In the texts shown, a byte that is not printable ASCII is \\xNN, and a long text is cut around the caret.",
             "An object of --json has text and accepted, and number, offset and reason, or key, ranks (from the eighth), side, castling, \
-             en_passant and warnings, each with name, offset and reason.",
+             en_passant, half_moves and full_moves, both null if the text has none, and warnings, each with name, offset and reason; with \
+             --full also fen, the full FEN.",
         ],
         statuses: &["the text is accepted", "it is refused"],
-        examples: &[Example {
-            command: "menkhodur explain 'rnbqkbnr/pppppppp/8/8/8/8/PPPPPPP/RNBQKBNR w KQkq - 0 1'",
-            about: "a rank with one pawn too few",
-        }],
+        examples: &[
+            Example {
+                command: "menkhodur explain 'rnbqkbnr/pppppppp/8/8/8/8/PPPPPPP/RNBQKBNR w KQkq - 0 1'",
+                about: "a rank with one pawn too few",
+            },
+            Example {
+                command: "menkhodur explain --full '8/5k2/8/8/8/8/5K2/8 b - - 49 120'",
+                about: "a clock of 49 at move 120, which the key does not have",
+            },
+        ],
         run: explain::run,
     },
     Command {
@@ -127,11 +138,13 @@ pub const COMMANDS: &[Command] = &[
         arguments: LOG,
         flags: &[ruling::AT, ruling::JSON],
         text: &[
-            "Prints the game, each move by its name from the stored lists, with offers and resignations; the result; the ruling by the \
-             crate's count and by that of article 9.3 of the Laws; and what they rest on: both counts, where each began and by what, and the \
-             earlier positions of the run that equal the last, by the log's move numbers, with their FEN.",
-            "If a log is not good, standard error says so, with the first action that does not stand. With --at the actions after N \
-             need not stand.",
+            "Prints the start with its counters; the game, each move by its name from the stored lists and with its number by the position \
+             that it was made in, with offers and resignations; the result; the ruling by the crate's count and by that of article 9.3 of the Laws; and what \
+             they rest on: both counts, where each began and by what, and the earlier positions of the run that equal the last, by the log's \
+             move numbers, with their key. Both counts begin with the log: what the start's half-move clock says is not added. Counters \
+             do not keep positions from being equal.",
+            "If a log is not good, standard error says so, with the first action that does not stand; where a move came with another \
+             position than it leads to, with both, and with each counter that differs. With --at the actions after N need not stand.",
             "The object of --json has actions, moves, result, claim and laws_claim in words and as numbers, count with count_since, laws_count \
              with laws_since, equals, equal and last, and as game the objects of `menkhodur show`.",
         ],
@@ -146,10 +159,11 @@ pub const COMMANDS: &[Command] = &[
         flags: &[show::JSON],
         text: &[
             "Prints a line for the start, as action 0, and for each action: its number, how many moves have been made, the side, the move's \
-             name or what else was done, the length of the list of the position after it, and that position's key. If a log is not good, \
-             only what stands is printed, and standard error tells what does not.",
-            "An object of --json has action, moves, side, kind (start, move, offer, accept, declare, resign), key, in_check and list; that of a \
-             move has name, null if no text names it, and coordinates.",
+             name or what else was done, the length of the list of the position after it, and that position's full FEN, which ends in its \
+             half-move clock and its move number, where a key always ends in ` 0 1`. If a log is not good, only what stands is printed, and \
+             standard error tells what does not.",
+            "An object of --json has action, moves, side, kind (start, move, offer, accept, declare, resign), key, fen (the full one), \
+             half_moves, full_moves, in_check and list; that of a move has name, null if no text names it, and coordinates.",
         ],
         statuses: &["the log is good"],
         examples: &[Example { command: "menkhodur show game.actions game.positions", about: "every action of a game" }],
@@ -168,20 +182,60 @@ pub const COMMANDS: &[Command] = &[
             },
             Argument { name: "SECOND", takes: Takes::File, least: 1, most: Some(1), about: "another; - may stand for one of the two" },
         ],
-        flags: &[diff::NAMES],
+        flags: &[diff::NAMES, diff::OLD_FIRST, diff::OLD_SECOND],
         text: &[
             "Prints a line for each of these that differs, in this order: the squares of the start, keyed by number (a1 is 0, e4 is 28, h8 is \
-             63), side, white, black, ep, then the first action that differs, keyed action and its index from 0. A line is its key, then the \
-             first and the second game's number: a man from 1, the white pawn, to 12, the black king; the side to move, 0 or 1; castling \
-             rights, 1 for the king's side and 2 for the queen's; the file of en passant from 1; and for an action its code in a roll + 16 \
-             times its move, 0 if there is none. Nothing is printed exactly if the rolls are equal, byte for byte.",
+             63), side, white, black, ep, half, full, then the first action that differs, keyed action and its index from 0. A line is its key, \
+             then the first and the second game's number: a man from 1, the white pawn, to 12, the black king; the side to move, 0 or 1; \
+             castling rights, 1 for the king's side and 2 for the queen's; the file of en passant from 1; the half-move clock; the move number; \
+             and for an action its code in a roll + 16 times its move, 0 if there is none. Nothing is printed exactly if the rolls are equal, \
+             byte for byte.",
             "With --names each line is followed, after a tab, by the same in words, as in `e4: white pawn, nothing`.",
+            "An old roll, from before version 12, has no counters. With --old-first or --old-second that roll is read as an old one and compared \
+             as `menkhodur roll upgrade` writes it, with 0 and 1. The same bytes can be an old roll and a new one, with two meanings, so nothing \
+             is guessed: a store must know which kind it keeps.",
             "For a roll that is refused only the number is printed: 5, a number of the start out of range; 13, more actions or moves than a log \
              has; 17, anything else. If both would be refused, it is the first one's. Standard error tells which roll, and why.",
         ],
         statuses: &["the rolls are equal", "they differ"],
-        examples: &[Example { command: "menkhodur diff --names here.roll there.roll", about: "two sites' copies of a game" }],
+        examples: &[
+            Example { command: "menkhodur diff --names here.roll there.roll", about: "two sites' copies of a game" },
+            Example { command: "menkhodur diff --old-first old/7.roll new/7.roll", about: "whether a new roll has the game of an old one" },
+        ],
         run: diff::run,
+    },
+    Command {
+        name: "roll",
+        about: "an old roll, without counters, written anew",
+        arguments: &[
+            Argument { name: "upgrade", takes: Takes::OneOf(&["upgrade"]), least: 1, most: Some(1), about: "what is done: this word" },
+            Argument {
+                name: "OLD",
+                takes: Takes::File,
+                least: 1,
+                most: Some(1),
+                about: "a roll from before version 12: the 68 numbers of the start, and its actions",
+            },
+            Argument { name: "NEW", takes: Takes::File, least: 1, most: Some(1), about: "the file to write; - is standard output" },
+        ],
+        flags: &[roll::FORCE],
+        text: &[
+            "Writes the game of an old roll as a new one, in which the start has the half-move clock 0 and the move number 1: the same bytes \
+             with 0 and 1 put in behind the 68th.",
+            "The same bytes can be an old roll and a new one, with two meanings. OLD is taken for an old one and nothing is guessed: a store \
+             must know which kind it keeps. A roll that this command wrote is never upgraded again: as an old one it is refused with 17.",
+            "If OLD is refused, standard error says why, with the number: 5, a number of the start out of range; 13, more actions or moves than \
+             a log has; 17, anything else.",
+            "NEW is written whole or not at all: to a file beside it, .menkhodur-PROCESS-N, which then takes its place. A NEW that exists is left \
+             alone, unless there is --force; then it is replaced and keeps its permissions, and it may be OLD itself. Only a regular file is \
+             replaced. If the program is killed, the file beside it may be left behind, and can be removed.",
+        ],
+        statuses: &["NEW was written"],
+        examples: &[
+            Example { command: "menkhodur roll upgrade old/7.roll new/7.roll", about: "one game; docs/STORE.md has the loop over all" },
+            Example { command: "menkhodur roll upgrade - - <old >new", about: "between two pipes" },
+        ],
+        run: roll::run,
     },
     Command {
         name: "completion",

@@ -1,5 +1,6 @@
 //! Runs the program, and a folder to run it in.
 
+use menkhodur::lent::POSITION_BYTES;
 use std::ffi::OsStr;
 use std::io::Write;
 use std::path::{Path, PathBuf};
@@ -8,6 +9,20 @@ use std::sync::atomic::{AtomicUsize, Ordering};
 
 pub const EMPTY: &str = "8/8/8/8/8/8/8/8 w - - 0 1";
 pub const INITIAL: &str = "rnbqkbnr/pppppppp/8/8/8/8/PPPPPPPP/RNBQKBNR w KQkq - 0 1";
+
+// Where a position has its counters, its in-check byte, the length of its list and the list, as host/menkhodur.h has it.
+pub const HALF_MOVES: usize = 68;
+pub const FULL_MOVES: usize = 70;
+pub const IN_CHECK: usize = 72;
+pub const ENTRIES: usize = 73;
+pub const MOVES: usize = 74;
+
+/// The bytes of a position: the empty board at move 1, and no move.
+pub fn empty_position() -> [u8; POSITION_BYTES] {
+    let mut position = [0; POSITION_BYTES];
+    position[FULL_MOVES] = 1;
+    position
+}
 
 pub fn program() -> Command {
     Command::new(env!("CARGO_BIN_EXE_menkhodur"))

@@ -1,52 +1,25 @@
-//! `menkhodur diff`. The rolls are made here by the words of document 02, order 1, and what they are owed by those of order 10; games are
-//! the crate's (oracle/logs).
+//! `menkhodur diff`. What two rolls are owed is made here by the words of document 02, orders 10 and 12.
 
 use crate::common::{Folder, expect, run};
+use crate::games::{FULL, Game, HALF, old_roll, roll};
 use menkhodur::lent::MAX_ACTIONS;
 use std::fs;
-use std::path::PathBuf;
-
-/// A start's 68 numbers, and each action as its code and, for a move, its number.
-#[derive(Clone)]
-struct Game {
-    start: Vec<u32>,
-    actions: Vec<(u32, Option<u32>)>,
-}
-
-const EMPTY: u32 = 68;
 
 fn game(actions: &[(u32, Option<u32>)]) -> Game {
-    Game { start: vec![0; EMPTY as usize], actions: actions.to_vec() }
+    Game { actions: actions.to_vec(), ..Game::empty() }
 }
 
-fn put(mut number: u32, roll: &mut Vec<u8>) {
-    while number > 127 {
-        roll.push((number % 128 + 128) as u8);
-        number /= 128;
-    }
-    roll.push(number as u8);
-}
-
-fn roll(game: &Game) -> Vec<u8> {
-    let mut roll = vec![];
-    game.start.iter().for_each(|number| put(*number, &mut roll));
-    put(game.actions.len() as u32, &mut roll);
-    for (code, made) in &game.actions {
-        put(*code, &mut roll);
-        made.iter().for_each(|number| put(*number, &mut roll));
-    }
-    roll
-}
-
-/// The lines owed, by the order's words.
+/// The lines owed, by the orders' words.
 fn owed(first: &Game, second: &Game) -> String {
     let mut text = String::new();
-    for place in 0..68 {
+    for place in 0..first.start.len() {
         let key = match place {
             64 => "side".to_string(),
             65 => "white".to_string(),
             66 => "black".to_string(),
             67 => "ep".to_string(),
+            68 => "half".to_string(),
+            69 => "full".to_string(),
             square => square.to_string(),
         };
         let (a, b) = (first.start[place], second.start[place]);
@@ -60,29 +33,6 @@ fn owed(first: &Game, second: &Game) -> String {
         text += &format!("action {index} {} {}\n", number(first, index), number(second, index));
     }
     text
-}
-
-/// Games of the crate, out of the logs that cli/run-tests has written.
-fn games() -> Vec<Game> {
-    let default = concat!(env!("CARGO_MANIFEST_DIR"), "/../target/logs");
-    let folder = PathBuf::from(std::env::var("MENKHODUR_LOGS").unwrap_or(default.to_string()));
-    let entries = fs::read_dir(folder).expect("cli/run-tests makes the logs");
-    let mut paths: Vec<PathBuf> =
-        entries.filter_map(|entry| Some(entry.ok()?.path())).filter(|path| path.extension().is_some_and(|e| e == "actions")).collect();
-    paths.sort();
-    assert!(paths.len() > 100);
-    let of = |path: &PathBuf| {
-        let (actions, positions) = (fs::read(path).unwrap(), fs::read(path.with_extension("positions")).unwrap());
-        let action = |bytes: &[u8]| {
-            let code = u32::from(bytes[0]) * 2 + u32::from(bytes[1]);
-            (code, (code == 2).then(|| u32::from(u16::from_le_bytes([bytes[2], bytes[3]]))))
-        };
-        Game {
-            start: positions[..68].iter().map(|byte| u32::from(*byte)).collect(),
-            actions: actions.chunks_exact(4).map(action).collect(),
-        }
-    };
-    paths.iter().map(of).collect()
 }
 
 /// The program on two files with these bytes.
@@ -114,9 +64,11 @@ fn every_start_number_and_action_in_words() {
     let (mut first, mut second) = (game(&[(2, Some(12 + 64 * 28)), (4, None)]), game(&[(2, Some(12 + 64 * 28))]));
     (first.start[0], second.start[63]) = (12, 5);
     (first.start[64], first.start[65], first.start[66], second.start[66], second.start[67]) = (1, 3, 1, 2, 3);
+    (first.start[HALF], first.start[FULL], second.start[FULL]) = (9_999, 128, 127);
     let told = "0 12 0\ta1: black king, nothing\n63 0 5\th8: nothing, white queen\nside 1 0\tside to move: black, white\n\
                 white 3 0\twhite may castle: both sides, no\nblack 1 2\tblack may castle: king side, queen side\n\
-                ep 0 3\ten passant file: none, c\naction 1 4 0\taction 1: white offers a draw, nothing\n";
+                ep 0 3\ten passant file: none, c\nhalf 9999 0\thalf-move clock: 9999, 0\n\
+                full 128 127\tmove number: 128, 127\naction 1 4 0\taction 1: white offers a draw, nothing\n";
     let folder = Folder::new();
     let (a, b) = (folder.file("a", roll(&first)), folder.file("b", roll(&second)));
     expect(&["diff", "--names", &a, &b], "", (told, "", 1));
@@ -132,13 +84,17 @@ fn every_start_number_and_action_in_words() {
 
 #[test]
 fn games_of_the_crate_with_one_thing_changed() {
-    let games = games();
+    let games = Game::of_the_crate();
     for (index, game) in games.iter().enumerate() {
         check(game, game);
         check(game, &games[(index + 1) % games.len()]);
         let mut changed = game.clone();
         changed.start[index % 64] = (changed.start[index % 64] + 1) % 13;
         check(game, &changed);
+        changed.start[HALF] = [1, 127, 128, 9_999][index % 4];
+        changed.start[FULL] = [2, 127, 128, 9_999][index / 4 % 4];
+        check(game, &changed);
+        check(&changed, game);
         if game.actions.len() < MAX_ACTIONS {
             let mut changed = game.clone();
             changed.actions.push((10, None));
@@ -158,22 +114,26 @@ fn games_of_the_crate_with_one_thing_changed() {
 fn of_a_refused_roll_only_the_number_is_printed() {
     let folder = Folder::new();
     let good = folder.file("good", roll(&game(&[])));
-    let cut = folder.file("cut", &roll(&game(&[]))[1..]);
-    let man = folder.file("man", [vec![13], vec![0; 68]].concat());
+    let cut = folder.file("cut", &roll(&game(&[]))[..70]);
+    let man = folder.file("man", [vec![13], vec![0; 70]].concat());
+    let zero = folder.file("zero", [0; 71]);
     let over = MAX_ACTIONS + 1;
-    let many = folder.file("many", [vec![0; 68], vec![128 + (over % 128) as u8, (over / 128) as u8]].concat());
+    let many = folder.file("many", [vec![0; 68], vec![0, 1, 128 + (over % 128) as u8, (over / 128) as u8]].concat());
     let bad = "the bytes are not a roll, or not the actions of one (answer 17)";
     let range = "a number of the board, a square, rank, file, colour, rights number or in-check byte is out of range (answer 5)";
     expect(&["diff", &cut, &man], "", ("17\n", &format!("menkhodur: {cut}, the first roll: {bad}\n"), 2));
     expect(&["diff", &man, &cut], "", ("5\n", &format!("menkhodur: {man}, the first roll: {range}\n"), 2));
     expect(&["diff", &good, &man], "", ("5\n", &format!("menkhodur: {man}, the second roll: {range}\n"), 2));
-    expect(&["diff", "--names", &good, "-"], [0; 70], ("17\n", &format!("menkhodur: standard input, the second roll: {bad}\n"), 2));
+    expect(&["diff", &good, &zero], "", ("5\n", &format!("menkhodur: {zero}, the second roll: {range}\n"), 2));
+    expect(&["diff", "--names", &good, "-"], [0; 69], ("17\n", &format!("menkhodur: standard input, the second roll: {bad}\n"), 2));
     let ran = run(&["diff", &good, &many], b"");
     assert_eq!((ran.text(), ran.status), ("13\n", 2));
     assert!(ran.err.starts_with(&format!("menkhodur: {many}, the second roll: ")) && ran.err.ends_with("(answer 13)\n"));
-    // Nothing that stands behind the longest roll is looked at: an endless file is refused.
-    let ran = run(&["diff", "/dev/zero", &good], b"");
-    assert_eq!((ran.text(), ran.status), ("17\n", 2));
+    // Nothing that stands behind the longest roll is looked at: an endless file is refused, by its move number or, if old, by its end.
+    for (words, number) in [(["diff", "/dev/zero", &good].as_slice(), "5\n"), (&["diff", "--old-first", "/dev/zero", &good], "17\n")] {
+        let ran = run(words, b"");
+        assert_eq!((ran.text(), ran.status), (number, 2));
+    }
 }
 
 #[test]
@@ -186,4 +146,50 @@ fn trouble_with_files() {
     let ran = run(&["diff", folder.0.to_str().unwrap(), &good], b"");
     assert_eq!((ran.text(), ran.status), ("", 2));
     assert!(ran.err.contains("directory"), "{}", ran.err);
+}
+
+#[test]
+fn an_old_roll_is_compared_as_one_with_0_and_1() {
+    let folder = Folder::new();
+    for mut game in Game::of_the_crate() {
+        let (old, new) = (folder.file("old", old_roll(&game)), folder.file("new", roll(&game)));
+        expect(&["diff", "--old-first", &old, &new], "", ("", "", 0));
+        expect(&["diff", "--old-second", &new, &old], "", ("", "", 0));
+        expect(&["diff", "--old-first", "--old-second", &old, &old], "", ("", "", 0));
+        (game.start[28], game.start[HALF], game.start[FULL]) = ((game.start[28] + 1) % 13, 300, 40);
+        let (before, changed) = ((game.start[28] + 12) % 13, folder.file("changed", roll(&game)));
+        let told = format!("28 {before} {}\nhalf 0 300\nfull 1 40\n", game.start[28]);
+        expect(&["diff", "--old-first", &old, &changed], "", (&told, "", 1));
+        expect(&["diff", "--old-first", "-", &changed], fs::read(&old).unwrap(), (&told, "", 1));
+    }
+}
+
+// The smallest bytes that are both: as an old roll one action, the move 0; as a new one the counters 1 and 2, and no action.
+#[test]
+fn bytes_that_are_both_are_what_the_options_say() {
+    let folder = Folder::new();
+    let (both, empty) = (folder.file("both", [&[0; 68][..], &[1, 2, 0]].concat()), folder.file("empty", roll(&game(&[]))));
+    expect(&["diff", &both, &empty], "", ("half 1 0\nfull 2 1\n", "", 1));
+    expect(&["diff", "--old-first", &both, &empty], "", ("action 0 2 0\n", "", 1));
+    expect(&["diff", "--old-second", &both, &both], "", ("half 1 0\nfull 2 1\naction 0 0 2\n", "", 1));
+}
+
+#[test]
+fn a_roll_of_the_other_kind_is_refused_first_roll_first() {
+    let folder = Folder::new();
+    let (old, new) = (folder.file("old", old_roll(&game(&[]))), folder.file("new", roll(&game(&[]))));
+    let man = folder.file("man", [13; 71]);
+    let refused = |words: &[&str], (number, roll, file): (u8, &str, &str)| {
+        let ran = run(&[&["diff"], words].concat(), b"");
+        assert_eq!((ran.text(), ran.status), (format!("{number}\n").as_str(), 2));
+        let told = format!("menkhodur: {file}, the {roll} roll: ");
+        assert!(ran.err.starts_with(&told) && ran.err.ends_with(&format!(" (answer {number})\n")), "{}", ran.err);
+    };
+    refused(&[&old, &new], (17, "first", &old));
+    refused(&["--old-first", &new, &new], (17, "first", &new));
+    refused(&["--old-second", &new, &new], (17, "second", &new));
+    refused(&["--old-second", &man, &new], (5, "first", &man));
+    refused(&["--old-first", &man, &old], (5, "first", &man));
+    refused(&["--old-first", "--old-second", &man, &new], (5, "first", &man));
+    refused(&["--old-second", &new, &man], (5, "second", &man));
 }

@@ -1,6 +1,6 @@
 //! `menkhodur show` and `menkhodur ruling`, on games of the crate with what the crate says of them (oracle/logs).
 
-use crate::common::{Folder, expect, run};
+use crate::common::{ENTRIES, FULL_MOVES, Folder, HALF_MOVES, IN_CHECK, MOVES, empty_position, expect, run};
 use menkhodur::lent::{ACTION_BYTES, ACTIONS_PART, MAX_ACTIONS, MAX_MOVES, POSITION_BYTES, POSITIONS_PART};
 use std::collections::HashMap;
 use std::fs;
@@ -17,7 +17,26 @@ fn folder() -> PathBuf {
 struct Game {
     actions: String,
     positions: String,
-    told: Vec<HashMap<String, String>>,
+    told: Vec<Told>,
+}
+
+type Told = HashMap<String, String>;
+
+/// Tells the counters of each position anew, from those of the start on: by the PGN standard, 16.1.3.5 and 16.1.3.6, and no further than 9,999.
+fn count(told: &mut [Told], (mut half, mut full): (u16, u16)) {
+    for told in told {
+        if told["kind"] == "move" {
+            let begins = ["a pawn move", "a capture"].iter().any(|cause| told["causes"].contains(cause));
+            half = if begins { 0 } else { 9_999.min(half + 1) };
+            full = 9_999.min(full + u16::from(told["side"] == "black"));
+        }
+        told.extend([("half", half), ("full", full)].map(|(name, value)| (name.to_string(), value.to_string())));
+    }
+}
+
+/// A position's FEN with its counters.
+fn fen(told: &Told) -> String {
+    format!("{}{} {}", told["key"].strip_suffix("0 1").expect("a key"), told["half"], told["full"])
 }
 
 impl Game {
@@ -26,12 +45,25 @@ impl Game {
         let text = fs::read_to_string(path("told")).expect("cli/run-tests makes the logs");
         let mut lines = text.lines().map(|line| line.split('\t').map(str::to_string).collect::<Vec<_>>());
         let head = lines.next().expect("a head");
-        let told = lines.map(|line| head.iter().cloned().zip(line).collect()).collect();
+        let told: Vec<Told> = lines.map(|line| head.iter().cloned().zip(line).collect()).collect();
         Game { actions: path("actions"), positions: path("positions"), told }
     }
 
     fn words<'a>(&'a self, words: &[&'a str]) -> Vec<&'a str> {
         words.iter().copied().chain([self.actions.as_str(), &self.positions]).collect()
+    }
+
+    /// The same from a start with other counters, its positions in a file of their own.
+    fn counted_from(&self, start: (u16, u16), folder: &Folder) -> Game {
+        let (mut told, mut positions) = (self.told.clone(), fs::read(&self.positions).unwrap());
+        count(&mut told, start);
+        for told in &told {
+            let position = &mut positions[POSITION_BYTES * number(told, "moves")..];
+            for (at, name) in [(HALF_MOVES, "half"), (FULL_MOVES, "full")] {
+                position[at..at + 2].copy_from_slice(&(number(told, name) as u16).to_le_bytes());
+            }
+        }
+        Game { actions: self.actions.clone(), positions: folder.file("positions", positions), told }
     }
 
     fn moves(&self) -> usize {
@@ -54,7 +86,7 @@ fn longest() -> Game {
     games().into_iter().find(|game| game.moves() == MAX_MOVES).expect("a game of the most moves")
 }
 
-fn done(told: &HashMap<String, String>) -> &str {
+fn done(told: &Told) -> &str {
     match told["kind"].as_str() {
         "move" => &told["name"],
         "offer" => "offers a draw",
@@ -65,33 +97,36 @@ fn done(told: &HashMap<String, String>) -> &str {
     }
 }
 
+/// What `show` owes a game.
+fn shown(game: &Game) -> String {
+    let line = |told: &Told| {
+        let what = done(told);
+        format!("{:>4} {:>4} {:5} {what:13} {:>3} {}\n", told["action"], told["moves"], told["side"], told["list"], fen(told))
+    };
+    game.told.iter().map(line).collect()
+}
+
 #[test]
 fn show_prints_every_action_as_the_crate_has_it() {
     for game in games() {
-        let line = |told: &HashMap<String, String>| {
-            let what = done(told);
-            format!("{:>4} {:>4} {:5} {what:13} {:>3} {}\n", told["action"], told["moves"], told["side"], told["list"], told["key"])
-        };
-        let owed: String = game.told.iter().map(line).collect();
-        expect(&game.words(&["show"]), "", (owed, "", 0));
+        expect(&game.words(&["show"]), "", (shown(&game), "", 0));
     }
 }
 
-fn object(told: &HashMap<String, String>) -> String {
+/// The fields of a position.
+fn position(told: &Told) -> String {
+    format!("\"key\":\"{}\",\"fen\":\"{}\",\"half_moves\":{},\"full_moves\":{}", told["key"], fen(told), told["half"], told["full"])
+}
+
+fn object(told: &Told) -> String {
     let side = if told["side"] == "-" { "null".to_string() } else { format!("\"{}\"", told["side"]) };
     let made = match told["kind"].as_str() {
         "move" => format!("\"name\":\"{}\",\"coordinates\":\"{}\",", told["name"], told["coordinates"]),
         _ => String::new(),
     };
-    format!(
-        "{{\"action\":{},\"moves\":{},\"side\":{side},\"kind\":\"{}\",{made}\"key\":\"{}\",\"in_check\":{},\"list\":{}}}",
-        told["action"],
-        told["moves"],
-        told["kind"],
-        told["key"],
-        told["in_check"] == "1",
-        told["list"]
-    )
+    let head = format!("\"action\":{},\"moves\":{},\"side\":{side},\"kind\":\"{}\",", told["action"], told["moves"], told["kind"]);
+    let tail = format!("\"in_check\":{},\"list\":{}", told["in_check"] == "1", told["list"]);
+    format!("{{{head}{made}{},{tail}}}", position(told))
 }
 
 #[test]
@@ -119,7 +154,7 @@ const CLAIMS: [&str; 4] = [
     "a draw may be claimed by the count and by equal positions",
 ];
 
-fn number(told: &HashMap<String, String>, name: &str) -> usize {
+fn number(told: &Told, name: &str) -> usize {
     told[name].parse().expect("a number")
 }
 
@@ -139,28 +174,30 @@ fn see_ruling(game: &Game, at: usize, words: &[&str]) {
     assert_eq!((row(text, "claim"), row(text, "Laws' claim")), (CLAIMS[claims[0]], CLAIMS[claims[1]]));
     for (name, field, by_rights) in [("count", "count", true), ("Laws' count", "laws_count", false)] {
         let began = number(told, "moves") - number(told, field);
-        let since = game.told[..=at].iter().find(|entry| number(entry, "moves") == began).unwrap();
-        see_count(row(text, name), number(told, field), since, by_rights);
+        let since = game.told[..=at].iter().position(|entry| number(entry, "moves") == began).unwrap();
+        see_count(row(text, name), number(told, field), &game.told[..=since], by_rights);
     }
     see_equals(text, game, told);
-    assert_eq!(row(text, "start"), game.told[0]["key"]);
-    see_names(text, &game.told[1..=at]);
+    assert_eq!(row(text, "start"), fen(&game.told[0]));
+    see_names(text, &game.told[..=at]);
 }
 
-fn see_count(line: &str, count: usize, since: &HashMap<String, String>, by_rights: bool) {
+/// `told` is up to the move that the count began with.
+fn see_count(line: &str, count: usize, told: &[Told], by_rights: bool) {
     assert!(line.starts_with(&format!("{count} of 100 moves without a pawn move")), "{line}");
-    match number(since, "moves") {
-        0 => assert!(line.ends_with(", since the start"), "{line}"),
-        after => {
+    match told {
+        [.., before, since] => {
             let causes: Vec<&str> = since["causes"].split(',').filter(|cause| by_rights || !cause.contains("rights")).collect();
-            assert!(line.contains(&format!(", since move {after} (")), "{line}");
-            assert!(line.ends_with(&format!(" {}), {}", since["name"], causes.join(" and "))), "{line} {causes:?}");
+            let (after, dots) = (&since["moves"], if since["side"] == "white" { "." } else { "..." });
+            let owed = format!(", since move {after} ({}{dots} {}), {}", before["full"], since["name"], causes.join(" and "));
+            assert!(line.ends_with(&owed), "{line} {owed}");
         }
+        _ => assert!(line.ends_with(", since the start"), "{line}"),
     }
 }
 
 /// The count of the equal positions, the two earliest and the last, each with its key.
-fn see_equals(text: &str, game: &Game, told: &HashMap<String, String>) {
+fn see_equals(text: &str, game: &Game, told: &Told) {
     let equals = number(told, "equals");
     let places: Vec<&str> = text.lines().skip_while(|line| !line.starts_with("equal")).skip(1).collect();
     assert_eq!(places.len(), equals + 1, "{text}");
@@ -173,17 +210,22 @@ fn see_equals(text: &str, game: &Game, told: &HashMap<String, String>) {
     assert!(places.iter().all(|place| place.ends_with(&told["key"])), "equal positions have one key: {text}");
 }
 
-/// The names stand in the game's text in order, and nothing else but numbers and what was done beside moves.
-fn see_names(text: &str, told: &[HashMap<String, String>]) {
+/// The names stand in the game's text in order, each of white's with the number that the FEN before it has, and black's where something else
+/// stands before it.
+fn see_names(text: &str, told: &[Told]) {
     let game: Vec<&str> = text.lines().skip(1).take_while(|line| !line.starts_with("result")).collect();
-    let words = game.join(" ");
-    let words = words.split_whitespace().filter(|word| !word.ends_with('.') || *word == "e.p.");
-    let owed = told.iter().map(|entry| match entry["kind"].as_str() {
-        "move" => entry["name"].clone(),
-        _ if entry["side"] == "-" => format!("({})", done(entry)),
-        _ => format!("({} {})", entry["side"], done(entry)),
-    });
-    assert_eq!(words.collect::<Vec<_>>().join(" "), owed.collect::<Vec<_>>().join(" "));
+    let mut owed = vec![];
+    for pair in told.windows(2) {
+        let (before, entry) = (&pair[0], &pair[1]);
+        owed.extend(match (entry["kind"].as_str(), entry["side"].as_str()) {
+            ("move", "white") => vec![format!("{}.", before["full"]), entry["name"].clone()],
+            ("move", _) if before["kind"] != "move" => vec![format!("{}...", before["full"]), entry["name"].clone()],
+            ("move", _) => vec![entry["name"].clone()],
+            (_, "-") => vec![format!("({})", done(entry))],
+            (_, side) => vec![format!("({side} {})", done(entry))],
+        });
+    }
+    assert_eq!(game.join(" ").split_whitespace().collect::<Vec<_>>().join(" "), owed.join(" "));
     assert!(game.iter().all(|line| line.len() <= 96));
 }
 
@@ -219,10 +261,39 @@ fn the_object_of_a_ruling_has_its_numbers() {
         let named = ["count", "laws_count", "equals", "moves"].map(|name| format!("\"{name}\":{},", told[name]));
         let numbered = ["result", "claim", "laws_claim"].map(|name| format!("\"{name}_number\":{},", told[name]));
         assert!(named.iter().chain(&numbered).all(|field| text.contains(field.as_str())), "{text} {told:?}");
+        assert!(text.contains(&format!("\"last\":{{\"moves\":{},\"action\":", told["moves"])), "{text}");
+        let last = game.told.iter().find(|entry| entry["moves"] == told["moves"]).unwrap();
+        assert!(text.contains(&format!(",\"action\":{},{}}},\"game\":[", last["action"], position(last))), "{text}");
         let entries: Vec<String> = game.told.iter().map(object).collect();
         assert!(text.ends_with(&format!("\"game\":[{}]}}\n", entries.join(","))), "{text}");
         assert_eq!(text.contains("\"result\":null"), told["result"] == "0");
     }
+}
+
+#[test]
+fn the_starts_counters_go_on_and_touch_no_ruling() {
+    let folder = Folder::new();
+    for game in games().into_iter().step_by(3) {
+        // Two programs by the same words: what oracle/logs has told, and `count`.
+        let (start, mut again) = (&game.told[0], game.told.clone());
+        count(&mut again, (number(start, "half") as u16, number(start, "full") as u16));
+        assert_eq!(again, game.told);
+        let counted = game.counted_from((99, 60), &folder);
+        expect(&counted.words(&["show"]), "", (shown(&counted), "", 0));
+        see_ruling(&counted, counted.told.len() - 1, &["ruling"]);
+    }
+}
+
+#[test]
+fn counters_stop_at_9999() {
+    let folder = Folder::new();
+    let (game, last) = (longest(), longest().counted_from((9_998, 9_999), &folder));
+    assert!(last.told.iter().all(|told| told["full"] == "9999") && last.told.last().unwrap()["half"] == "9999");
+    expect(&last.words(&["show"]), "", (shown(&last), "", 0));
+    see_ruling(&last, last.told.len() - 1, &["ruling"]);
+    let texts = [game, last].map(|game| run(&game.words(&["ruling"]), b""));
+    let rows = texts.each_ref().map(|ran| ["result", "claim", "Laws' claim"].map(|name| row(ran.text(), name)));
+    assert_eq!((rows[0], texts[0].status), (rows[1], texts[1].status));
 }
 
 #[test]
@@ -270,6 +341,13 @@ fn see_fault(actions: usize, standing: usize, fault: &str, damage: impl Fn(&mut 
     assert_eq!((shown.err.as_str(), shown.status, shown.text().lines().count()), (told.as_str(), 2, standing));
 }
 
+/// What is told of the fifth move, a knight's, if it comes with this position.
+fn wrong(held: &str) -> String {
+    let told = "the position after the move is not the one that the move leads to (answer 24)";
+    let owed = "rnbqkbnr/pppppppp/8/8/8/2N5/PPPPPPPP/R1BQKBNR b KQkq - 5 3";
+    format!("action 9 does not stand: {told}: it is {held}, and the move leads to {owed}")
+}
+
 // The log is white's move 1, its offer, black's move 2, its offer and so on: action 2k + 1 is a move, 2k + 2 an offer.
 #[test]
 fn the_first_action_that_does_not_stand_is_told() {
@@ -278,20 +356,16 @@ fn the_first_action_that_does_not_stand_is_told() {
     let range = "a number of the board, a square, rank, file, colour, rights number or in-check byte is out of range (answer 5)";
     see_fault(40, 8, &format!("action 8 does not stand: {range}"), |a, _| a[4 * 7 + 1] = 2);
     see_fault(40, 9, &format!("action 9 does not stand: {range}"), |_, p| p[5 * POSITION_BYTES + 10] = 13);
+    see_fault(40, 9, &format!("action 9 does not stand: {range}"), |_, p| p[5 * POSITION_BYTES + IN_CHECK] = 2);
     let bytes = "a byte of it, or of the position after it, is not 0 where it must be";
     see_fault(40, 8, &format!("action 8 does not stand: {bytes}"), |a, _| a[4 * 7 + 3] = 1);
     see_fault(40, 9, &format!("action 9 does not stand: {bytes}"), |_, p| p[6 * POSITION_BYTES - 1] = 1);
     see_fault(40, 9, "action 9 does not stand: the position after the move has the wrong side to move (answer 12)", |_, p| {
         p[5 * POSITION_BYTES + 64] = 0
     });
-    let wrong = |held: &str| {
-        let told = "the position after the move is not the one that the move leads to (answer 24)";
-        let owed = "rnbqkbnr/pppppppp/8/8/8/2N5/PPPPPPPP/R1BQKBNR b KQkq - 0 1";
-        format!("action 9 does not stand: {told}: it is {held}, and the move leads to {owed}")
-    };
-    let knight_twice = wrong("rnbqkbnr/pppppppp/8/8/8/2N5/PPPPPPPP/RNBQKBNR b KQkq - 0 1");
+    let knight_twice = wrong("rnbqkbnr/pppppppp/8/8/8/2N5/PPPPPPPP/RNBQKBNR b KQkq - 5 3");
     see_fault(40, 9, &knight_twice, |_, p| p[5 * POSITION_BYTES + 1] = 2);
-    let right_lost = wrong("rnbqkbnr/pppppppp/8/8/8/2N5/PPPPPPPP/R1BQKBNR b KQq - 0 1");
+    let right_lost = wrong("rnbqkbnr/pppppppp/8/8/8/2N5/PPPPPPPP/R1BQKBNR b KQq - 5 3");
     see_fault(40, 9, &right_lost, |_, p| p[5 * POSITION_BYTES + 66] = 2);
     see_fault(40, 12, "action 12 does not stand: no draw can be claimed (answer 15)", |a, _| a[44..48].copy_from_slice(&[4, 0, 0, 0]));
     see_fault(40, 22, "action 22 does not stand: the game is over (answer 10)", |a, _| a[80..84].copy_from_slice(&[5, 0, 0, 0]));
@@ -300,8 +374,32 @@ fn the_first_action_that_does_not_stand_is_told() {
 }
 
 #[test]
+fn a_counter_that_differs_is_told_with_what_it_must_be() {
+    let knight = "rnbqkbnr/pppppppp/8/8/8/2N5/PPPPPPPP/R1BQKBNR b KQkq -";
+    let (half, full) = (5 * POSITION_BYTES + HALF_MOVES, 5 * POSITION_BYTES + FULL_MOVES);
+    let clock = wrong(&format!("{knight} 0 3")) + "; its half-move clock is 0, and must be 5";
+    see_fault(40, 9, &clock, |_, p| p[half] = 0);
+    let high_byte = wrong(&format!("{knight} 261 3")) + "; its half-move clock is 261, and must be 5";
+    see_fault(40, 9, &high_byte, |_, p| p[half + 1] = 1);
+    let move_number = wrong(&format!("{knight} 5 4")) + "; its move number is 4, and must be 3";
+    see_fault(40, 9, &move_number, |_, p| p[full] = 4);
+    let both = wrong(&format!("{knight} 0 1")) + "; its half-move clock is 0, and must be 5; its move number is 1, and must be 3";
+    see_fault(40, 9, &both, |_, p| (p[half], p[full]) = (0, 1));
+    let square_too = wrong("rnbqkbnr/pppppppp/8/8/8/2N5/PPPPPPPP/RNBQKBNR b KQkq - 6 3") + "; its half-move clock is 6, and must be 5";
+    see_fault(40, 9, &square_too, |_, p| (p[5 * POSITION_BYTES + 1], p[half]) = (2, 6));
+    let range = "a number of the board, a square, rank, file, colour, rights number or in-check byte is out of range (answer 5)";
+    let over = format!("action 9 does not stand: {range}; its half-move clock is 10000, and must be 5");
+    see_fault(40, 9, &over, |_, p| p[half..half + 2].copy_from_slice(&10_000_u16.to_le_bytes()));
+    let zero = format!("action 9 does not stand: {range}; its move number is 0, and must be 3");
+    see_fault(40, 9, &zero, |_, p| p[full] = 0);
+}
+
+#[test]
 fn a_start_that_is_none_and_positions_too_few_or_too_many_are_told() {
     see_fault(40, 0, "the start is not a position", |_, p| p[0] = 13);
+    let counter = |told: &str| format!("the start is not a position: its {told}");
+    see_fault(40, 0, &counter("move number is 0, and must be from 1 to 9999"), |_, p| p[FULL_MOVES] = 0);
+    see_fault(40, 0, &counter("half-move clock is 65535, and must be from 0 to 9999"), |_, p| p[HALF_MOVES..FULL_MOVES].fill(255));
     see_fault(40, 39, "action 39 does not stand: the position after it is missing", |_, p| p.truncate(POSITION_BYTES * 20));
     see_fault(40, 41, "its moves lead to 21 positions, counting the start, but there are 22", |_, p| p.extend([0; POSITION_BYTES]));
 }
@@ -320,17 +418,23 @@ fn actions_before_the_fault_can_be_ruled_on() {
 fn files_of_another_size_are_trouble() {
     let folder = Folder::new();
     let (empty, odd, start) =
-        (folder.file("empty", ""), folder.file("odd", [1; POSITION_BYTES + 1]), folder.file("start", [0; POSITION_BYTES]));
-    let none = folder.path("none");
+        (folder.file("empty", ""), folder.file("odd", [1; POSITION_BYTES + 1]), folder.file("start", empty_position()));
+    let (none, zeros) = (folder.path("none"), folder.file("zeros", [0; POSITION_BYTES]));
     let ruling = |a: &str, p: &str, told: &str| expect(&["ruling", a, p], "", ("", &format!("menkhodur: {told}\n"), 2));
-    ruling(&odd, &start, &format!("{odd}: 581 bytes are not a whole number of actions of 4 bytes: 145, and 1 over"));
-    ruling(&empty, &odd, &format!("{odd}: 581 bytes are not a whole number of positions of 580 bytes: 1, and 1 over"));
+    ruling(&odd, &start, &format!("{odd}: 585 bytes are not a whole number of actions of 4 bytes: 146, and 1 over"));
+    ruling(&empty, &odd, &format!("{odd}: 585 bytes are not a whole number of positions of 584 bytes: 1, and 1 over"));
+    let old = folder.file("old", [0; 2 * 580]);
+    let told = "1160 bytes are not a whole number of positions of 584 bytes: 1, and 576 over; without counters, as before version 12, \
+                a position had 580";
+    ruling(&empty, &old, &format!("{old}: {told}"));
+    let not_good = "the log is not good: the start is not a position: its move number is 0, and must be from 1 to 9999";
+    ruling(&empty, &zeros, &format!("{empty}: {not_good}"));
     ruling(&empty, &empty, &format!("{empty}: it is empty, but a log has a start"));
     ruling(&none, &start, &format!("{none}: No such file or directory"));
     ruling(&folder.path(""), &start, &format!("{}: Is a directory", folder.path("")));
     ruling("/dev/zero", &start, &format!("/dev/zero: more than {ACTIONS_PART} bytes, the most that the actions of a log may have"));
     ruling(&empty, "/dev/zero", &format!("/dev/zero: more than {POSITIONS_PART} bytes, the most that the positions of a log may have"));
-    // 580 zeros are an empty board with an empty list: a stalemate.
+    // An empty board with an empty list: a stalemate.
     let ran = run(&["ruling", &empty, &start], b"");
     assert!(ran.text().contains("\nresult       stalemate, after 0 actions and 0 moves\n"), "{}", ran.text());
     assert_eq!(ran.status, 1);
@@ -350,12 +454,11 @@ fn a_number_of_actions_must_be_one_of_the_log() {
 #[test]
 fn a_move_without_a_name_is_shown_in_coordinates() {
     let folder = Folder::new();
-    let mut start = [0; POSITION_BYTES];
-    (start[52], start[69]) = (1, 2);
-    start[70..74].copy_from_slice(&[(3892_u16 % 256) as u8, (3892_u16 / 256) as u8, (28468_u16 % 256) as u8, (28468_u16 / 256) as u8]);
-    let mut after = [0; POSITION_BYTES];
+    let (mut start, mut after) = (empty_position(), empty_position());
+    (start[52], start[ENTRIES]) = (1, 2);
+    start[MOVES..MOVES + 4].copy_from_slice(&[3892_u16.to_le_bytes(), 28468_u16.to_le_bytes()].concat());
     (after[60], after[64]) = (6, 1);
-    let a = folder.file("a", [1, 0, (28468_u16 % 256) as u8, (28468_u16 / 256) as u8]);
+    let a = folder.file("a", [&[1, 0], &28468_u16.to_le_bytes()[..]].concat());
     let p = folder.file("p", [start, after].concat());
     let ran = run(&["show", &a, &p], b"");
     assert_eq!(ran.text().lines().nth(1).unwrap(), "   1    1 white e7e8k (no text names it)   0 4K3/8/8/8/8/8/8/8 b - - 0 1");

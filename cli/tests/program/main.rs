@@ -3,8 +3,10 @@
 mod common;
 mod diff;
 mod explain;
+mod games;
 mod keys;
 mod logs;
 mod options;
 mod pgn;
 mod pipes;
+mod rolls;

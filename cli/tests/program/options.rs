@@ -1,14 +1,15 @@
 //! Options, help, man page and completion.
 
 use crate::common::{Folder, expect, run};
+use menkhodur::lent::{ACTION_BYTES, POSITION_BYTES};
 use std::process::Command;
 
-const COMMANDS: [&str; 8] = ["keys", "explain", "pgn", "ruling", "show", "diff", "completion", "man"];
+const COMMANDS: [&str; 9] = ["keys", "explain", "pgn", "ruling", "show", "diff", "roll", "completion", "man"];
 
 #[test]
 fn what_is_not_known_is_trouble_and_named() {
     for (words, told) in [
-        (vec![], "a command is needed: keys, explain, pgn, ruling, show, diff, completion, man; see menkhodur --help"),
+        (vec![], "a command is needed: keys, explain, pgn, ruling, show, diff, roll, completion, man; see menkhodur --help"),
         (vec!["nope"], "unknown command nope; see menkhodur --help"),
         (vec!["--nope"], "unknown option --nope; see menkhodur --help"),
         (vec!["keys", "--nope"], "unknown option --nope; see menkhodur keys --help"),
@@ -21,6 +22,11 @@ fn what_is_not_known_is_trouble_and_named() {
         (vec!["show", "a", "b", "c"], "one word too many: c; see menkhodur show --help"),
         (vec!["ruling", "a", "b", "--at"], "a value (N) is needed for --at; see menkhodur ruling --help"),
         (vec!["completion", "csh"], "completion: csh is not bash, zsh or fish"),
+        (vec!["roll"], "missing upgrade; see menkhodur roll --help"),
+        (vec!["roll", "downgrade"], "roll: downgrade is not upgrade"),
+        (vec!["roll", "upgrade"], "missing OLD; see menkhodur roll --help"),
+        (vec!["roll", "upgrade", "a"], "missing NEW; see menkhodur roll --help"),
+        (vec!["roll", "upgrade", "a", "b", "c"], "one word too many: c; see menkhodur roll --help"),
     ] {
         expect(&words, "", ("", &format!("menkhodur: {told}\n"), 2));
     }
@@ -38,6 +44,15 @@ fn help_has_an_example_of_each_command() {
         assert!(help.text().contains("\nExample") && help.text().contains("\nExit status:\n  0 "), "{}", help.text());
         assert_eq!((help.status, help.err.as_str()), (0, ""));
         assert_eq!(run(&[command, "-h", "--nope"], b""), help);
+    }
+}
+
+#[test]
+fn help_has_the_archives_sizes() {
+    for command in ["ruling", "show"] {
+        let help = run(&[command, "--help"], b"");
+        assert!(help.text().contains(&format!("actions, {ACTION_BYTES} for each\n")), "{}", help.text());
+        assert!(help.text().contains(&format!("positions, {POSITION_BYTES} for the start and for each move\n")), "{}", help.text());
     }
 }
 
@@ -68,7 +83,7 @@ fn man_page_and_completion_name_every_command_and_option() {
         assert!(man.text().contains(&format!(".SS menkhodur {command}")), "{command}");
         assert!(options(command).len() >= 2, "{command}");
         for option in options(command) {
-            assert!(man.text().contains(&format!("\\-\\-{option}")), "{command} {option}");
+            assert!(man.text().contains(&format!("--{option}").replace('-', "\\-")), "{command} {option}");
             assert!(scripts[..2].iter().all(|script| script.text().contains(&format!("--{option}"))), "{command} {option}");
             assert!(scripts[2].text().contains(&format!("-l {option}")), "{command} {option}");
         }
@@ -97,6 +112,10 @@ fn bash_completes_commands_options_and_words() {
         (&["menkhodur", "ruling", "--a"], &["--at"]),
         (&["menkhodur", "completion", "z"], &["zsh"]),
         (&["menkhodur", "explain", "--j"], &["--json"]),
+        (&["menkhodur", "explain", "--f"], &["--full"]),
+        (&["menkhodur", "diff", "--old-s"], &["--old-second"]),
+        (&["menkhodur", "roll", "u"], &["upgrade"]),
+        (&["menkhodur", "roll", "upgrade", "--f"], &["--force"]),
     ] {
         assert_eq!(completed(&script, words).unwrap_or(owed.iter().map(|word| word.to_string()).collect()), owed);
     }

@@ -1,6 +1,6 @@
 //! Inputs that fail, outputs that fail, pipes that are slow or closed, and a terminal that looks on.
 
-use crate::common::{EMPTY, Folder, Ran, program};
+use crate::common::{EMPTY, Folder, Ran, empty_position, program};
 use std::ffi::{CStr, c_char, c_int};
 use std::fs::{self, File};
 use std::io::{BufRead, BufReader, Read, Write};
@@ -69,7 +69,7 @@ fn a_full_device_is_trouble_and_nothing_is_counted() {
         assert_eq!(full(words, ""), Ran { out: vec![], err: full_device.to_string(), status: 2 }, "{words:?}");
     }
     let folder = Folder::new();
-    let (a, p) = (folder.file("a", ""), folder.file("p", [0; 580]));
+    let (a, p) = (folder.file("a", ""), folder.file("p", empty_position()));
     for command in ["ruling", "show"] {
         assert_eq!(full(&[command, &a, &p], ""), Ran { out: vec![], err: full_device.to_string(), status: 2 });
     }

@@ -1,0 +1,81 @@
+//! A file that is written whole or not at all.
+
+use crate::input;
+use crate::options::Stop;
+use std::ffi::OsStr;
+use std::fs::{self, File};
+use std::io::{self, ErrorKind, Write};
+use std::path::{Path, PathBuf};
+
+/// Writes the file that a word names, which must not exist unless it is to be replaced. Whoever opens it sees what was there before or all of
+/// the bytes, and a failure leaves everything as it was.
+pub fn put(word: &OsStr, bytes: &[u8], replace: bool) -> Result<(), Stop> {
+    write(Path::new(word), bytes, replace).map_err(|error| match error.kind() {
+        ErrorKind::AlreadyExists => Stop::Trouble([input::shown(word), b": it exists; --force replaces it"].concat()),
+        _ => Stop::Trouble(input::failed(word, &error)),
+    })
+}
+
+fn write(path: &Path, bytes: &[u8], replace: bool) -> io::Result<()> {
+    // Where a link leads to a file, that file is replaced, not the link.
+    let path = fs::canonicalize(path).unwrap_or(path.to_path_buf());
+    let held = fs::metadata(&path).ok();
+    match &held {
+        // A device or a pipe would be gone.
+        Some(held) if !held.is_file() => return Err(io::Error::other("it is not a regular file")),
+        Some(_) if !replace => return Err(ErrorKind::AlreadyExists.into()),
+        _ => {}
+    }
+    let (mut beside, mut file) = Beside::create(&path)?;
+    file.write_all(bytes)?;
+    if let Some(held) = held {
+        file.set_permissions(held.permissions())?;
+    }
+    // Some systems tell only here that there is no room left.
+    file.sync_all()?;
+    if replace { beside.rename(&path) } else { beside.link(&path) }
+}
+
+/// A file in the folder of another, removed at the end unless it took that one's place.
+struct Beside {
+    path: PathBuf,
+    placed: bool,
+}
+
+impl Beside {
+    fn create(other: &Path) -> io::Result<(Beside, File)> {
+        let folder = other.parent().unwrap_or(Path::new(""));
+        let mut nth = 0;
+        loop {
+            // Processes on two machines, with one disk, may have one number.
+            let path = folder.join(format!(".menkhodur-{}-{nth}", std::process::id()));
+            match File::create_new(&path) {
+                Err(error) if error.kind() == ErrorKind::AlreadyExists => nth += 1,
+                made => return made.map(|file| (Beside { path, placed: false }, file)),
+            }
+        }
+    }
+
+    fn rename(&mut self, path: &Path) -> io::Result<()> {
+        fs::rename(&self.path, path)?;
+        self.placed = true;
+        Ok(())
+    }
+
+    /// A link, unlike a rename, replaces nothing, even if another process makes the file at this moment. Not every file system has them.
+    fn link(&mut self, path: &Path) -> io::Result<()> {
+        match fs::hard_link(&self.path, path) {
+            Err(error) if error.kind() != ErrorKind::AlreadyExists && fs::symlink_metadata(path).is_err() => self.rename(path),
+            linked => linked,
+        }
+    }
+}
+
+impl Drop for Beside {
+    fn drop(&mut self) {
+        if !self.placed {
+            // Nothing more can be done about a file that cannot be removed.
+            let _ = fs::remove_file(&self.path);
+        }
+    }
+}
