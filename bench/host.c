@@ -4,11 +4,11 @@
  *     rt staticlib menkhodur
  *     gcc -std=c11 -O2 bench/host.c target/staticlib/libmenkhodur.a -o target/bench_host && target/bench_host examples/positions.fen
  *
- * FEN: the positions of the file, each different. Lists: the moves of the men of such a position by the way they go (checks,
+ * FEN: the positions of the file, each different; for the full pair with the counters of a game. Lists: the moves of the men of such a position by the way they go (checks,
  * castling and captures in passing left out), of positions with 30 to 38 of them. Logs: 300, 1,024 and 4,096 such moves from the initial position, each
  * with the record after it (host/c/after_rule.h), none of them a capture and about 30 of them a pawn's; the last eight are two men there and back,
- * twice, so that a claim stands by two earlier equal positions, and an offer is at the end: every call is accepted. Logs of this kind are the same
- * to an archive of before version 9, which has no board_after: -DBEFORE leaves its row out.
+ * twice, so that a claim stands by two earlier equal positions, and an offer is at the end: every call is accepted. An archive of before version 12
+ * has another record: it is timed by the bench/host.c of its own commit, which makes the same positions, lists and moves.
  */
 #define _POSIX_C_SOURCE 199309L
 #include "../host/c/after_rule.h"
@@ -38,7 +38,9 @@ struct log {
 
 static char lines[MOST][128];
 static size_t lengths[MOST], line_count;
-static menkhodur_board boards[MOST];
+static menkhodur_board boards[MOST], counted[MOST];
+static uint8_t full_lines[MOST][MENKHODUR_LONGEST_FULL_FEN];
+static size_t full_lengths[MOST];
 static struct scene scenes[MOST];
 static size_t scene_count;
 static uint8_t coordinates[MOST][MENKHODUR_LONGEST_COORDINATE];
@@ -129,6 +131,17 @@ static void read_lines(const char *path)
         line_count++;
     }
     fclose(f);
+}
+
+/* The same positions with clocks of up to 99 and move numbers of up to 200. */
+static void make_full_lines(void)
+{
+    for (size_t i = 0; i < line_count; i++) {
+        counted[i] = boards[i];
+        counted[i].half_moves = (uint16_t)any(100);
+        counted[i].full_moves = (uint16_t)(1 + any(200));
+        full_lengths[i] = (size_t)menkhodur_fen_write_full(counted[i], full_lines[i], sizeof full_lines[i]).value;
+    }
 }
 
 static void make_scenes(void)
@@ -246,16 +259,23 @@ static uint64_t clear_square(size_t i) { return menkhodur_clear_square(boards[i 
 static uint64_t side_to_move(size_t i) { return menkhodur_side_to_move(boards[i % line_count], i % 2).number; }
 static uint64_t castle_rights(size_t i) { return menkhodur_castle_rights(boards[i % line_count], i % 2, i / 2 % 4).number; }
 static uint64_t en_passant(size_t i) { return menkhodur_en_passant(boards[i % line_count], i % 9).number; }
-#ifndef BEFORE
+static uint64_t half_moves(size_t i) { return menkhodur_half_moves(boards[i % line_count], i % 10000).number; }
+static uint64_t full_moves(size_t i) { return menkhodur_full_moves(boards[i % line_count], 1 + i % 9999).number; }
 static uint64_t board_after(size_t i) { return menkhodur_board_after(scenes[i % scene_count].board, scenes[i % scene_count].move).number; }
-#endif
 static uint64_t fen_read(size_t i) { return menkhodur_fen_read((const uint8_t *)lines[i % line_count], lengths[i % line_count]).number; }
+static uint64_t fen_read_full(size_t i) { return menkhodur_fen_read_full(full_lines[i % line_count], full_lengths[i % line_count]).number; }
 static uint64_t move_read(size_t i) { return menkhodur_move_read(coordinates[i % scene_count], 4).value; }
 
 static uint64_t fen_write(size_t i)
 {
     uint8_t out[MENKHODUR_LONGEST_FEN];
     return menkhodur_fen_write(boards[i % line_count], out, sizeof out).value;
+}
+
+static uint64_t fen_write_full(size_t i)
+{
+    uint8_t out[MENKHODUR_LONGEST_FULL_FEN];
+    return menkhodur_fen_write_full(counted[i % line_count], out, sizeof out).value;
 }
 
 static uint64_t move_write(size_t i)
@@ -344,13 +364,10 @@ static void print_base(void)
     static const struct row rows[] = {
         { "make_square", make_square }, { "rights_add", rights_add }, { "rights_remove", rights_remove }, { "square_rights", square_rights },
         { "piece", piece }, { "clear_square", clear_square }, { "side_to_move", side_to_move }, { "castle_rights", castle_rights },
-        { "en_passant", en_passant },
-#ifndef BEFORE
-        { "board_after", board_after },
-#endif
-        { "fen_read", fen_read }, { "fen_write", fen_write }, { "move_read", move_read },
-        { "move_write", move_write }, { "san_read", san_read }, { "san_name", san_name }, { "san_read_standard", san_read_standard },
-        { "san_name_standard", san_name_standard }, { "game_start", game_start },
+        { "en_passant", en_passant }, { "half_moves", half_moves }, { "full_moves", full_moves }, { "board_after", board_after },
+        { "fen_read", fen_read }, { "fen_write", fen_write }, { "fen_read_full", fen_read_full }, { "fen_write_full", fen_write_full },
+        { "move_read", move_read }, { "move_write", move_write }, { "san_read", san_read }, { "san_name", san_name },
+        { "san_read_standard", san_read_standard }, { "san_name_standard", san_name_standard }, { "game_start", game_start },
     };
     printf("%-24s %12s\n", "function", "ns a call");
     for (size_t i = 0; i < sizeof rows / sizeof *rows; i++) printf("%-24s %12.1f\n", rows[i].name, best(rows[i].call, 16 * MOST));
@@ -382,6 +399,7 @@ static void check_calls(void)
     must(game_make_move(0) + game_can_declare_draw(0) + game_declare_draw(0) + game_accept_draw(0) + game_resign(0) + game_offer_draw(0), "a call");
     log_in_use = &logs[2];
     must(game_make_move(0) - MENKHODUR_LOG_FULL + game_can_declare_draw(0) + game_declare_draw(0), "a call on the long log");
+    for (size_t i = 0; i < line_count; i++) must(fen_read_full(i) + half_moves(i) + full_moves(i), "a full FEN, or a step");
 }
 
 int main(int argc, char **argv)
@@ -393,6 +411,7 @@ int main(int argc, char **argv)
     make_log(&logs[0], 300);
     make_log(&logs[1], 1024);
     make_log(&logs[2], MENKHODUR_MAX_MOVES);
+    make_full_lines();
     check_calls();
     printf("%zu positions; %zu with lists, %.1f entries each; best of %d rounds\n", line_count, scene_count,
            (double)entries / (double)scene_count, ROUNDS);

@@ -2,7 +2,7 @@
 typedef unsigned char u8;
 typedef unsigned short u16;
 typedef unsigned long u64;
-typedef struct { u8 numbers[68]; } board;
+typedef struct { u8 numbers[68]; u16 half_moves, full_moves; } board;
 typedef struct { u64 number; board b; } stepped;
 
 stepped menkhodur_board_after(board b, u64 m);
