@@ -4,10 +4,10 @@
  *     rt staticlib menkhodur
  *     gcc -std=c11 -O2 bench/host.c target/staticlib/libmenkhodur.a -o target/bench_host && target/bench_host examples/positions.fen
  *
- * FEN: the positions of the file, each different; for the full pair with the counters of a game. Lists: the moves of the men of such a position by the way they go (checks,
- * castling and captures in passing left out), of positions with 30 to 38 of them. Logs: 300, 1,024 and 4,096 such moves from the initial position, each
- * with the record after it (host/c/after_rule.h), none of them a capture and about 30 of them a pawn's; the last eight are two men there and back,
- * twice, so that a claim stands by two earlier equal positions, and an offer is at the end: every call is accepted. An archive of before version 12
+ * FEN: the positions of the file, each different; for the full pair with the counters of a game. Lists: the moves of the men of such a position by the way
+ * they go (checks, castling and captures in passing left out), of positions with 30 to 38 of them. Logs: 300, 1,024 and 4,096 such moves from the initial
+ * position, each with the record after it (host/c/after_rule.h), none of them a capture and about 30 of them a pawn's; the last eight are two men there and
+ * back, twice, so that a claim stands by two earlier equal positions, and an offer is at the end: every call is accepted. An archive of before version 12
  * has another record: it is timed by the bench/host.c of its own commit, which makes the same positions, lists and moves.
  */
 #define _POSIX_C_SOURCE 199309L
