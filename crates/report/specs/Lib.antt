@@ -1,0 +1,3 @@
+pub mod CodeRooms
+pub mod CodeSets
+pub mod CodeChains

@@ -1,0 +1,5 @@
+pub mod Report
+pub mod Sets
+pub mod Repeats
+pub mod AtSmallest
+pub mod Promises
