@@ -2,7 +2,7 @@
  *
  * Numbers, records, moves, logs and texts are those of docs/papers/01-scope.md ("document 01"), rolls, the refusals of FEN texts, the
  * offsets in texts, the ruling of the Laws, the standard's form of SAN, pages of FENs, PGN move text, the board after a move, what differs between
- * two rolls and the counters of a FEN those of docs/papers/02-change-requests.md ("document 02"); the names and the order of the parameters are
+ * two rolls, the counters of a FEN and the evening report those of docs/papers/02-change-requests.md ("document 02"); the names and the order of the parameters are
  * those of docs/papers/HOST-ABI.md. tools/abi compares them, and the constants below, with the crates.
  *
  * What every function does: it answers for every value of its numbers, it ends, it keeps nothing between calls and allocates
@@ -32,7 +32,7 @@
 
 /* Rises by one with each landing that adds or changes a function. CHANGELOG.md tells what a host must change, and a struct that has
  * changed says beside it since which version it is so. */
-#define MENKHODUR_VERSION 12
+#define MENKHODUR_VERSION 13
 
 #ifdef __cplusplus
 extern "C" {
@@ -52,7 +52,7 @@ enum {
     MENKHODUR_GAME_OVER = 10,
     MENKHODUR_NOT_LISTED = 11,
     MENKHODUR_WRONG_SIDE = 12,      /* next position has the wrong side to move */
-    MENKHODUR_LOG_FULL = 13,        /* 8,192 actions reached, or for a move 4,096 moves; a roll with more */
+    MENKHODUR_LOG_FULL = 13,        /* 8,192 actions reached, or for a move 4,096 moves; a roll with more; a report on over 4,096 lines */
     MENKHODUR_NO_OFFER = 14,
     MENKHODUR_NO_CLAIM = 15,
     MENKHODUR_PART_TOO_SHORT = 16,
@@ -213,6 +213,12 @@ enum {
     MENKHODUR_PAGE_NUMBERS = 2  /* the answer's number, then its offset */
 };
 
+/* How many lines a page may have that is reported on, and how many kinds of men there are. */
+enum {
+    MENKHODUR_REPORT_LINES = 4096,
+    MENKHODUR_KINDS = 12
+};
+
 /* The board record: 68 numbers in document 01's order, which are what a key names, what a page holds and what repetition compares, and the
  * two counters of a FEN: 70 numbers, 72 bytes, aligned to 2. A square is a rank of 0 to 7 times 8 plus a file of 0 to 7, a1 = 0. Since
  * version 12 the counters are there, and a record of zeros is not in range: set `full_moves` to 1. The structs that hold a board are as
@@ -266,6 +272,16 @@ typedef struct {
     uint64_t level;  /* 0 outside brackets, 1 to 8 inside */
 } menkhodur_pgn_move;
 
+/* What is reported on a page of FENs. Of a refused report all is 0 but the number and, with 7, the lines. */
+typedef struct {
+    uint64_t number;
+    uint64_t lines;
+    uint64_t accepted;
+    uint64_t refused;  /* accepted + refused = lines */
+    uint64_t men[12];  /* on the accepted lines, man `code` at code - 1: white pawn .. king, black pawn .. king */
+    uint64_t repeated; /* accepted lines whose record, without counters, an earlier accepted line has: three equal ones are two */
+} menkhodur_report;
+
 #if defined(__cplusplus)
 #define MENKHODUR_ASSERT(fact, text) static_assert(fact, text)
 #elif defined(__STDC_VERSION__) && __STDC_VERSION__ >= 201112L
@@ -283,6 +299,7 @@ MENKHODUR_ASSERT(offsetof(menkhodur_roll, board) == 16 && sizeof(menkhodur_roll)
 MENKHODUR_ASSERT(sizeof(menkhodur_ruling) == 64, "eight numbers");
 MENKHODUR_ASSERT(sizeof(menkhodur_pgn_count) == 24, "three numbers");
 MENKHODUR_ASSERT(sizeof(menkhodur_pgn_move) == 48, "six numbers");
+MENKHODUR_ASSERT(sizeof(menkhodur_report) == 136, "seventeen numbers");
 MENKHODUR_ASSERT(sizeof(size_t) == 8, "lengths have 64 bits");
 #undef MENKHODUR_ASSERT
 #endif
@@ -384,6 +401,16 @@ menkhodur_answer menkhodur_fen_write_full(menkhodur_board b, uint8_t *out, size_
  * of lines, and both rooms are left alone: so a call with two empty rooms counts the lines. The text is left alone. */
 menkhodur_answer menkhodur_fen_page(const uint8_t *text, size_t length, uint8_t *records, size_t records_length,
                                     uint64_t *numbers, size_t numbers_length);
+
+/* The evening report (document 02, order 14): reads a page as menkhodur_fen_page does, for at most 4,096 lines, and counts over what it has read.
+ * 0: all figures; both rooms are as menkhodur_fen_page leaves them, so that each line's record, number and offset is there too.
+ * Refused, in this order: 13: more than 4,096 lines; all else is 0. 7: a room is too short, as for menkhodur_fen_page; `lines` is their
+ * number, all else 0. Both leave the rooms alone. The figures do not depend on the order of the lines.
+ * Cost: about one and a half times that of menkhodur_fen_page, whose time goes with the number of lines. Records that were made up so that all of
+ * them fall into one of the 4,093 buckets by which equal ones are found are each compared with all others: some tenths of a second for
+ * 4,096 of them. It takes 25 kilobytes of stack. */
+menkhodur_report menkhodur_fen_report(const uint8_t *text, size_t length, uint8_t *records, size_t records_length,
+                                      uint64_t *numbers, size_t numbers_length);
 
 /* ---- Move texts --------------------------------------------------------------------------------------------------------------- */
 /* A move is a number as MENKHODUR_MOVE makes it, at most 28,671. */

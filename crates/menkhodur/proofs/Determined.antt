@@ -35,6 +35,8 @@ use Rattle.menkhodur.proofs.menkhodur_fen_read_full.Reads as menkhodur-
 use Rattle.menkhodur.proofs.menkhodur_fen_read_full.Kinds as menkhodur-fen-read-full·k
 use Rattle.menkhodur.proofs.menkhodur_fen_page.Reads as menkhodur-fen-page
 use Rattle.menkhodur.proofs.menkhodur_fen_page.Kinds as menkhodur-fen-page·k
+use Rattle.menkhodur.proofs.menkhodur_fen_report.Reads as menkhodur-fen-report
+use Rattle.menkhodur.proofs.menkhodur_fen_report.Kinds as menkhodur-fen-report·k
 use Rattle.menkhodur.proofs.menkhodur_fen_write.Reads as menkhodur-fen-write
 use Rattle.menkhodur.proofs.menkhodur_fen_write.Kinds as menkhodur-fen-write·k
 use Rattle.menkhodur.proofs.menkhodur_fen_write_full.Reads as menkhodur-fen-write-full
@@ -137,6 +139,15 @@ menkhodur-fen-page-records κs a x y e f p q = p .1 .0 ∙ sym (q .1 .0)
 
 pub menkhodur-fen-page-numbers : OnePart menkhodur-fen-page·k.ps menkhodur-fen-page·k.r (λ κs x e. now (e .1 .1 .0)) menkhodur-fen-page.Learnt
 menkhodur-fen-page-numbers κs a x y e f p q = p .1 .1 ∙ sym (q .1 .1)
+
+pub menkhodur-fen-report-answer : OneAnswer menkhodur-fen-report·k.ps menkhodur-fen-report·k.r menkhodur-fen-report.Learnt
+menkhodur-fen-report-answer κs a x y e f p q = p .0 ∙ sym (q .0)
+
+pub menkhodur-fen-report-records : OnePart menkhodur-fen-report·k.ps menkhodur-fen-report·k.r (λ κs x e. now (e .1 .0)) menkhodur-fen-report.Learnt
+menkhodur-fen-report-records κs a x y e f p q = p .1 .0 ∙ sym (q .1 .0)
+
+pub menkhodur-fen-report-numbers : OnePart menkhodur-fen-report·k.ps menkhodur-fen-report·k.r (λ κs x e. now (e .1 .1 .0)) menkhodur-fen-report.Learnt
+menkhodur-fen-report-numbers κs a x y e f p q = p .1 .1 ∙ sym (q .1 .1)
 
 pub menkhodur-fen-write-answer : OneAnswer menkhodur-fen-write·k.ps menkhodur-fen-write·k.r menkhodur-fen-write.Learnt
 menkhodur-fen-write-answer κs a x y e f p q = p .0 ∙ sym (q .0)

@@ -8,6 +8,7 @@ use game_rules::Counts;
 use laws::Ruled;
 use pgn_text::PgnCount;
 use pgn_text::PgnMove;
+use report_text::Report;
 use roll_text::Roll;
 ghost use mathlib.Core.Path.{_≡_};
 ghost use lib.ListN.{length};
@@ -19,6 +20,7 @@ ghost use Rattle.board_builder.specs.Steps.{setPiece, clearSquare, setSide, set
 ghost use Rattle.fen_text.specs.Read.{readFen};
 ghost use Rattle.fen_text.specs.Full.{readFull};
 ghost use Rattle.fen_text.specs.Page.{pageAnswer, recordsLeft, toldLeft};
+ghost use Rattle.report_text.specs.Report.{mostLines, reportAnswer, reportRecords, reportTold};
 ghost use Rattle.move_rules.specs.After.{afterAnswer};
 ghost use Rattle.chess_move.specs.Coordinate.{readMove, moveText, moveCheck};
 ghost use Rattle.san_text.specs.Paper.{fromSan, nameAnswer, nameBytes};
@@ -145,6 +147,19 @@ pub extern "C" fn menkhodur_fen_page(text: &[u8], records: &mut [u8], numbers: &
     ensures numbers { λ r. ⌜ now (numbers .exit) ≡ toldLeft (now (text .entry)) (length (now (records .entry))) (now (numbers .entry)) ⌝ }
 {
     fen_reader::page::read_page(text, records, numbers)
+}
+
+#[no_mangle]
+pub extern "C" fn menkhodur_fen_report(
+    text: &[u8],
+    records: &mut [u8],
+    numbers: &mut [u64],
+) -> Report
+    ensures answer { λ r. ⌜ r ≡ reportAnswer mostLines (now (text .entry)) (length (now (records .entry))) (length (now (numbers .entry))) ⌝ }
+    ensures records { λ r. ⌜ now (records .exit) ≡ reportRecords mostLines (now (text .entry)) (now (records .entry)) (length (now (numbers .entry))) ⌝ }
+    ensures numbers { λ r. ⌜ now (numbers .exit) ≡ reportTold mostLines (now (text .entry)) (length (now (records .entry))) (now (numbers .entry)) ⌝ }
+{
+    report::report(text, records, numbers)
 }
 
 #[no_mangle]
