@@ -13,8 +13,9 @@ use lib.Seq.{drop-cons, drop-drop, take-all}
 use Rattle.answer.specs.Numbers.{among}
 use Rattle.answer.proofs.Bounds.{or-none}
 use Rattle.fen_text.specs.Token.{placeOf}
-use Rattle.fen_text.specs.Lines.{lineFeed, lineEnd, endedLines}
+use Rattle.fen_text.specs.Lines.{endedLines}
 use Rattle.fen_text.proofs.Lines.{ended-parts, none-in-front, place-at-most}
+use Rattle.fen_reader.specs.CodeClass.{foundFrom}
 
 found : (hit : ℕ) (here left : Bool) → not (eqb (bitOr hit (cond here 1 0)) 0) || left ≡ not (eqb hit 0) || (here || left)
 found hit here left = rw (or-none hit (cond here 1 0)) (by (eqb hit 0) here)
@@ -53,23 +54,23 @@ counted-end s at k n r h f g =
     let e : r ≡ length (endedLines (drop at s)) = f ∙ ap (λ (l : List ℕ). length (endedLines l)) all in
     omega arith
 
--- ---- the first newline: a block that has none is passed over, and in what is left it is looked for byte by byte
+-- ---- the first byte of a kind: a block that has none is passed over, and in what is left it is looked for byte by byte
 
-pub passed-over : (s : List ℕ) (from at size k : ℕ) (hit : Bool) → at + size ≤ length s → k ≡ size → hit ≡ among lineFeed (take k (drop at s)) → hit ≡ false
-    → lineEnd s from ≡ lineEnd s at → lineEnd s from ≡ lineEnd s (at + size)
-passed-over s from at size k hit h e f none g =
+pub passed-over : (b : ℕ) (s : List ℕ) (from at size k : ℕ) (hit : Bool) → at + size ≤ length s → k ≡ size → hit ≡ among b (take k (drop at s)) → hit ≡ false
+    → foundFrom b s from ≡ foundFrom b s at → foundFrom b s from ≡ foundFrom b s (at + size)
+passed-over b s from at size k hit h e f none g =
     let long : size ≤ length (drop at s) = rw (length-drop at s) (omega arith) in
-    let absent : among lineFeed (take size (drop at s)) ≡ false = ap (λ (j : ℕ). among lineFeed (take j (drop at s))) (sym e) ∙ sym f ∙ none in
-    let place : placeOf lineFeed (drop at s) ≡ size + placeOf lineFeed (drop size (drop at s)) = none-in-front lineFeed (drop at s) size long absent in
-    let past : placeOf lineFeed (drop size (drop at s)) ≡ placeOf lineFeed (drop (at + size) s) = ap (placeOf lineFeed) (drop-drop size at s) in
+    let absent : among b (take size (drop at s)) ≡ false = ap (λ (j : ℕ). among b (take j (drop at s))) (sym e) ∙ sym f ∙ none in
+    let place : placeOf b (drop at s) ≡ size + placeOf b (drop size (drop at s)) = none-in-front b (drop at s) size long absent in
+    let past : placeOf b (drop size (drop at s)) ≡ placeOf b (drop (at + size) s) = ap (placeOf b) (drop-drop size at s) in
     omega arith
 
-pub looked-for : (s : List ℕ) (from at k r : ℕ) → length s - at ≤ k → r ≡ placeOf lineFeed (take k (drop at s))
-    → lineEnd s from ≡ lineEnd s at → at + r ≡ lineEnd s from
-looked-for s from at k r h f g =
+pub looked-for : (b : ℕ) (s : List ℕ) (from at k r : ℕ) → length s - at ≤ k → r ≡ placeOf b (take k (drop at s))
+    → foundFrom b s from ≡ foundFrom b s at → at + r ≡ foundFrom b s from
+looked-for b s from at k r h f g =
     let all : take k (drop at s) ≡ drop at s = take-all k (drop at s) (rw (length-drop at s) h) in
-    let e : r ≡ placeOf lineFeed (drop at s) = f ∙ ap (placeOf lineFeed) all in
+    let e : r ≡ placeOf b (drop at s) = f ∙ ap (placeOf b) all in
     omega arith
 
-pub end-within : (s : List ℕ) (at : ℕ) → at ≤ length s → lineEnd s at ≤ length s
-end-within s at h = omega (arith, place-at-most lineFeed (drop at s), length-drop at s)
+pub end-within : (b : ℕ) (s : List ℕ) (at : ℕ) → at ≤ length s → foundFrom b s at ≤ length s
+end-within b s at h = omega (arith, place-at-most b (drop at s), length-drop at s)

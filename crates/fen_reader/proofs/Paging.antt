@@ -108,7 +108,7 @@ module _ (text records₀ told₀ records told : List ℕ) (at line end : ℕ) (
       → Reached text records₀ told₀ records' told' next (line + 1)
   unfolding overLines
   turned next records' told' u v w =
-      let fit : end ≤ length text = subst (λ (k : ℕ). k ≤ length text) (sym e) (end-within text at (r .within)) in
+      let fit : end ≤ length text = subst (λ (k : ℕ). k ≤ length text) (sym e) (end-within lineFeed text at (r .within)) in
       let p = past-place text end next fit w in
       let more = one-more text at end h e in
       let left : drop next text ≡ drop (end + 1) text = p .1 in

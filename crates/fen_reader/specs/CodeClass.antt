@@ -6,7 +6,7 @@ use mathlib.Core.Path.{_≡_}
 use mathlib.Core.Bool.{false, cond}
 use mathlib.Core.List.{List, [], _∷_}
 use lib.Dec.{eqb, ltb}
-use lib.ListN.{take, set}
+use lib.ListN.{take, drop, set}
 use Rattle.answer.specs.Numbers.{between}
 use Rattle.square.specs.Piece.{pieceOf}
 use Rattle.fen_text.specs.Token.{placeOf}
@@ -46,6 +46,10 @@ pub record PlacementWalk (s : List ℕ) (r : Walked) : Type 0 where
   pub place : r .end ≡ placeOf 32 s
   pub pieces : placeAll start (take (r .end) s) .pieces ≡ r .pieces
   pub good : placeAll start (take (r .end) s) .good ≡ ltb (r .seen) noClass
+
+-- the place of the first b from a place on, or the text's end
+abbrev pub foundFrom : ℕ → List ℕ → ℕ → ℕ
+foundFrom b s from = from + placeOf b (drop from s)
 
 -- the first token of a text ends there, and is not a placement
 pub record NoPlacement (s : List ℕ) (end : ℕ) : Type 0 where

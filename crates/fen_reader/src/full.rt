@@ -1,4 +1,5 @@
 // The full FEN reader (document 02, order 12): the crate's, and then the two counters.
+use crate::lines;
 use crate::refused_at;
 use crate::token;
 use answer::ACCEPTED;
@@ -8,9 +9,9 @@ use board_builder::LAST_COUNT;
 use fen_text::Fen;
 ghost use mathlib.Core.Path.{_≡_};
 ghost use Prim.Native.Nat.{ℕ, _+_, _≤_};
-ghost use lib.ListN.{length};
+ghost use lib.ListN.{length, drop};
 ghost use Rattle.board_builder.specs.BoardBuilder.{withCounters, lastCount};
-ghost use Rattle.fen_text.specs.Token.{tokens};
+ghost use Rattle.fen_text.specs.Token.{placeOf, tokens};
 ghost use Rattle.fen_text.specs.Read.{fenOf};
 ghost use Rattle.fen_text.specs.Full.{numbered, clocked, readFull};
 
@@ -59,6 +60,13 @@ fn half_moves(b: BoardBuilder, long: usize, at: usize, s: &[u8]) -> Fen
     full_moves(b, half, at + end + 1, token::after(s, end))
 }
 
+// What stands after the first space: a placement is long enough to look for it in blocks.
+fn behind_placement(text: &[u8]) -> &[u8]
+    ensures { λ r. ⌜ now r ≡ drop (placeOf 32 (now (text .entry)) + 1) (now (text .entry)) ⌝ }
+{
+    token::after(text, lines::find_from(text, 0, b' '))
+}
+
 // A text that the crate's reader accepts has four tokens.
 pub fn read_full(text: &[u8]) -> Fen
     ensures { λ r. ⌜ r ≡ readFull (now (text .entry)) ⌝ }
@@ -67,7 +75,7 @@ pub fn read_full(text: &[u8]) -> Fen
     if fen.number != ACCEPTED {
         return fen;
     }
-    let ep = token::behind(token::behind(token::behind(text)));
+    let ep = token::behind(token::behind(behind_placement(text)));
     let end = token::find(ep, b' ');
     if ep.len() <= end {
         return refused_at(BAD_COUNTER, text.len());

@@ -7,6 +7,7 @@ ghost use lib.ListN.{length};
 ghost use Rattle.answer.specs.Numbers.{among};
 ghost use Rattle.fen_text.specs.Lines.{lineFeed, lineEnd, endedLines};
 ghost use Rattle.fen_text.specs.Page.{lineCount};
+ghost use Rattle.fen_reader.specs.CodeClass.{foundFrom};
 
 const LINE_FEED: u8 = b'\n';
 
@@ -62,21 +63,21 @@ pub fn line_count(text: &[u8]) -> usize
     n + 1
 }
 
-fn has_newline(block: &[u8]) -> bool
-    ensures { λ r. ⌜ r ≡ among lineFeed (now (block .entry)) ⌝ }
+fn has(block: &[u8], b: u8) -> bool
+    ensures { λ r. ⌜ r ≡ among b (now (block .entry)) ⌝ }
 {
     let mut hit: u8 = 0;
     let mut i: usize = 0;
     while i < block.len() {
-        hit = hit | flag(block[i] == LINE_FEED);
+        hit = hit | flag(block[i] == b);
         i += 1;
     }
     hit != 0
 }
 
-// Where the line that starts at `from` ends: at its newline, or with the text.
-pub fn line_end(text: &[u8], from: usize) -> usize
-    ensures { λ r. ⌜ r ≡ lineEnd (now (text .entry)) from ⌝ }
+// The place of the first `b` from `from` on, or the text's end.
+pub(crate) fn find_from(text: &[u8], from: usize, b: u8) -> usize
+    ensures { λ r. ⌜ r ≡ foundFrom b (now (text .entry)) from ⌝ }
 {
     if text.len() <= from {
         return from;
@@ -84,10 +85,17 @@ pub fn line_end(text: &[u8], from: usize) -> usize
     let mut at = from;
     while BLOCK <= text.len() - at {
         let next = at + BLOCK;
-        if has_newline(&text[at..next]) {
-            return at + token::find(&text[at..], LINE_FEED);
+        if has(&text[at..next], b) {
+            return at + token::find(&text[at..], b);
         }
         at = next;
     }
-    at + token::find(&text[at..], LINE_FEED)
+    at + token::find(&text[at..], b)
+}
+
+// Where the line that starts at `from` ends: at its newline, or with the text.
+pub fn line_end(text: &[u8], from: usize) -> usize
+    ensures { λ r. ⌜ r ≡ lineEnd (now (text .entry)) from ⌝ }
+{
+    find_from(text, from, LINE_FEED)
 }

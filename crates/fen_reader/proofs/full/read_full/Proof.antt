@@ -22,14 +22,14 @@ returns c =
     let same = c .before .before .read-fen .ensures in
     same ∙ refused-first (c .before .before .before .before .args .text .now) (λ e. c .if1 .taken (ap (λ (f : Fen). f .number) same ∙ e))
 
+behind-placement-requires : tie.Need-behind-placement-requires
+behind-placement-requires c κs = search needs
+
 behind-requires : tie.Need-behind-requires
 behind-requires c κs = search needs
 
 behind-requires-2 : tie.Need-behind-requires-2
 behind-requires-2 c κs = search needs
-
-behind-requires-3 : tie.Need-behind-requires-3
-behind-requires-3 c κs = search needs
 
 find-requires : tie.Need-find-requires
 find-requires c κs = search needs
@@ -42,14 +42,14 @@ returns-2 c =
     let a = c .before .before .before .before .before .before .before .before .before .before .args in
     let at-read-fen = c .before .before .before .before .before .before .before .before .read-fen in
     let at-if1 = c .before .before .before .before .before .before .if1 in
-    let at-behind = c .before .before .before .before .before .behind in
-    let at-behind2 = c .before .before .before .before .behind2 in
-    let at-behind3 = c .before .before .before .behind3 in
+    let at-first = c .before .before .before .before .before .behind-placement in
+    let at-second = c .before .before .before .before .behind in
+    let at-third = c .before .before .before .behind2 in
     let at-find = c .before .before .find in
     let at-if2 = c .before .if2 in
     let s = a .text .now in
     let good : readFen s .number ≡ 0 = sym (ap (λ (f : Fen). f .number) (at-read-fen .ensures)) ∙ at-if1 .left in
-    let here = at-behind3 .ensures ∙ ap rest (at-behind2 .ensures ∙ ap rest (at-behind .ensures)) in
+    let here = at-third .ensures ∙ ap rest (at-second .ensures ∙ ap rest (at-first .ensures)) in
     c .refused-at .ensures ∙ no-counters s _ good here (at-find .result) (at-find .ensures) (at-if2 .taken)
 
 after-requires : tie.Need-after-requires
@@ -60,14 +60,14 @@ sub-half-moves c =
     let a = c .before .before .before .before .before .before .before .before .before .before .args in
     let at-read-fen = c .before .before .before .before .before .before .before .before .read-fen in
     let at-if1 = c .before .before .before .before .before .before .if1 in
-    let at-behind = c .before .before .before .before .before .behind in
-    let at-behind2 = c .before .before .before .before .behind2 in
-    let at-behind3 = c .before .before .before .behind3 in
+    let at-first = c .before .before .before .before .before .behind-placement in
+    let at-second = c .before .before .before .before .behind in
+    let at-third = c .before .before .before .behind2 in
     let at-find = c .before .before .find in
     let at-if2 = c .before .if2 in
     let s = a .text .now in
     let good : readFen s .number ≡ 0 = sym (ap (λ (f : Fen). f .number) (at-read-fen .ensures)) ∙ at-if1 .left in
-    let here = at-behind3 .ensures ∙ ap rest (at-behind2 .ensures ∙ ap rest (at-behind .ensures)) in
+    let here = at-third .ensures ∙ ap rest (at-second .ensures ∙ ap rest (at-first .ensures)) in
     not-past s _ good here (at-find .result) _ (at-find .ensures) (at-if2 .left) (c .after .ensures)
 
 half-moves-requires : tie.Need-half-moves-requires
@@ -75,14 +75,14 @@ half-moves-requires c κs =
     let a = c .before .before .before .before .before .before .before .before .before .before .args in
     let at-read-fen = c .before .before .before .before .before .before .before .before .read-fen in
     let at-if1 = c .before .before .before .before .before .before .if1 in
-    let at-behind = c .before .before .before .before .before .behind in
-    let at-behind2 = c .before .before .before .before .behind2 in
-    let at-behind3 = c .before .before .before .behind3 in
+    let at-first = c .before .before .before .before .before .behind-placement in
+    let at-second = c .before .before .before .before .behind in
+    let at-third = c .before .before .before .behind2 in
     let at-find = c .before .before .find in
     let at-if2 = c .before .if2 in
     let s = a .text .now in
     let good : readFen s .number ≡ 0 = sym (ap (λ (f : Fen). f .number) (at-read-fen .ensures)) ∙ at-if1 .left in
-    let here = at-behind3 .ensures ∙ ap rest (at-behind2 .ensures ∙ ap rest (at-behind .ensures)) in
+    let here = at-third .ensures ∙ ap rest (at-second .ensures ∙ ap rest (at-first .ensures)) in
     omega (arith, not-past s _ good here (at-find .result) _ (at-find .ensures) (at-if2 .left) (c .after .ensures))
 
 returns-3 : tie.Need-returns-3
@@ -90,9 +90,9 @@ returns-3 c =
     let a = c .before .before .before .before .before .before .before .before .before .before .before .args in
     let at-read-fen = c .before .before .before .before .before .before .before .before .before .read-fen in
     let at-if1 = c .before .before .before .before .before .before .before .if1 in
-    let at-behind = c .before .before .before .before .before .before .behind in
-    let at-behind2 = c .before .before .before .before .before .behind2 in
-    let at-behind3 = c .before .before .before .before .behind3 in
+    let at-first = c .before .before .before .before .before .before .behind-placement in
+    let at-second = c .before .before .before .before .before .behind in
+    let at-third = c .before .before .before .before .behind2 in
     let at-find = c .before .before .before .find in
     let at-if2 = c .before .before .if2 in
     let at-after = c .before .after in
@@ -100,7 +100,7 @@ returns-3 c =
     let t : List ℕ = now (at-after .result) in
     let same = at-read-fen .ensures in
     let good : readFen s .number ≡ 0 = sym (ap (λ (f : Fen). f .number) same) ∙ at-if1 .left in
-    let here = at-behind3 .ensures ∙ ap rest (at-behind2 .ensures ∙ ap rest (at-behind .ensures)) in
+    let here = at-third .ensures ∙ ap rest (at-second .ensures ∙ ap rest (at-first .ensures)) in
     c .half-moves .ensures
     ∙ ap (λ (f : Fen). clocked (f .board) (length s) (length s - length t) (tokens t)) same
     ∙ counters-there s _ good here (at-find .result) _ (at-find .ensures) (at-if2 .left) (at-after .ensures)
@@ -111,9 +111,9 @@ read-full-spec =
     (tie.spec
     read-fen-requires
     returns
+    behind-placement-requires
     behind-requires
     behind-requires-2
-    behind-requires-3
     find-requires
     refused-at-requires
     returns-2

@@ -4,6 +4,7 @@ use borrow.Author.Needs.{needs}
 use Prim.Native.Nat.{_-_, _<_}
 use native.Mathlib.Omega.{arith}
 use lib.ListN.{length}
+use Rattle.fen_text.specs.Lines.{lineFeed}
 use Rattle.fen_reader.proofs.Blocks.{end-within}
 use Rattle.fen_reader.proofs.Paging.{further}
 use Rattle.fen_reader.proofs.Paging.{Reached, begun, bounds, turned, done}
@@ -32,7 +33,7 @@ part-read-fen-end : tie.Need-part-read-fen-end Inv-loop μ-loop
 part-read-fen-end c =
     let a = c .before .before .before .before .before .before .args in
     let at-loop = c .before .before .loop in
-    omega (arith, c .line-end .ensures, end-within (a .text .now) (at-loop .at) (at-loop .inv .within))
+    omega (arith, c .line-end .ensures, end-within lineFeed (a .text .now) (at-loop .at) (at-loop .inv .within))
 
 read-fen-requires : tie.Need-read-fen-requires Inv-loop μ-loop
 read-fen-requires c κs = search needs

@@ -1,4 +1,4 @@
--- `has_newline` of lines.rt meets its contract: r ≡ among lineFeed (now (block .entry)).
+-- `has` of lines.rt meets its contract: r ≡ among b (now (block .entry)).
 use borrow.Author.Needs.{needs}
 use mathlib.Core.Path.{_≡_, refl, sym, ap, _∙_}
 use mathlib.Core.Bool.{not, _||_}
@@ -7,16 +7,15 @@ use lib.Bits.{bitOr}
 use lib.Dec.{eqb}
 use lib.ListN.{length, drop}
 use Rattle.answer.specs.Numbers.{among}
-use Rattle.fen_text.specs.Lines.{lineFeed}
 use Rattle.fen_reader.proofs.Blocks.{found-turn, found-end}
-use Rattle.fen_reader.proofs.lines.has_newline.Statement.{statement}
-use Rattle.fen_reader.proofs.lines.has_newline.Tie as tie
+use Rattle.fen_reader.proofs.lines.has.Statement.{statement}
+use Rattle.fen_reader.proofs.lines.has.Tie as tie
 
 abbrev Inv-loop : tie.InvT-loop
-Inv-loop block hit₀ i₀ hit i = (i ≤ length block) × (not (eqb hit 0) || among lineFeed (drop i block) ≡ among lineFeed block)
+Inv-loop block b hit₀ i₀ hit i = (i ≤ length block) × (not (eqb hit 0) || among b (drop i block) ≡ among b block)
 
 abbrev μ-loop : tie.MeasureT-loop
-μ-loop block hit₀ i₀ hit i = length block - i
+μ-loop block b hit₀ i₀ hit i = length block - i
 
 loop-holds : tie.Need-loop-holds Inv-loop μ-loop
 loop-holds c = (zero-le, refl)
@@ -36,11 +35,12 @@ loop-less c = search needs
 loop-again : tie.Need-loop-again Inv-loop μ-loop
 loop-again c =
     let at-loop = c .before .before .before .loop in
-    let s = c .before .before .before .before .before .args .block .now in
+    let a = c .before .before .before .before .before .args in
+    let s = a .block .now in
     let i = at-loop .i in (
       search needs,
-      ap (λ (x : ℕ). not (eqb (bitOr (at-loop .hit) x) 0) || among lineFeed (drop (i + 1) s)) (c .flag .ensures)
-          ∙ found-turn lineFeed s (at-loop .hit) i (c .before .before .loop-test .taken)
+      ap (λ (x : ℕ). not (eqb (bitOr (at-loop .hit) x) 0) || among (a .b) (drop (i + 1) s)) (c .flag .ensures)
+          ∙ found-turn (a .b) s (at-loop .hit) i (c .before .before .loop-test .taken)
           ∙ at-loop .inv .1,
     )
 
@@ -48,10 +48,10 @@ returns : tie.Need-returns Inv-loop μ-loop
 returns c =
     let a = c .before .before .before .args in
     let at-loop = c .before .loop in
-    sym (found-end lineFeed (a .block .now) (at-loop .hit) (at-loop .i) (c .loop-test .left)) ∙ at-loop .inv .1
+    sym (found-end (a .b) (a .block .now) (at-loop .hit) (at-loop .i) (c .loop-test .left)) ∙ at-loop .inv .1
 
-pub has-newline-spec : {M : Type 1} → statement M
-has-newline-spec =
+pub has-spec : {M : Type 1} → statement M
+has-spec =
     tie.close
     (tie.spec
     Inv-loop
