@@ -1,11 +1,11 @@
 //! Files and standard input, read page by page and cut into whole lines. A line that a failed read cut is never handed on.
 
 use crate::options::Stop;
+use crate::streams;
 use crate::told;
 use std::ffi::{OsStr, OsString};
 use std::fs::File;
 use std::io::{self, ErrorKind, Read};
-use std::os::fd::AsFd;
 use std::os::unix::ffi::OsStrExt;
 
 /// A line of this length does not fit any more, as in the proved program `keys`.
@@ -49,7 +49,7 @@ pub fn read(words: &[OsString], lines: &mut impl Lines, whole: &mut bool) -> Res
 /// The file that a word names; `-` is standard input.
 pub fn open(word: &OsStr) -> io::Result<File> {
     match word.as_bytes() {
-        b"-" => io::stdin().as_fd().try_clone_to_owned().map(File::from),
+        b"-" => streams::input(),
         _ => File::open(word),
     }
 }

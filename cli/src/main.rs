@@ -19,6 +19,7 @@ mod ruling;
 mod show;
 mod standard;
 mod stored;
+mod streams;
 mod table;
 mod told;
 mod whole;

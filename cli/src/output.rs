@@ -1,10 +1,10 @@
 //! Standard output: what waits goes out when there is no room for more, or when someone may wait for it.
 
 use crate::options::{Status, Stop};
+use crate::streams;
 use crate::told;
 use std::fs::File;
 use std::io::{self, ErrorKind, Write};
-use std::os::fd::AsFd;
 
 const ROOM: usize = 65_536;
 
@@ -27,8 +27,7 @@ pub struct Output<T = ()> {
 
 impl<T: Copy + Default> Output<T> {
     pub fn new() -> Result<Output<T>, Stop> {
-        // The runtime's own standard output would look for newlines in every page again.
-        let file = io::stdout().as_fd().try_clone_to_owned().map(File::from).map_err(|error| failure(&error))?;
+        let file = streams::output().map_err(|error| failure(&error))?;
         let room = vec![0; ROOM].into_boxed_slice();
         Ok(Output { file, room, ready: 0, marks: vec![], settled: T::default(), status: Status::Well })
     }
