@@ -1,6 +1,7 @@
 //! `menkhodur diff`: what differs between the games of two rolls.
 
 use crate::input;
+use crate::json::Object;
 use crate::options::{Asked, Flag, Status, Stop};
 use crate::output::Output;
 use crate::roll;
@@ -10,6 +11,7 @@ use menkhodur::{Action, CastleRights, Color, Difference, Differences, File, Piec
 pub const NAMES: Flag = Flag { name: "names", value: None, about: "after a tab, name squares, men and actions in words" };
 pub const OLD_FIRST: Flag = Flag { name: "old-first", value: None, about: "FIRST is an old roll, without counters" };
 pub const OLD_SECOND: Flag = Flag { name: "old-second", value: None, about: "SECOND is an old roll, without counters" };
+pub const JSON: Flag = Flag { name: "json", value: None, about: "print one JSON object for each line" };
 
 pub fn run(asked: &Asked) -> Result<Status, Stop> {
     if asked.words.iter().all(|word| word == "-") {
@@ -20,7 +22,8 @@ pub fn run(asked: &Asked) -> Result<Status, Stop> {
     let lines = match compared(asked, first, second) {
         Ok(lines) => lines,
         Err(refused) => {
-            output.put(format!("{}\n", refused.error.number()).as_bytes())?;
+            let told = if asked.has(&JSON) { refused_object(&refused) } else { refused.error.number().to_string() };
+            output.put((told + "\n").as_bytes())?;
             output.status = Status::Trouble;
             output.flush()?;
             let word = &asked.words[(refused.roll == Which::Second) as usize];
@@ -31,8 +34,8 @@ pub fn run(asked: &Asked) -> Result<Status, Stop> {
     let status = if lines.len() == 0 { Status::Well } else { Status::Found };
     output.status = status;
     for difference in lines {
-        let names = if asked.has(&NAMES) { format!("\t{}", named(&difference)) } else { String::new() };
-        output.put(format!("{difference}{names}\n").as_bytes())?;
+        let told = if asked.has(&JSON) { object(&difference) } else { line(&difference, asked.has(&NAMES)) };
+        output.put((told + "\n").as_bytes())?;
     }
     output.flush()?;
     Ok(status)
@@ -51,18 +54,43 @@ fn compared(asked: &Asked, first: Vec<u8>, second: Vec<u8>) -> Result<Difference
     }
 }
 
-/// What a line says, in words: what it is of, then the first and the second game.
-fn named(difference: &Difference) -> String {
-    match *difference {
-        Difference::Square { square, first, second } => format!("{square}: {}, {}", man(first), man(second)),
-        Difference::Side { first, second } => format!("side to move: {first}, {second}"),
-        Difference::White { first, second } => format!("white may castle: {}, {}", rights(first), rights(second)),
-        Difference::Black { first, second } => format!("black may castle: {}, {}", rights(first), rights(second)),
-        Difference::EnPassant { first, second } => format!("en passant file: {}, {}", file(first), file(second)),
-        Difference::HalfMoves { first, second } => format!("half-move clock: {first}, {second}"),
-        Difference::FullMoves { first, second } => format!("move number: {first}, {second}"),
-        Difference::Action { index, first, second } => format!("action {index}: {}, {}", action(first), action(second)),
+fn line(difference: &Difference, names: bool) -> String {
+    match named(difference) {
+        [what, first, second] if names => format!("{difference}\t{what}: {first}, {second}"),
+        _ => difference.to_string(),
     }
+}
+
+/// The words of a line are its key, for an action its index, and two numbers.
+fn object(difference: &Difference) -> String {
+    let line = difference.to_string();
+    let [what, first, second] = named(difference);
+    let object = match line.split(' ').collect::<Vec<_>>()[..] {
+        [key, index, one, two] => Object::new().text("key", key).raw("index", index).raw("first", one).raw("second", two),
+        [key, one, two] => Object::new().text("key", key).raw("first", one).raw("second", two),
+        _ => Object::new().text("key", &line),
+    };
+    object.text("name", &what).text("first_name", &first).text("second_name", &second).end()
+}
+
+fn refused_object(refused: &Refused) -> String {
+    let object = Object::new().text("roll", &refused.roll.to_string()).raw("number", refused.error.number());
+    object.text("reason", refused.error.meaning()).end()
+}
+
+/// What a line says, in words: what it is of, then the first and the second game.
+fn named(difference: &Difference) -> [String; 3] {
+    let (what, first, second) = match *difference {
+        Difference::Square { square, first, second } => (square.to_string(), man(first), man(second)),
+        Difference::Side { first, second } => ("side to move".to_string(), first.to_string(), second.to_string()),
+        Difference::White { first, second } => ("white may castle".to_string(), rights(first), rights(second)),
+        Difference::Black { first, second } => ("black may castle".to_string(), rights(first), rights(second)),
+        Difference::EnPassant { first, second } => ("en passant file".to_string(), file(first), file(second)),
+        Difference::HalfMoves { first, second } => ("half-move clock".to_string(), first.to_string(), second.to_string()),
+        Difference::FullMoves { first, second } => ("move number".to_string(), first.to_string(), second.to_string()),
+        Difference::Action { index, first, second } => (format!("action {index}"), action(first), action(second)),
+    };
+    [what, first, second]
 }
 
 fn man(man: Option<(Piece, Color)>) -> String {
@@ -70,13 +98,14 @@ fn man(man: Option<(Piece, Color)>) -> String {
     man.map_or("nothing".to_string(), |(piece, color)| format!("{color} {}", NAMES[piece.to_index()]))
 }
 
-fn rights(rights: CastleRights) -> &'static str {
-    match rights {
+fn rights(rights: CastleRights) -> String {
+    let told = match rights {
         CastleRights::NoRights => "no",
         CastleRights::KingSide => "king side",
         CastleRights::QueenSide => "queen side",
         CastleRights::Both => "both sides",
-    }
+    };
+    told.to_string()
 }
 
 fn file(file: Option<File>) -> String {

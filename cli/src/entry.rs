@@ -1,12 +1,12 @@
-//! The entries of a stored log in words: what `show` prints, and what `ruling` quotes.
+//! The entries of a stored log or of a roll in words: what `show` prints, and what `ruling` quotes.
 
 use crate::json::Object;
-use menkhodur::{Action, Board, Color, Log, Move, Position};
+use menkhodur::{Action, Board, Color, Log, Move, Position, Roll};
 
 /// What was done.
 pub enum What {
     Start,
-    /// A move, and its name if it has one.
+    /// A move, and its name if it has one and the list by which it is named is known.
     Move(Move, Option<String>),
     Offer,
     Accept,
@@ -23,33 +23,53 @@ pub struct Entry {
     pub side: Option<Color>,
     pub what: What,
     pub board: Board,
-    pub in_check: bool,
-    /// How many moves the position has.
-    pub list: usize,
+    /// Whether the side to move is in check and how many moves the position has, which a roll does not say.
+    pub known: Option<Known>,
+}
+
+#[derive(Clone, Copy)]
+pub struct Known {
+    in_check: bool,
+    list: usize,
 }
 
 /// The start and every action of a log.
-pub fn entries(log: &Log) -> Vec<Entry> {
+pub fn of_log(log: &Log) -> Vec<Entry> {
     let mut positions = log.positions();
-    let mut stands = positions.next().expect("a log has a start");
-    let entry = |(action, moves), side, what, stands: &Position<'_>| Entry {
-        action,
-        moves,
-        side,
-        what,
-        board: stands.board,
-        in_check: stands.in_check,
-        list: stands.list.len(),
-    };
-    let mut entries = vec![entry((0, 0), None, What::Start, &stands)];
-    let mut moves = 0;
-    for (index, action) in log.actions().enumerate() {
+    let mut next = || positions.next().expect("a log has a start, and a position after each move");
+    let mut stands = next();
+    let known = |position: &Position<'_>| Some(Known { in_check: position.in_check, list: position.list.len() });
+    let start = (stands.board, known(&stands));
+    entries(start, log.actions(), |made| {
+        // The only refusal that a move of a good log meets is that it has no name.
+        let name = stands.board.name(stands.list, made).ok();
+        stands = next();
+        (name, stands.board, known(&stands))
+    })
+}
+
+/// The start and every action of a roll. A position after a move is the one that the archive makes of the move and of the position before it.
+pub fn of_roll(roll: &Roll) -> Vec<Entry> {
+    let mut board = roll.start;
+    entries((board, None), roll.actions.iter().copied(), |made| {
+        board = board.after(made);
+        (None, board, None)
+    })
+}
+
+/// The start and every action. `play` makes a move: its name, if it has one, the board after it, and what is known of that.
+fn entries(
+    (board, known): (Board, Option<Known>),
+    actions: impl Iterator<Item = Action>,
+    mut play: impl FnMut(Move) -> (Option<String>, Board, Option<Known>),
+) -> Vec<Entry> {
+    let mut entries = vec![Entry { action: 0, moves: 0, side: None, what: What::Start, board, known }];
+    let (mut moves, mut board, mut known) = (0, board, known);
+    for (index, action) in actions.enumerate() {
         let (side, what) = match action {
             Action::MakeMove(made) => {
-                // The only refusal that a move of a good log meets is that it has no name.
-                let (side, name) = (stands.board.get_side_to_move(), stands.board.name(stands.list, made).ok());
-                stands = positions.next().expect("a log has a position after each move");
-                moves += 1;
+                let (side, (name, after, of_it)) = (board.get_side_to_move(), play(made));
+                (moves, board, known) = (moves + 1, after, of_it);
                 (Some(side), What::Move(made, name))
             }
             Action::OfferDraw(side) => (Some(side), What::Offer),
@@ -57,7 +77,7 @@ pub fn entries(log: &Log) -> Vec<Entry> {
             Action::DeclareDraw => (None, What::Declare),
             Action::Resign(side) => (Some(side), What::Resign),
         };
-        entries.push(entry((index + 1, moves), side, what, &stands));
+        entries.push(Entry { action: index + 1, moves, side, what, board, known });
     }
     entries
 }
@@ -67,11 +87,17 @@ impl Entry {
         self.side.map_or("-".to_string(), |side| side.to_string())
     }
 
+    /// How many moves the position has.
+    pub fn list(&self) -> String {
+        self.known.map_or("-".to_string(), |known| known.list.to_string())
+    }
+
     /// What was done, beside who did it.
     pub fn done(&self) -> String {
         match &self.what {
             What::Start => "start".to_string(),
             What::Move(_, Some(name)) => name.clone(),
+            What::Move(made, None) if self.known.is_none() => made.to_string(),
             What::Move(made, None) => format!("{made} (no text names it)"),
             What::Offer => "offers a draw".to_string(),
             What::Accept => "draw accepted".to_string(),
@@ -105,7 +131,8 @@ impl Entry {
             What::Move(made, name) => object.text_or_null("name", name.as_deref()).text("coordinates", &made.to_string()),
             _ => object,
         };
-        self.placed(object).raw("in_check", self.in_check).raw("list", self.list).end()
+        let object = self.placed(object).raw_or_null("in_check", self.known.map(|known| known.in_check));
+        object.raw_or_null("list", self.known.map(|known| known.list)).end()
     }
 
     /// The position: its key, and its FEN with the counters, which are no part of a key.

@@ -6,43 +6,83 @@ use crate::options::Stop;
 /// A game as it stands in a file.
 #[derive(Default)]
 pub struct Game {
-    /// The line of its first tag pair or, if it has none, of its first token that is no comment.
+    /// The line of its first tag pair or, if it has none, of its first token that is no comment, or else of its text.
     pub line: u64,
     /// The line in which the move text begins. From there on its lines are those of the file, with what is no move text blank.
     pub text_line: u64,
     pub text: Vec<u8>,
-    /// What stands before the move text in its first line, which is blank in `text`.
+    /// How many bytes stand before the move text in its first line, and the last of them.
+    pub before: usize,
     pub front: Vec<u8>,
     /// Whether tag pairs stand before it, and whether more than comments is in it.
     pub tagged: bool,
     pub tokens: bool,
-    /// A line that was too long to be kept.
-    pub long: Option<u64>,
+    /// The tag pairs as they stand, each with a newline, if they are wanted.
+    pub tags: Vec<u8>,
+    /// The result that ends it.
+    pub result: Option<&'static str>,
+    /// Whether the file has ended before it has.
+    pub cut: bool,
+    /// The line with which it was too large to be kept.
+    pub large: Option<u64>,
+    /// Whether its text has begun.
+    worded: bool,
+    /// Whether it has an Event tag.
+    event: bool,
 }
 
 impl Game {
     fn begun(&self) -> bool {
-        self.tagged || self.worded()
+        self.tagged || self.worded
     }
 
-    fn worded(&self) -> bool {
-        !self.text.is_empty() || self.long.is_some()
+    fn begin(&mut self, number: u64, line: &[u8], at: usize) {
+        if !self.begun() {
+            self.line = number;
+        }
+        (self.worded, self.text_line, self.before) = (true, number, at);
+        self.front = line[at.saturating_sub(FRONT)..at].to_vec();
     }
 
-    fn begun_before_text(&self) -> bool {
-        self.tagged || self.long.is_some()
+    /// Adds to its text, unless that is too large then.
+    fn keep(&mut self, number: u64, bytes: &[u8], limit: usize) {
+        let held = self.text.len() + self.tags.len();
+        if self.large.is_some() || held + bytes.len() > limit || self.text.try_reserve(bytes.len()).is_err() {
+            return self.give_up(number);
+        }
+        self.text.extend(bytes);
+    }
+
+    /// The same for a tag pair.
+    fn keep_tag(&mut self, number: u64, tag: &[u8], limit: usize) {
+        let held = self.text.len() + self.tags.len();
+        if self.large.is_some() || held + tag.len() >= limit || self.tags.try_reserve(tag.len() + 1).is_err() {
+            return self.give_up(number);
+        }
+        self.tags.extend(tag);
+        self.tags.push(b'\n');
+    }
+
+    fn give_up(&mut self, number: u64) {
+        self.large.get_or_insert(number);
+        self.text = vec![];
     }
 }
 
 /// Cuts lines into games: one ends with its result or at the next tag pairs.
-#[derive(Default)]
 pub struct Games {
     game: Game,
     scan: Scan,
+    /// The most bytes that are kept of a game, and whether its tag pairs are.
+    limit: usize,
+    tags: bool,
 }
 
 /// What is done with a game.
 pub type Each<'a> = &'a mut dyn FnMut(&Game) -> Result<(), Stop>;
+
+/// How much is kept of what stands before a move text in its line: many games may stand in one line.
+const FRONT: usize = 128;
 
 const MARK: &[u8] = b"\xef\xbb\xbf";
 
@@ -50,37 +90,44 @@ const MARK: &[u8] = b"\xef\xbb\xbf";
 const FIRST_TAG: &[u8] = b"[Event \"";
 
 impl Games {
+    pub fn new(limit: usize, tags: bool) -> Games {
+        Games { game: Game::default(), scan: Scan::default(), limit, tags }
+    }
+
     /// The next line of the file, without its newline.
     pub fn line(&mut self, number: u64, line: &[u8], each: Each<'_>) -> Result<(), Stop> {
-        let line = if number == 1 { line.strip_prefix(MARK).unwrap_or(line) } else { line };
-        let outside = !self.scan.comment || line.starts_with(FIRST_TAG);
-        match line.first() {
+        let at = marked(line);
+        let first_tag = line[at..].trim_ascii_start().starts_with(FIRST_TAG);
+        let outside = !self.scan.comment || first_tag;
+        match line.get(at) {
             Some(b'%') if outside => {
-                self.newline();
-                Ok(())
+                self.newline(number);
+                return Ok(());
             }
-            Some(b'[') if outside => {
-                self.tags(number, each)?;
-                self.words(number, line, tags_end(line), each)
-            }
-            _ => self.words(number, line, 0, each),
+            Some(b'[') if outside && self.game.worded => self.end(None, each)?,
+            _ if first_tag && self.game.worded => self.end(None, each)?,
+            _ => {}
         }
+        if self.game.worded {
+            self.game.keep(number, &b"   "[..at], self.limit);
+        }
+        self.words(number, line, at, each)
     }
 
     /// A line that is too long: its game cannot be judged.
     pub fn long(&mut self, number: u64) {
-        if !self.game.begun() {
-            self.game.line = number;
-        }
-        self.game.long.get_or_insert(number);
-        self.game.text.clear();
         self.scan = Scan::default();
+        if !self.game.worded {
+            self.game.begin(number, b"", 0);
+        }
+        self.game.give_up(number);
     }
 
     /// The end of a file ends its last game.
     pub fn finish(&mut self, each: Each<'_>) -> Result<(), Stop> {
         if self.game.begun() {
-            self.end(each)?;
+            self.game.cut = true;
+            self.end(None, each)?;
         }
         self.forget();
         Ok(())
@@ -88,12 +135,12 @@ impl Games {
 
     /// What was begun is not whole.
     pub fn forget(&mut self) {
-        *self = Games::default();
+        *self = Games::new(self.limit, self.tags);
     }
 
-    fn end(&mut self, each: Each<'_>) -> Result<(), Stop> {
+    fn end(&mut self, result: Option<&'static str>, each: Each<'_>) -> Result<(), Stop> {
         let mut game = std::mem::take(&mut self.game);
-        game.tokens = self.scan.tokens;
+        (game.tokens, game.result) = (self.scan.tokens, result);
         self.scan = Scan::default();
         each(&game)?;
         // Its room is kept for the next one.
@@ -102,70 +149,139 @@ impl Games {
         Ok(())
     }
 
-    fn tags(&mut self, number: u64, each: Each<'_>) -> Result<(), Stop> {
-        if self.game.worded() {
-            self.end(each)?;
+    /// A line of move text from a column on.
+    fn words(&mut self, number: u64, line: &[u8], mut at: usize, each: Each<'_>) -> Result<(), Stop> {
+        loop {
+            if !self.game.worded {
+                at = self.tags(number, line, at, each)?;
+                if at == line.len() {
+                    return Ok(());
+                }
+                self.game.begin(number, line, at);
+            }
+            let comments = !self.scan.tokens;
+            let (length, met) = self.scan.line(&line[at..]);
+            if comments && self.scan.tokens && !self.game.tagged && self.game.large.is_none() {
+                self.game.line = number;
+            }
+            self.game.keep(number, &line[at..at + length], self.limit);
+            at += length;
+            match met {
+                Met::Nothing => break,
+                Met::Result(result) => self.end(Some(result), each)?,
+                Met::Tag => self.end(None, each)?,
+            }
+        }
+        self.newline(number);
+        Ok(())
+    }
+
+    /// Passes over blanks, marks and tag pairs, and tells where they end. A bracket that begins a line, or stands behind a tag pair, can be
+    /// nothing else, whatever is in it.
+    fn tags(&mut self, number: u64, line: &[u8], from: usize, each: Each<'_>) -> Result<usize, Stop> {
+        let mut at = from;
+        loop {
+            let next = at + blank(&line[at..]);
+            let is_bracket = line.get(next) == Some(&b'[');
+            if !is_bracket || next > marked(line) && at == from && !is_tag(&line[next..]) {
+                return Ok(next);
+            }
+            at = next + bracket_end(&line[next..]);
+            self.tag(number, &line[next..at], each)?;
+        }
+    }
+
+    /// A tag pair. No game has two Event tags: the second is that of the next, if the first has no text.
+    fn tag(&mut self, number: u64, tag: &[u8], each: Each<'_>) -> Result<(), Stop> {
+        let is_event = parts(tag).is_some_and(|(name, _)| name == b"Event");
+        if is_event && self.game.event {
+            self.end(None, each)?;
         }
         if !self.game.tagged {
             (self.game.tagged, self.game.line) = (true, number);
         }
-        Ok(())
-    }
-
-    /// A line of move text from a column on.
-    fn words(&mut self, number: u64, line: &[u8], mut at: usize, each: Each<'_>) -> Result<(), Stop> {
-        loop {
-            if self.game.text.is_empty() {
-                let Some(blank) = line[at..].iter().position(|byte| !byte.is_ascii_whitespace()) else { return Ok(()) };
-                at += blank;
-                self.begin(number, &line[..at]);
-            }
-            let comments = !self.scan.tokens;
-            let result = self.scan.line(&line[at..]);
-            if comments && !self.game.begun_before_text() {
-                self.game.line = number;
-            }
-            let Some(end) = result else { break };
-            self.game.text.extend(&line[at..at + end]);
-            at += end;
-            self.end(each)?;
+        self.game.event |= is_event;
+        if self.tags && is_tag(tag) {
+            self.game.keep_tag(number, tag, self.limit);
         }
-        self.game.text.extend(&line[at..]);
-        self.newline();
         Ok(())
     }
 
-    fn begin(&mut self, number: u64, front: &[u8]) {
-        self.game.text_line = number;
-        self.game.text.resize(front.len(), b' ');
-        self.game.front = front.to_vec();
-    }
-
-    fn newline(&mut self) {
-        if !self.game.text.is_empty() {
-            self.game.text.push(b'\n');
+    fn newline(&mut self, number: u64) {
+        if self.game.worded {
+            self.game.keep(number, b"\n", self.limit);
         }
     }
 }
 
-/// Where the tag pairs at the front of a line end; a bracket in quotes ends none, and one that is not closed takes the whole line.
-fn tags_end(line: &[u8]) -> usize {
-    let (mut end, mut at, mut inside, mut quoted) = (0, 0, false, false);
-    while let Some(byte) = line.get(at) {
+/// How many bytes a byte order mark takes at the front of a line: 3, or none.
+fn marked(line: &[u8]) -> usize {
+    if line.starts_with(MARK) { MARK.len() } else { 0 }
+}
+
+/// How many bytes at the front of a text are blanks and byte order marks.
+fn blank(text: &[u8]) -> usize {
+    let mut at = 0;
+    loop {
+        match text.get(at) {
+            Some(byte) if byte.is_ascii_whitespace() => at += 1,
+            Some(_) if text[at..].starts_with(MARK) => at += MARK.len(),
+            _ => return at,
+        }
+    }
+}
+
+/// The name of the tag pair at the front of a text, and what stands between its quotes, as far as that goes.
+pub fn parts(text: &[u8]) -> Option<(&[u8], &[u8])> {
+    let blank = |byte: u8| byte.is_ascii_whitespace();
+    let name = run(text.strip_prefix(b"[")?, 0, blank) + 1;
+    let end = run(text, name, |byte| byte.is_ascii_alphanumeric() || byte == b'_');
+    let value = text[run(text, end, blank)..].strip_prefix(b"\"")?;
+    (end > name).then(|| (&text[name..end], &value[..quote_end(value)]))
+}
+
+/// What stands between quotes says: a backslash stands before a quote, and before another backslash.
+pub fn unquoted(value: &[u8]) -> Vec<u8> {
+    let mut plain = vec![];
+    let mut bytes = value.iter().copied().peekable();
+    while let Some(byte) = bytes.next() {
+        let escaped = if byte == b'\\' { bytes.next_if(|next| b"\"\\".contains(next)) } else { None };
+        plain.push(escaped.unwrap_or(byte));
+    }
+    plain
+}
+
+fn is_tag(text: &[u8]) -> bool {
+    parts(text).is_some()
+}
+
+/// Where the quote ends that a text begins in; a backslash takes the byte behind it with it.
+fn quote_end(text: &[u8]) -> usize {
+    let mut at = 0;
+    while let Some(byte) = text.get(at) {
         match byte {
-            b'\\' if quoted => at += 1,
-            b'"' if inside => quoted = !quoted,
-            b']' if inside && !quoted => (inside, end) = (false, at + 1),
-            b'[' if !inside => inside = true,
-            _ if inside || byte.is_ascii_whitespace() => {}
-            _ => return end,
+            b'\\' => at += 2,
+            b'"' => return at,
+            _ => at += 1,
         }
-        at += 1;
     }
-    if inside { line.len() } else { end }
+    text.len()
 }
 
-/// Looks for a result outside brackets and comments, as far as lines have come.
+/// Where the bracket ends that a text begins with; one in quotes ends none, and one that is not closed takes the whole line.
+fn bracket_end(text: &[u8]) -> usize {
+    let mut at = 1;
+    while let Some(byte) = text.get(at) {
+        match byte {
+            b'"' => at += quote_end(&text[at + 1..]) + 2,
+            b']' => return at + 1,
+            _ => at += 1,
+        }
+    }
+    text.len()
+}
+
+/// Looks for what ends a game, as far as lines have come: a result outside brackets and comments, or a tag pair outside comments.
 #[derive(Default)]
 struct Scan {
     comment: bool,
@@ -173,15 +289,24 @@ struct Scan {
     tokens: bool,
 }
 
-const RESULTS: [&[u8]; 4] = [b"1-0", b"0-1", b"1/2-1/2", b"*"];
+/// What a part of a line ends with.
+#[derive(Debug, PartialEq, Eq)]
+enum Met {
+    Nothing,
+    Result(&'static str),
+    /// It ends before a tag pair, and before a mark that stands before one.
+    Tag,
+}
+
+const RESULTS: [&str; 4] = ["1-0", "0-1", "1/2-1/2", "*"];
 
 fn run(line: &[u8], at: usize, inside: impl Fn(u8) -> bool) -> usize {
     line[at..].iter().position(|byte| !inside(*byte)).map_or(line.len(), |more| at + more)
 }
 
 impl Scan {
-    /// Where the result ends, if there is one.
-    fn line(&mut self, line: &[u8]) -> Option<usize> {
+    /// How much of a line is of this game, and what ends it there.
+    fn line(&mut self, line: &[u8]) -> (usize, Met) {
         let mut at = 0;
         while let Some(byte) = line.get(at) {
             if self.comment {
@@ -193,18 +318,27 @@ impl Scan {
             match byte {
                 b' ' | b'\t' | b'\r' => at += 1,
                 b'{' => (self.comment, at) = (true, at + 1),
-                b';' => return None,
+                b';' => break,
+                b'[' if is_tag(&line[at..]) => return (at, Met::Tag),
+                0xef if line[at..].starts_with(MARK) => {
+                    let behind = at + blank(&line[at..]);
+                    if is_tag(&line[behind..]) {
+                        return (at, Met::Tag);
+                    }
+                    (self.tokens, at) = (true, behind);
+                }
                 _ => {
                     self.tokens = true;
                     let end = self.token(line, at);
-                    if self.depth == 0 && RESULTS.contains(&&line[at..end]) {
-                        return Some(end);
+                    let result = RESULTS.iter().find(|result| self.depth == 0 && result.as_bytes() == &line[at..end]);
+                    if let Some(result) = result {
+                        return (end, Met::Result(result));
                     }
                     at = end;
                 }
             }
         }
-        None
+        (line.len(), Met::Nothing)
     }
 
     /// Where a token ends. One that is unknown has one byte: what is wrong with it, the archive tells.
@@ -218,7 +352,7 @@ impl Scan {
             }
             b'$' => return run(line, at + 1, |byte| byte.is_ascii_digit()),
             b'0'..=b'9' | b'*' => {
-                let result = RESULTS.iter().find(|result| left.starts_with(result));
+                let result = RESULTS.iter().find(|result| left.starts_with(result.as_bytes()));
                 return result.map_or_else(|| run(line, at, |byte| byte.is_ascii_digit()), |result| at + result.len());
             }
             _ => {}
@@ -231,10 +365,13 @@ impl Scan {
 mod tests {
     use super::*;
 
+    const MOST: usize = 1_000;
+
     fn cut(file: &str) -> Vec<(u64, u64, String)> {
-        let (mut games, mut all) = (Games::default(), vec![]);
+        let (mut games, mut all) = (Games::new(MOST, false), vec![]);
         let mut each = |game: &Game| {
-            all.push((game.line, game.text_line, String::from_utf8_lossy(&game.text).into_owned()));
+            assert_eq!((game.large, game.front.len()), (None, game.before));
+            all.push((game.line, game.text_line, String::from_utf8_lossy(&[&game.front[..], &game.text].concat()).into_owned()));
             Ok(())
         };
         for (index, line) in file.lines().enumerate() {
@@ -247,7 +384,7 @@ mod tests {
     #[test]
     fn a_game_ends_with_its_result_or_at_the_next_tag_pairs() {
         let file = "[Event \"a\"]\n[Site \"]\"]\n\n1. e4 1-0 1. d4\n[Event \"b\"] 1. c4\n\n(1. f4 1-0) *";
-        let owed = [(1, 4, "1. e4 1-0"), (4, 4, "          1. d4\n"), (5, 5, "            1. c4\n\n(1. f4 1-0) *")];
+        let owed = [(1, 4, "1. e4 1-0"), (4, 4, "1. e4 1-0 1. d4\n"), (5, 5, "[Event \"b\"] 1. c4\n\n(1. f4 1-0) *")];
         assert_eq!(cut(file), owed.map(|(line, text_line, text)| (line, text_line, text.to_string())));
     }
 
@@ -256,12 +393,48 @@ mod tests {
         let file = "e4 {1-0\n[Site \"x\"]\n} a1-0 ; *\n% 1-0\n0-1";
         assert_eq!(cut(file), [(1, 1, "e4 {1-0\n[Site \"x\"]\n} a1-0 ; *\n\n0-1".to_string())]);
         assert_eq!(cut("e4 {open\n[Event \"b\"]\n\nd4 *").len(), 2);
+        assert_eq!(cut("e4 {open\n \t[Event \"b\"]\n\nd4 *").len(), 2);
+        assert_eq!(cut("e4 {open [Event \"b\"]\n\nd4 } *").len(), 1);
         assert_eq!(cut("\u{feff}[Event \"b\"]\n\nd4 *"), [(1, 3, "d4 *".to_string())]);
     }
 
     #[test]
+    fn a_tag_pair_is_one_wherever_it_stands() {
+        let games = |file: &str| cut(file).iter().map(|game| game.2.trim_end().to_string()).collect::<Vec<_>>();
+        for between in ["[", "\n[", "\u{feff}[", "\n\u{feff}[", "  [", "\n \t[", " [ ", "\u{feff} ["] {
+            assert_eq!(games(&format!("e4 1-0{between}Event \"b\"]\nd4 *")), ["e4 1-0", "d4 *"], "{between}");
+            assert_eq!(games(&format!("e4 (e5{between}Event\"b\"]\nd4 *")).last().unwrap(), "d4 *", "{between}");
+            assert_eq!(cut(&format!("[A \"a\"]{between}B \"b\"]\nd4 *"))[0].0, 1, "{between}");
+        }
+        // What is no tag pair is the archive's to refuse.
+        assert_eq!(games("e4 [%clk 1:00] e5\n  [x]\nd4 *"), ["e4 [%clk 1:00] e5\n  [x]\nd4 *"]);
+    }
+
+    #[test]
+    fn a_second_event_begins_a_game() {
+        assert_eq!(cut("[Event \"a\"]\n[Site \"a\"]\n[Event \"b\"]\nd4 *").iter().map(|game| game.0).collect::<Vec<_>>(), [1, 3]);
+        assert_eq!(cut("[Site \"a\"]\n[Event \"a\"]\nd4 *").len(), 1);
+    }
+
+    #[test]
     fn tag_pairs_end_behind_their_last_bracket() {
-        assert_eq!(tags_end(b"[A \"x\"] [B \"\\\"]\"] e4"), 17);
-        assert_eq!((tags_end(b"[A \"x\"] "), tags_end(b"[A \"x"), tags_end(b"[A]")), (7, 5, 3));
+        let end = |line: &str| Games::new(MOST, false).tags(1, line.as_bytes(), 0, &mut |_| Ok(())).unwrap();
+        assert_eq!((end("[A \"x\"] [B \"\\\"]\"] e4"), end("[A \"x\"][B] e4")), (18, 11));
+        assert_eq!((end("[A \"x\"] "), end("[A \"x"), end("[A]"), end(" [A]"), end("[A \"\\")), (8, 5, 3, 1, 5));
+    }
+
+    #[test]
+    fn a_game_over_the_limit_is_given_up_and_the_next_is_cut() {
+        let (mut games, mut all) = (Games::new(10, true), vec![]);
+        let mut each = |game: &Game| {
+            all.push((game.line, game.large, game.text.len(), game.result));
+            Ok(())
+        };
+        for (index, line) in ["d4", "{12345", "6}", "*", "e4 e5 e6", "*", "[A \"1234\"]", "*"].iter().enumerate() {
+            games.line(index as u64 + 1, line.as_bytes(), &mut each).unwrap();
+        }
+        games.long(9);
+        games.line(10, b"c4 *", &mut each).unwrap();
+        assert_eq!(all, [(1, Some(3), 0, Some("*")), (5, None, 10, Some("*")), (7, Some(7), 0, Some("*")), (9, Some(9), 0, Some("*"))]);
     }
 }

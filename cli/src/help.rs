@@ -1,10 +1,20 @@
 //! What `--help` says, from the table.
 
-use crate::options::{Argument, Command, Flag};
+use crate::options::{self, Argument, Asked, Command, Flag, Status, Stop};
+use crate::output;
 use crate::table::{ABOUT, COMMANDS, COMMON, TEXT, TROUBLE};
+use std::ffi::OsStr;
 
 const WIDTH: usize = 88;
 const COLUMN: usize = 16;
+
+/// `menkhodur help`, of the program or of the command that the words name.
+pub fn run(asked: &Asked) -> Result<Status, Stop> {
+    match asked.words.as_slice() {
+        [] => output::say(&whole()),
+        words => output::say(&of(options::command(&words.join(OsStr::new(" ")))?)),
+    }
+}
 
 /// The help of the program.
 pub fn whole() -> String {
@@ -19,21 +29,20 @@ pub fn whole() -> String {
     told += "\nOptions:\n";
     told += &flags(COMMON);
     told += "\nExit status: 0 or 1 as the command says, or\n";
-    told += &row("2", TROUBLE);
+    told += &row("2", &trouble("a log or roll that is refused"));
     told += &format!("\nExample:\n  {}\n", COMMANDS[0].examples[0].command);
     told
 }
 
 /// The help of a command.
 pub fn of(command: &Command) -> String {
-    let mut told = format!("{}: {}\n\n", synopsis(command), command.about);
+    let mut told = format!("{}: {}\n\n", synopses(command).join("\n"), command.about);
     for text in command.text {
         told += &(wrapped(text, 0) + "\n");
     }
-    if !command.arguments.is_empty() {
-        told += "Arguments:\n";
-        told += &command.arguments.iter().map(|argument| row(&shown(argument), argument.about)).collect::<String>();
-        told.push('\n');
+    let arguments: String = command.arguments().map(|argument| row(&shown(argument), argument.about)).collect();
+    if !arguments.is_empty() {
+        told += &format!("Arguments:\n{arguments}\n");
     }
     told += "Options:\n";
     told += &flags(command.flags);
@@ -43,7 +52,7 @@ pub fn of(command: &Command) -> String {
     for (status, about) in command.statuses.iter().enumerate() {
         told += &row(&status.to_string(), about);
     }
-    told += &row("2", TROUBLE);
+    told += &row("2", &trouble(command.trouble));
     told += if command.examples.len() == 1 { "\nExample:\n" } else { "\nExamples:\n" };
     for example in command.examples {
         told += &format!("  {}\n{}", example.command, wrapped(example.about, 6));
@@ -51,14 +60,20 @@ pub fn of(command: &Command) -> String {
     told
 }
 
-/// `menkhodur ruling [--at N] [--json] ACTIONS POSITIONS`
-pub fn synopsis(command: &Command) -> String {
-    let flags = command.flags.iter().map(|flag| format!(" [{}]", dashed(flag)));
-    let arguments = command.arguments.iter().map(|argument| match argument.least {
+/// What status 2 means, and what it includes here.
+pub fn trouble(here: &str) -> String {
+    format!("trouble: {here}{}{TROUBLE}", if here.is_empty() { "" } else { "; " })
+}
+
+/// `menkhodur ruling [--at N] [--json] ACTIONS POSITIONS`, for each form.
+pub fn synopses(command: &Command) -> Vec<String> {
+    let flags: String = command.flags.iter().map(|flag| format!(" [{}]", dashed(flag))).collect();
+    let argument = |argument: &Argument| match argument.least {
         0 => format!(" [{}]", shown(argument)),
         _ => format!(" {}", shown(argument)),
-    });
-    format!("menkhodur {}{}", command.name, flags.chain(arguments).collect::<String>())
+    };
+    let form = |form: &&[Argument]| format!("menkhodur {}{flags}{}", command.name, form.iter().map(argument).collect::<String>());
+    command.forms.iter().map(form).collect()
 }
 
 /// `FILE..` where there may be many.
@@ -105,12 +120,8 @@ mod tests {
         for command in COMMANDS {
             let told = of(command);
             assert!(command.flags.iter().chain(COMMON).all(|flag| told.contains(&dashed(flag))), "{told}");
-            assert!(
-                command
-                    .arguments
-                    .iter()
-                    .all(|argument| told.contains(argument.name) && told.contains(argument.about.split(' ').next().unwrap()))
-            );
+            let mut arguments = command.arguments();
+            assert!(arguments.all(|argument| told.contains(argument.name) && told.contains(argument.about.split(' ').next().unwrap())));
             assert!(!command.examples.is_empty() && command.examples.iter().all(|example| told.contains(example.command)));
             let long = told.lines().find(|line| line.len() > WIDTH && !line.starts_with("  menkhodur") && !line.starts_with("menkhodur"));
             assert_eq!(long, None);

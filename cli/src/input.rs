@@ -25,7 +25,11 @@ pub struct Place<'a> {
 pub trait Lines {
     /// Some lines, each ended by a newline, but perhaps not the last one of an input, which has a byte then. Answers how many.
     fn lines(&mut self, place: Place<'_>, text: &[u8]) -> Result<u64, Stop>;
-    /// A line of more than `LONGEST` bytes.
+    /// The most bytes that a line may have.
+    fn longest(&self) -> usize {
+        LONGEST
+    }
+    /// A line that has more, or more than there is memory for.
     fn long(&mut self, place: Place<'_>) -> Result<(), Stop>;
     /// The input has ended: it was read to its end, or a read failed and what was cut is dropped.
     fn ended(&mut self, _whole: bool) -> Result<(), Stop> {
@@ -39,7 +43,7 @@ pub trait Lines {
 /// its end.
 pub fn read(words: &[OsString], lines: &mut impl Lines, whole: &mut bool) -> Result<(), Stop> {
     let standard = [OsString::from("-")];
-    let mut room = vec![0; ROOM].into_boxed_slice();
+    let mut room = vec![0; ROOM];
     for word in if words.is_empty() { &standard } else { words } {
         *whole &= read_input(word, &mut room, lines)?;
     }
@@ -67,7 +71,7 @@ pub fn failed(word: &OsStr, error: &io::Error) -> Vec<u8> {
 }
 
 /// Answers whether the input was read to its end.
-fn read_input(word: &OsStr, room: &mut [u8], lines: &mut impl Lines) -> Result<bool, Stop> {
+fn read_input(word: &OsStr, room: &mut Vec<u8>, lines: &mut impl Lines) -> Result<bool, Stop> {
     let mut file = match open(word) {
         Ok(file) => file,
         Err(error) => {
@@ -99,7 +103,7 @@ fn read_input(word: &OsStr, room: &mut [u8], lines: &mut impl Lines) -> Result<b
 /// Cuts what is read into lines.
 struct Cutter<'a> {
     place: Place<'a>,
-    room: &'a mut [u8],
+    room: &'a mut Vec<u8>,
     /// Bytes of an unended line at the front of the room.
     held: usize,
     /// The line that goes on did not fit the room; nothing of it is held.
@@ -121,12 +125,27 @@ impl Cutter<'_> {
         if from < to {
             self.place.line += lines.lines(self.place, &self.room[from..to])?;
         }
+        let filled = end == self.room.len();
         self.room.copy_within(to..end, 0);
         self.held = end - to;
-        if self.held == self.room.len() || self.long {
+        if self.held == self.room.len() && !self.grow(lines.longest()) || self.long {
             (self.held, self.long) = (0, true);
         }
-        if end < self.room.len() { lines.flush() } else { Ok(()) }
+        if self.held < ROOM {
+            self.room.truncate(ROOM);
+        }
+        if filled { Ok(()) } else { lines.flush() }
+    }
+
+    /// Makes the room twice as long, but no longer than a line of `longest` bytes needs. Answers whether there is more room.
+    fn grow(&mut self, longest: usize) -> bool {
+        let length = self.room.len();
+        let more = length.min((longest + 1).saturating_sub(length));
+        let fits = more > 0 && self.room.try_reserve_exact(more).is_ok();
+        if fits {
+            self.room.resize(length + more, 0);
+        }
+        fits
     }
 
     /// Where the line after a long one begins, or the end if the long one has not ended; 0 if there is none.

@@ -50,6 +50,11 @@ impl Object {
     pub fn end(self) -> String {
         self.0 + "}"
     }
+
+    /// All that stands before the first value of an array that ends the object. Whoever puts the values ends both.
+    pub fn open(self, name: &str) -> String {
+        self.raw(name, "[").0
+    }
 }
 
 /// `[a,b]`, of values that are JSON already.

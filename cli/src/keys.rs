@@ -9,21 +9,30 @@ use crate::standard::{self, Warning};
 use crate::told::{self, Progress};
 use menkhodur::Error;
 use menkhodur::lent::MAX_FEN;
-use std::io::Write;
+use std::io::{self, IsTerminal, Write};
 
 pub const CHECK: Flag = Flag { name: "check", value: None, about: "print only the lines that are not their own key" };
 pub const STRICT: Flag =
     Flag { name: "strict", value: None, about: "refuse what `menkhodur explain` warns about, as `! strict OFFSET NAME`" };
+pub const CRLF: Flag =
+    Flag { name: "crlf", value: None, about: "lines end as on Windows: a carriage return at the end of one is no part of it" };
 pub const JSON: Flag = Flag { name: "json", value: None, about: "print one JSON object per line" };
 
 pub fn run(asked: &Asked) -> Result<Status, Stop> {
-    let form = Form { check: asked.has(&CHECK), strict: asked.has(&STRICT), json: asked.has(&JSON) };
+    let form = Form {
+        check: asked.has(&CHECK),
+        strict: asked.has(&STRICT),
+        crlf: asked.has(&CRLF),
+        json: asked.has(&JSON),
+        seen: io::stdout().is_terminal(),
+    };
     let mut keys = Keys {
         form,
         judges: Judges::new(),
         output: Output::new()?,
         tally: Tally::default(),
         odd: vec![],
+        bare: vec![],
         made: vec![],
         progress: Progress::new(),
     };
@@ -36,7 +45,10 @@ pub fn run(asked: &Asked) -> Result<Status, Stop> {
 struct Form {
     check: bool,
     strict: bool,
+    crlf: bool,
     json: bool,
+    /// The output goes to a terminal.
+    seen: bool,
 }
 
 /// What came of the lines; `renamed` are accepted and not their own keys, and counted only with `--check`.
@@ -84,6 +96,8 @@ struct Keys {
     output: Output<Tally>,
     tally: Tally,
     odd: Vec<Warning>,
+    /// Lines without their carriage returns.
+    bare: Vec<u8>,
     /// A line of output in the making.
     made: Vec<u8>,
     progress: Progress,
@@ -91,16 +105,14 @@ struct Keys {
 
 impl Lines for Keys {
     fn lines(&mut self, place: Place<'_>, text: &[u8]) -> Result<u64, Stop> {
-        let before = self.tally.lines();
-        let mut judges = std::mem::replace(&mut self.judges, Judges::none());
-        let mut ended = Ok(());
-        for (part, judged) in judges.judge(text) {
-            let line = place.line + (self.tally.lines() - before);
-            ended = ended.and_then(|()| self.judged(part, judged, Place { line, ..place }));
+        if !self.form.crlf {
+            return self.judge(place, text);
         }
-        self.judges = judges;
-        self.progress.lines(self.tally.lines());
-        ended.map(|()| self.tally.lines() - before)
+        let mut bare = std::mem::take(&mut self.bare);
+        without_returns(text, &mut bare);
+        let judged = self.judge(place, &bare);
+        self.bare = bare;
+        judged
     }
 
     fn long(&mut self, place: Place<'_>) -> Result<(), Stop> {
@@ -113,6 +125,19 @@ impl Lines for Keys {
 }
 
 impl Keys {
+    fn judge(&mut self, place: Place<'_>, text: &[u8]) -> Result<u64, Stop> {
+        let before = self.tally.lines();
+        let mut judges = std::mem::replace(&mut self.judges, Judges::none());
+        let mut ended = Ok(());
+        for (part, judged) in judges.judge(text) {
+            let line = place.line + (self.tally.lines() - before);
+            ended = ended.and_then(|()| self.judged(part, judged, Place { line, ..place }));
+        }
+        self.judges = judges;
+        self.progress.lines(self.tally.lines());
+        ended.map(|()| self.tally.lines() - before)
+    }
+
     fn judged(&mut self, text: &[u8], judged: &Judged, place: Place<'_>) -> Result<(), Stop> {
         if self.form.check || self.form.strict || self.form.json { self.told(text, judged, place) } else { self.plain(judged) }
     }
@@ -187,6 +212,7 @@ impl Keys {
         self.made.clear();
         match self.form {
             Form { json: true, .. } => self.made.extend(object(place, line, said).bytes()),
+            Form { check: true, seen: true, .. } => checked(place, told::visible(line).as_bytes(), said, &mut self.made),
             Form { check: true, .. } => checked(place, line, said, &mut self.made),
             _ => answered(said, &mut self.made),
         }
@@ -194,6 +220,16 @@ impl Keys {
         self.output.put(&self.made)?;
         self.output.mark(self.tally);
         Ok(())
+    }
+}
+
+/// Lines without a carriage return at their end.
+fn without_returns(text: &[u8], bare: &mut Vec<u8>) {
+    bare.clear();
+    for line in text.split_inclusive(|byte| *byte == b'\n') {
+        let (line, end) = line.strip_suffix(b"\n").map_or((line, &b""[..]), |line| (line, b"\n"));
+        bare.extend(line.strip_suffix(b"\r").unwrap_or(line));
+        bare.extend(end);
     }
 }
 

@@ -24,16 +24,15 @@ mod table;
 mod told;
 mod whole;
 
-use options::{Asked, Status, Stop, Wanted};
-use output::Output;
+use options::{Status, Stop, Wanted};
 use std::ffi::OsString;
 use std::process::ExitCode;
 
 fn main() -> ExitCode {
     let words: Vec<OsString> = std::env::args_os().skip(1).collect();
     let ended = options::read(&words).and_then(|wanted| match wanted {
-        Wanted::Run(asked) => run(&asked),
-        Wanted::Say(text) => say(&text),
+        Wanted::Run(asked) => (asked.command.run)(&asked),
+        Wanted::Say(text) => output::say(&text),
     });
     let status = match ended {
         Ok(status) => status,
@@ -45,15 +44,4 @@ fn main() -> ExitCode {
         }
     };
     ExitCode::from(status as u8)
-}
-
-fn run(asked: &Asked) -> Result<Status, Stop> {
-    (asked.command.run)(asked)
-}
-
-fn say(text: &str) -> Result<Status, Stop> {
-    let mut output: Output = Output::new()?;
-    output.put(text.as_bytes())?;
-    output.flush()?;
-    Ok(Status::Well)
 }

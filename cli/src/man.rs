@@ -1,21 +1,18 @@
 //! The manual page, from the table.
 
-use crate::help::{dashed, shown, synopsis};
+use crate::help::{dashed, shown, synopses, trouble};
 use crate::options::{Asked, Command, Status, Stop};
-use crate::output::Output;
-use crate::table::{ABOUT, COMMANDS, COMMON, TEXT, TROUBLE};
+use crate::output;
+use crate::table::{ABOUT, COMMANDS, COMMON, TEXT};
 
 pub fn run(_: &Asked) -> Result<Status, Stop> {
-    let mut output: Output = Output::new()?;
-    output.put(page().as_bytes())?;
-    output.flush()?;
-    Ok(Status::Well)
+    output::say(&page())
 }
 
 fn page() -> String {
     let mut told = format!(".TH MENKHODUR 1 \"\" \"Menkhodur {}\" \"Menkhodur\"\n", menkhodur::VERSION);
     told += &format!(".SH NAME\nmenkhodur \\- {}\n.SH SYNOPSIS\n.nf\n", plain(ABOUT));
-    told += &COMMANDS.iter().map(|command| format!("{}\n", plain(&synopsis(command)))).collect::<String>();
+    told += &COMMANDS.iter().flat_map(synopses).map(|synopsis| plain(&synopsis) + "\n").collect::<String>();
     told += ".fi\n.SH DESCRIPTION\n";
     told += &paragraphs(TEXT);
     told += ".SH COMMANDS\n";
@@ -24,13 +21,14 @@ fn page() -> String {
     told += &COMMON.iter().map(|flag| item(&dashed(flag), flag.about)).collect::<String>();
     told += &item("--", "end the options: what follows are arguments");
     told += ".SH EXIT STATUS\nEach command says what its 0 and 1 mean.\n";
-    told + &item("2", TROUBLE)
+    told + &item("2", &trouble("a log or roll that is refused"))
 }
 
 fn section(command: &Command) -> String {
-    let mut told = format!(".SS {}\n{}.\n", plain(&synopsis(command)), plain(command.about));
+    let mut told = synopses(command).iter().map(|synopsis| format!(".SS {}\n", plain(synopsis))).collect::<String>();
+    told += &format!("{}.\n", plain(command.about));
     told += &paragraphs(command.text);
-    for argument in command.arguments {
+    for argument in command.arguments() {
         told += &item(&shown(argument), argument.about);
     }
     for flag in command.flags {
@@ -38,6 +36,9 @@ fn section(command: &Command) -> String {
     }
     for (status, about) in command.statuses.iter().enumerate() {
         told += &item(&format!("status {status}"), about);
+    }
+    if !command.trouble.is_empty() {
+        told += &item("status 2", &trouble(command.trouble));
     }
     for example in command.examples {
         told += &format!(".PP\nExample: {}\n.PP\n.nf\n.RS\n{}\n.RE\n.fi\n", plain(example.about), plain(example.command));
@@ -67,9 +68,9 @@ mod tests {
     fn the_page_names_every_command_option_and_argument() {
         let told = page();
         for command in COMMANDS {
-            assert!(told.contains(&plain(&synopsis(command))), "{}", command.name);
+            assert!(synopses(command).iter().all(|synopsis| told.contains(&format!(".SS {}\n", plain(synopsis)))), "{}", command.name);
             assert!(command.flags.iter().all(|flag| told.contains(&format!(".B {}\n", plain(&dashed(flag))))), "{}", command.name);
-            assert!(command.arguments.iter().all(|argument| told.contains(&format!(".B {}\n", plain(&shown(argument))))));
+            assert!(command.arguments().all(|argument| told.contains(&format!(".B {}\n", plain(&shown(argument))))));
         }
     }
 }

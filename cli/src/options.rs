@@ -39,6 +39,8 @@ pub struct Flag {
 pub enum Takes {
     File,
     Text,
+    /// The name of a command.
+    Command,
     /// Of an argument that no other of any number comes before.
     OneOf(&'static [&'static str]),
 }
@@ -60,15 +62,26 @@ pub struct Example {
 
 /// A command: all that help, man page, completion and the reader of words know of it, and what runs it.
 pub struct Command {
+    /// One word, or two: then it stands under the command that the first word names.
     pub name: &'static str,
     pub about: &'static str,
-    pub arguments: &'static [Argument],
+    /// What words it takes, in one way or in several, which differ in how many words there are.
+    pub forms: &'static [&'static [Argument]],
     pub flags: &'static [Flag],
     pub text: &'static [&'static str],
     /// What the exit statuses 0 and 1 mean, 1 if there is one.
     pub statuses: &'static [&'static str],
+    /// What status 2 includes beside `table::TROUBLE`.
+    pub trouble: &'static str,
     pub examples: &'static [Example],
     pub run: fn(&Asked) -> Result<Status, Stop>,
+}
+
+impl Command {
+    /// The arguments of all its forms.
+    pub fn arguments(&self) -> impl Iterator<Item = &'static Argument> {
+        self.forms.iter().copied().flatten()
+    }
 }
 
 /// A command with its options and words.
@@ -105,10 +118,14 @@ pub fn read(words: &[OsString]) -> Result<Wanted, Stop> {
         Some("--version") => return Ok(Wanted::Say(version())),
         _ => {}
     }
-    let named = table::COMMANDS.iter().find(|command| first == command.name);
-    let kind = if first.as_bytes().starts_with(b"-") { "option" } else { "command" };
-    let command = named.ok_or_else(|| refused(&format!("unknown {kind} "), first, "menkhodur --help"))?;
-    of_command(command, &words[1..])
+    of_command(command(first)?, &words[1..])
+}
+
+/// The command that a word names.
+pub fn command(word: &OsStr) -> Result<&'static Command, Stop> {
+    let kind = if word.as_bytes().starts_with(b"-") { "option" } else { "command" };
+    let named = table::COMMANDS.iter().find(|command| word == command.name);
+    named.ok_or_else(|| refused(&format!("unknown {kind} "), word, "menkhodur --help"))
 }
 
 fn version() -> String {
@@ -123,14 +140,21 @@ fn of_command(command: &'static Command, words: &[OsString]) -> Result<Wanted, S
     let mut asked = Asked { command, flags: vec![], words: vec![] };
     let mut left = words.iter();
     while let Some(word) = left.next() {
-        match word.as_bytes() {
+        match table::long(word).as_bytes() {
             b"--" => {
                 asked.words.extend(left.by_ref().cloned());
             }
-            b"-h" | b"--help" => return Ok(Wanted::Say(help::of(command))),
+            b"--help" => return Ok(Wanted::Say(help::of(command))),
             b"--version" => return Ok(Wanted::Say(version())),
             [b'-', _, ..] => asked.flags.push(flag(command, word, &mut left)?),
-            _ => asked.words.push(word.clone()),
+            _ => match table::under(command, word) {
+                Some(lower) if asked.words.is_empty() => {
+                    // What stands before the word are options, which are read again as those of the lower command.
+                    let at = words.len() - left.len() - 1;
+                    return of_command(lower, &[&words[..at], &words[at + 1..]].concat());
+                }
+                _ => asked.words.push(word.clone()),
+            },
         }
     }
     choose(&asked)?;
@@ -141,7 +165,7 @@ fn of_command(command: &'static Command, words: &[OsString]) -> Result<Wanted, S
 /// `--name`, `--name VALUE` or `--name=VALUE`.
 fn flag<'a>(command: &Command, word: &OsStr, left: &mut impl Iterator<Item = &'a OsString>) -> Result<(&'static str, OsString), Stop> {
     let see = format!("menkhodur {} --help", command.name);
-    let bytes = word.as_bytes();
+    let bytes = table::long(word).as_bytes();
     let (name, value) = match bytes.iter().position(|byte| *byte == b'=') {
         Some(at) => (&bytes[..at], Some(OsStr::from_bytes(&bytes[at + 1..]).to_owned())),
         None => (bytes, None),
@@ -159,25 +183,24 @@ fn flag<'a>(command: &Command, word: &OsStr, left: &mut impl Iterator<Item = &'a
     }
 }
 
-/// Whether there are as many words as the arguments take.
+/// Whether there are as many words as one of the forms takes.
 fn count(asked: &Asked) -> Result<(), Stop> {
-    let arguments = asked.command.arguments;
-    let least: usize = arguments.iter().map(|argument| argument.least).sum();
-    let most = arguments.iter().try_fold(0, |sum, argument| Some(sum + argument.most?));
+    let (forms, held) = (asked.command.forms, asked.words.len());
     let see = format!("menkhodur {} --help", asked.command.name);
-    if asked.words.len() < least {
-        let missing = arguments.iter().flat_map(|argument| std::iter::repeat_n(argument.name, argument.least)).nth(asked.words.len());
-        return Err(refused("missing ", OsStr::new(missing.unwrap_or_default()), &see));
+    let most = |form: &&[Argument]| form.iter().try_fold(0, |sum, argument| Some(sum + argument.most?));
+    let missing = |form: &&[Argument]| form.iter().flat_map(|argument| std::iter::repeat_n(argument.name, argument.least)).nth(held);
+    if forms.iter().any(|form| missing(form).is_none() && most(form).is_none_or(|most| held <= most)) {
+        return Ok(());
     }
-    match most {
-        Some(most) if asked.words.len() > most => Err(refused("one word too many: ", &asked.words[most], &see)),
-        _ => Ok(()),
+    match forms.iter().find_map(missing) {
+        Some(name) => Err(refused("missing ", OsStr::new(name), &see)),
+        None => Err(refused("one word too many: ", &asked.words[forms.iter().filter_map(most).max().unwrap_or_default()], &see)),
     }
 }
 
 /// Whether each word that must be one of some is.
 fn choose(asked: &Asked) -> Result<(), Stop> {
-    for (argument, word) in asked.command.arguments.iter().zip(&asked.words) {
+    for (argument, word) in asked.command.arguments().zip(&asked.words) {
         if let Takes::OneOf(choices @ [others @ .., last]) = argument.takes {
             let listed = if others.is_empty() { last.to_string() } else { format!("{} or {last}", others.join(", ")) };
             if choices.iter().all(|choice| word != choice) {

@@ -114,3 +114,11 @@ impl<T: Copy + Default> Output<T> {
 fn failure(error: &io::Error) -> Stop {
     Stop::trouble(format!("standard output: {}", told::system(error)))
 }
+
+/// A text that is all that a command writes.
+pub fn say(text: &str) -> Result<Status, Stop> {
+    let mut output: Output = Output::new()?;
+    output.put(text.as_bytes())?;
+    output.flush()?;
+    Ok(Status::Well)
+}

@@ -1,38 +1,71 @@
 //! `menkhodur pgn`: the games of PGN files, each with its number of moves, or what is wrong with its move text and where.
 
 use crate::explain;
-use crate::games::{Game, Games};
-use crate::input::{self, LONGEST, Lines, Place};
+use crate::games::{self, Game, Games};
+use crate::input::{self, Lines, Place};
 use crate::json::{self, Object};
 use crate::options::{Asked, Flag, Status, Stop};
 use crate::output::Output;
 use crate::told::{self, Progress};
 use menkhodur::{Error, MoveText, PgnMove};
+use std::ffi::OsStr;
+use std::io::{self, IsTerminal};
+use std::os::unix::ffi::OsStrExt;
 
+pub const TAGS: Flag = Flag { name: "tags", value: None, about: "print the tag pairs too, one per line" };
 pub const MOVES: Flag = Flag { name: "moves", value: None, about: "print the moves too, one per line, each with its level" };
+pub const STRICT: Flag =
+    Flag { name: "strict", value: None, about: "tell every game that has no result, and end with status 1 if there is one" };
+pub const LIMIT: Flag =
+    Flag { name: "limit", value: Some("MB"), about: "refuse a game of more than so many MB, 1048576 bytes each; 64 if not told" };
 pub const JSON: Flag = Flag { name: "json", value: None, about: "print one JSON object per game" };
 
 pub fn run(asked: &Asked) -> Result<Status, Stop> {
-    let form = Form { moves: asked.has(&MOVES), json: asked.has(&JSON), many: asked.words.len() > 1 };
-    let said = Said { form, output: Output::new()?, tally: Tally::default(), name: vec![], made: vec![] };
-    let mut pgn = Pgn { games: Games::default(), said, progress: Progress::new() };
+    let form = Form {
+        tags: asked.has(&TAGS),
+        moves: asked.has(&MOVES),
+        strict: asked.has(&STRICT),
+        json: asked.has(&JSON),
+        limit: limit(asked)?,
+        many: asked.words.len() > 1,
+        seen: io::stdout().is_terminal(),
+    };
+    let said = Said { form, output: Output::new()?, tally: Tally::default(), name: vec![], number: 0, made: vec![] };
+    let mut pgn = Pgn { games: Games::new(form.limit * MB, form.tags), said, progress: Progress::new() };
     let mut whole = true;
     let ended = input::read(&asked.words, &mut pgn, &mut whole);
     pgn.said.output.end(ended, whole, pgn.said.tally, "games", |tally| (tally.shown(), tally.status()))
 }
 
-#[derive(Clone, Copy)]
-struct Form {
-    moves: bool,
-    json: bool,
-    /// Files are told apart.
-    many: bool,
+const MB: usize = 1 << 20;
+
+fn limit(asked: &Asked) -> Result<usize, Stop> {
+    let Some(value) = asked.value(&LIMIT) else { return Ok(64) };
+    let number = value.to_str().and_then(|text| text.parse().ok());
+    number
+        .filter(|number| (1..usize::MAX / 2 / MB).contains(number))
+        .ok_or_else(|| Stop::trouble([b"--limit ", value.as_bytes(), b": a number of MB from 1 up is needed"].concat()))
 }
 
+#[derive(Clone, Copy)]
+struct Form {
+    tags: bool,
+    moves: bool,
+    strict: bool,
+    json: bool,
+    limit: usize,
+    /// Files are told apart.
+    many: bool,
+    /// The output goes to a terminal.
+    seen: bool,
+}
+
+/// What came of the games; those without a result are counted only with `--strict`.
 #[derive(Clone, Copy, Default)]
 struct Tally {
     accepted: u64,
     refused: u64,
+    unended: u64,
 }
 
 impl Tally {
@@ -45,7 +78,7 @@ impl Tally {
     }
 
     fn status(&self) -> Status {
-        if self.refused == 0 { Status::Well } else { Status::Found }
+        if self.refused + self.unended == 0 { Status::Well } else { Status::Found }
     }
 }
 
@@ -67,6 +100,10 @@ impl Lines for Pgn {
         Ok(place.line - first)
     }
 
+    fn longest(&self) -> usize {
+        self.said.form.limit * MB
+    }
+
     fn long(&mut self, place: Place<'_>) -> Result<(), Stop> {
         self.said.at(place);
         self.games.long(place.line);
@@ -76,9 +113,10 @@ impl Lines for Pgn {
     /// A game cut short by a failed read is left out: without its end it could be another one.
     fn ended(&mut self, whole: bool) -> Result<(), Stop> {
         if whole {
-            return self.games.finish(&mut |game| self.said.game(game));
+            self.games.finish(&mut |game| self.said.game(game))?;
         }
         self.games.forget();
+        self.said.number = 0;
         Ok(())
     }
 
@@ -88,47 +126,59 @@ impl Lines for Pgn {
 }
 
 /// What the archive says about a game.
-enum Judged<'a> {
-    Moves { own: u64, variations: u64, list: Vec<PgnMove<'a>> },
+enum Judged {
+    Moves { own: u64, variations: u64 },
     Refused(Error),
-    Long(u64),
+    Large(u64),
 }
 
 /// One walk from move to move; only a text that is refused is checked again, for the place that the check tells.
-fn judge(game: &Game, listed: bool) -> Judged<'_> {
-    if let Some(line) = game.long {
-        return Judged::Long(line);
+fn judge(game: &Game) -> Judged {
+    if let Some(line) = game.large {
+        return Judged::Large(line);
     }
     let text = MoveText::new(&game.text);
-    let (mut own, mut variations, mut list) = (0, 0, vec![]);
+    let (mut own, mut variations) = (0, 0);
     for met in text.moves() {
         match met {
-            Ok(met) => {
-                *(if met.level == 0 { &mut own } else { &mut variations }) += 1;
-                if listed {
-                    list.push(met);
-                }
-            }
+            Ok(PgnMove { level: 0, .. }) => own += 1,
+            Ok(_) => variations += 1,
             Err(refused) => return Judged::Refused(text.check().err().unwrap_or(refused)),
         }
     }
-    Judged::Moves { own, variations, list }
+    Judged::Moves { own, variations }
 }
 
-/// A fault's line in its file, its column from 1, and the line itself, as far as it is this game's or stands before it.
-fn place_of(game: &Game, offset: usize) -> (u64, usize, Vec<u8>) {
-    let before = &game.text[..offset];
-    let begin = before.iter().rposition(|byte| *byte == b'\n').map_or(0, |at| at + 1);
-    let line = game.text_line + before.iter().filter(|byte| **byte == b'\n').count() as u64;
-    let end = game.text[offset..].iter().position(|byte| *byte == b'\n').map_or(game.text.len(), |more| offset + more);
-    let mut text = game.text[begin..end].to_vec();
-    if line == game.text_line {
-        text[..game.front.len()].copy_from_slice(&game.front);
+/// A place in a game: its line in the file, its column from 1, and that line or what of it is near, with the place there and the column of
+/// its first byte.
+struct Spot {
+    line: u64,
+    column: usize,
+    text: Vec<u8>,
+    at: usize,
+    from: usize,
+}
+
+/// How much is shown of a line on either side of a place: a line may be as large as its game.
+const NEAR: usize = 4_096;
+
+impl Spot {
+    /// The place of an offset in the game's text. Its line is shown as far as it is this game's or stands before it.
+    fn of(game: &Game, offset: usize) -> Spot {
+        let before = &game.text[..offset];
+        let begin = before.iter().rposition(|byte| *byte == b'\n').map_or(0, |at| at + 1);
+        let line = game.text_line + before.iter().filter(|byte| **byte == b'\n').count() as u64;
+        let end = game.text[offset..].iter().position(|byte| *byte == b'\n').map_or(game.text.len(), |more| offset + more);
+        let (near, until) = (begin.max(offset.saturating_sub(NEAR)), end.min(offset + NEAR));
+        let (front, ahead) = if begin == 0 { (&game.front[..], game.before) } else { (&b""[..], 0) };
+        let front = if near == begin { front } else { b"" };
+        let mut text = [front, &game.text[near..until]].concat();
+        let (at, column) = (front.len() + offset - near, ahead + offset - begin + 1);
+        if text.ends_with(b"\r") && text.len() - 1 > at {
+            text.pop();
+        }
+        Spot { line, column, text, at, from: column - at }
     }
-    if text.ends_with(b"\r") && begin + text.len() - 1 > offset {
-        text.pop();
-    }
-    (line, offset - begin + 1, text)
 }
 
 /// What is printed, and what came of the games.
@@ -137,6 +187,8 @@ struct Said {
     output: Output<Tally>,
     tally: Tally,
     name: Vec<u8>,
+    /// The last game's, in its file.
+    number: u64,
     made: Vec<u8>,
 }
 
@@ -148,71 +200,126 @@ impl Said {
     }
 
     fn game(&mut self, game: &Game) -> Result<(), Stop> {
-        let judged = judge(game, self.form.moves);
+        let judged = judge(game);
         match judged {
             // Comments before the first game, or behind a result, are none.
             Judged::Moves { .. } if !game.tagged && !game.tokens => return Ok(()),
             Judged::Moves { .. } => self.tally.accepted += 1,
-            Judged::Refused(_) | Judged::Long(_) => self.tally.refused += 1,
+            Judged::Refused(_) | Judged::Large(_) => self.tally.refused += 1,
         }
+        self.number += 1;
+        self.tell_unended(game);
         self.output.status = self.tally.status();
-        self.made.clear();
         if self.form.json {
-            let object = self.object(game, &judged);
-            self.made.extend(object.bytes());
-            self.made.push(b'\n');
+            self.put_object(game, &judged)?
         } else {
-            self.plain(game, &judged);
+            self.put_plain(game, &judged)?
         }
-        self.output.put(&self.made)?;
         self.output.mark(self.tally);
         Ok(())
     }
 
-    /// `INDEX LINE MOVES VARIATIONS`, or `INDEX LINE ! N LINE:COLUMN reason` with the line and a caret.
-    fn plain(&mut self, game: &Game, judged: &Judged<'_>) {
-        if self.form.many {
-            self.made.extend(&self.name);
-            self.made.extend(b": ");
+    /// A file that ends in a game may have been cut.
+    fn tell_unended(&mut self, game: &Game) {
+        if game.result.is_some() || !game.cut && !self.form.strict {
+            return;
         }
-        let head = format!("{} {} ", self.tally.games(), game.line);
-        self.made.extend(head.bytes());
-        let told = match judged {
-            Judged::Moves { own, variations, .. } => format!("{own} {variations}\n"),
-            Judged::Long(line) => format!("! long {line} the line has more than {LONGEST} bytes\n"),
-            Judged::Refused(refused) => {
-                let (line, column, text) = place_of(game, refused.offset().unwrap_or_default());
-                let pointed = explain::pointed(&text, column - 1);
-                format!("! {} {line}:{column} {}\n{pointed}", refused.number(), refused.meaning())
-            }
+        self.tally.unended += u64::from(self.form.strict);
+        let told = match game.cut {
+            true => format!(": the file ends in the game of line {}, which has no result", game.line),
+            false => format!(": the game of line {} has no result", game.line),
         };
-        self.made.extend(told.bytes());
-        if let Judged::Moves { list, .. } = judged {
-            for met in list {
-                self.made.extend(format!("  {} ", met.level).bytes());
-                self.made.extend(met.text);
-                self.made.push(b'\n');
+        told::tell(&[input::shown(OsStr::from_bytes(&self.name)), told.as_bytes()]);
+    }
+
+    fn put_plain(&mut self, game: &Game, judged: &Judged) -> Result<(), Stop> {
+        if self.form.many {
+            self.output.put(&self.name)?;
+            self.output.put(b": ")?;
+        }
+        let (told, pointed) = self.plain(game, judged);
+        self.output.put(format!("{} {} {told}\n", self.number, game.line).as_bytes())?;
+        for tag in game.tags.split_inclusive(|byte| *byte == b'\n') {
+            self.output.put(b"  ")?;
+            self.put_seen(tag)?;
+        }
+        self.output.put(pointed.as_bytes())?;
+        match judged {
+            Judged::Moves { .. } if self.form.moves => self.put_moves(game, |made, _, met| {
+                made.extend(format!("  {} ", met.level).bytes());
+                made.extend(met.text);
+                made.push(b'\n');
+            }),
+            _ => Ok(()),
+        }
+    }
+
+    /// A line, with its newline.
+    fn put_seen(&mut self, line: &[u8]) -> Result<(), Stop> {
+        match line.strip_suffix(b"\n") {
+            Some(line) if self.form.seen => self.output.put((told::visible(line) + "\n").as_bytes()),
+            _ => self.output.put(line),
+        }
+    }
+
+    /// `MOVES VARIATIONS RESULT`, or `! N LINE:COLUMN reason`, and then the line with a caret.
+    fn plain(&self, game: &Game, judged: &Judged) -> (String, String) {
+        match judged {
+            Judged::Moves { own, variations } => (format!("{own} {variations} {}", game.result.unwrap_or("-")), String::new()),
+            Judged::Large(line) => (format!("! large {line} {}", self.large()), String::new()),
+            Judged::Refused(refused) => {
+                let Spot { line, column, text, at, .. } = Spot::of(game, refused.offset().unwrap_or_default());
+                (format!("! {} {line}:{column} {}", refused.number(), refused.meaning()), explain::pointed(&text, at))
             }
         }
     }
 
-    fn object(&self, game: &Game, judged: &Judged<'_>) -> String {
-        let object = Object::new().bytes("file", &self.name).raw("game", self.tally.games()).raw("line", game.line);
-        match judged {
-            Judged::Moves { own, variations, list } => {
-                let object = object.raw("moves", own).raw("variations", variations);
-                let listed = |met: &PgnMove<'_>| Object::new().bytes("move", met.text).raw("level", met.level).end();
-                if self.form.moves { object.raw("list", json::array(list.iter().map(listed))) } else { object }
-            }
-            Judged::Long(line) => {
-                object.raw("long", true).raw("at", line).text("reason", &format!("the line has more than {LONGEST} bytes"))
-            }
-            Judged::Refused(refused) => {
-                let (line, column, text) = place_of(game, refused.offset().unwrap_or_default());
-                let object = object.raw("number", refused.number()).raw("at", line).raw("column", column);
-                object.bytes("text", &text).text("reason", refused.meaning())
-            }
-        }
-        .end()
+    fn large(&self) -> String {
+        format!("the game has more than {} MB, or more than there is memory for", self.form.limit)
     }
+
+    fn put_object(&mut self, game: &Game, judged: &Judged) -> Result<(), Stop> {
+        let object = self.object(game, judged);
+        let listed = self.form.moves && matches!(judged, Judged::Moves { .. });
+        if !listed {
+            return self.output.put((object.end() + "\n").as_bytes());
+        }
+        self.output.put(object.open("list").as_bytes())?;
+        self.put_moves(game, |made, index, met| {
+            made.extend(if index == 0 { "" } else { "," }.bytes());
+            made.extend(Object::new().bytes("move", met.text).raw("level", met.level).end().bytes());
+        })?;
+        self.output.put(b"]}\n")
+    }
+
+    /// The moves of an accepted game, one by one: all of them together could take many times the room of the game.
+    fn put_moves(&mut self, game: &Game, put: impl Fn(&mut Vec<u8>, usize, &PgnMove<'_>)) -> Result<(), Stop> {
+        for (index, met) in MoveText::new(&game.text).moves().flatten().enumerate() {
+            self.made.clear();
+            put(&mut self.made, index, &met);
+            self.output.put(&self.made)?;
+        }
+        Ok(())
+    }
+
+    fn object(&self, game: &Game, judged: &Judged) -> Object {
+        let object = Object::new().bytes("file", &self.name).raw("game", self.number).raw("line", game.line);
+        let object = match judged {
+            Judged::Moves { own, variations } => object.raw("moves", own).raw("variations", variations),
+            Judged::Large(line) => object.raw("large", true).raw("at", line).text("reason", &self.large()),
+            Judged::Refused(refused) => {
+                let Spot { line, column, text, from, .. } = Spot::of(game, refused.offset().unwrap_or_default());
+                let object = object.raw("number", refused.number()).raw("at", line).raw("column", column).bytes("text", &text);
+                let object = if from > 1 { object.raw("text_column", from) } else { object };
+                object.text("reason", refused.meaning())
+            }
+        };
+        let object = object.text_or_null("result", game.result);
+        let tags = || game.tags.split(|byte| *byte == b'\n').filter_map(games::parts).map(tag);
+        if self.form.tags { object.raw("tags", json::array(tags())) } else { object }
+    }
+}
+
+fn tag((name, value): (&[u8], &[u8])) -> String {
+    Object::new().bytes("name", name).bytes("value", &games::unquoted(value)).end()
 }

@@ -1,7 +1,6 @@
 //! `menkhodur ruling`: a stored game, its result, and whether a draw may be claimed, with what that rests on.
 
 use crate::entry::{self, Entry, What};
-use crate::input;
 use crate::json::{self, Object};
 use crate::options::{Asked, Flag, Status, Stop};
 use crate::output::Output;
@@ -16,7 +15,7 @@ pub const JSON: Flag = Flag { name: "json", value: None, about: "print one JSON 
 pub fn run(asked: &Asked) -> Result<Status, Stop> {
     let stored = Stored::load(&asked.words)?;
     let at = at(asked, stored.action_count)?;
-    let fault = stored.fault().map(|fault| [input::shown(&asked.words[0]), b": ", fault.to_string().as_bytes()].concat());
+    let fault = stored.fault().map(|fault| stored.told(&fault));
     let log = match (stored.log(at), &fault) {
         (Some(log), None) => log,
         // What is behind the actions asked for does not touch a ruling on them, but whoever rules must know.
@@ -65,7 +64,7 @@ struct Since {
 
 impl Case {
     fn of(log: &Log) -> Case {
-        let (entries, ruling) = (entry::entries(log), log.ruling());
+        let (entries, ruling) = (entry::of_log(log), log.ruling());
         let since = |count: usize| Since { moves: ruling.moves - count, by: causes(&entries, ruling.moves - count) };
         let (since, mut laws_since) = (since(ruling.count), since(ruling.laws_count));
         // The move that began the Laws' count may have changed rights too, but that is not what began it.
@@ -99,13 +98,22 @@ impl Case {
             row("start", self.entries[0].board.to_fen_full()),
             wrapped(&self.game()) + "\n",
             row("result", format!("{result}, after {} and {}", told::counted(actions, "action"), told::counted(moves, "move"))),
-            row("claim", claim(self.ruling.claim)),
-            row("Laws' claim", claim(self.ruling.laws_claim) + "\n"),
+            row("claim", self.claim(self.ruling.claim)),
+            row("Laws' claim", self.claim(self.ruling.laws_claim) + "\n"),
             row("count", self.counted(self.ruling.count, &self.since, "a pawn move, a capture or a change of castling rights")),
             row("Laws' count", self.counted(self.ruling.laws_count, &self.laws_since, "a pawn move or a capture (article 9.3)")),
             row("equal", self.equals()),
         ];
         rows.concat()
+    }
+
+    /// In a game that is over no claim stands, whatever the counts say.
+    fn claim(&self, reason: Option<Reason>) -> String {
+        match (reason, self.ruling.result) {
+            (Some(reason), _) => format!("a draw may be claimed {reason}"),
+            (None, Some(_)) => "the game is over: no draw may be claimed".to_string(),
+            (None, None) => "no draw may be claimed".to_string(),
+        }
     }
 
     fn counted(&self, count: usize, since: &Since, without: &str) -> String {
@@ -201,10 +209,6 @@ fn equal(log: &Log, ruling: &Ruling) -> Vec<usize> {
     let earliest: Vec<usize> = ruling.earliest.iter().flatten().copied().collect();
     assert!(equal.len() == ruling.equals && equal.starts_with(&earliest), "the equal positions are those that the archive tells");
     equal
-}
-
-fn claim(reason: Option<Reason>) -> String {
-    reason.map_or("no draw may be claimed".to_string(), |reason| format!("a draw may be claimed {reason}"))
 }
 
 fn reason(object: Object, name: &str, reason: Option<Reason>) -> Object {

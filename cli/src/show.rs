@@ -1,15 +1,30 @@
-//! `menkhodur show`: a stored log as text, one action per line.
+//! `menkhodur show`: a stored log or a roll as text, one action per line.
 
 use crate::entry::{self, Entry};
-use crate::input;
 use crate::options::{Asked, Flag, Status, Stop};
 use crate::output::Output;
+use crate::roll;
 use crate::stored::{Fault, Stored};
 use crate::told;
+use menkhodur::Roll;
 
+pub const OLD: Flag = Flag { name: "old", value: None, about: "ROLL is an old roll, without counters" };
 pub const JSON: Flag = Flag { name: "json", value: None, about: "print one JSON object for each action" };
 
 pub fn run(asked: &Asked) -> Result<Status, Stop> {
+    match asked.words.as_slice() {
+        [word] => {
+            let reader = if asked.has(&OLD) { Roll::from_old_bytes } else { Roll::from_bytes };
+            let read = reader(roll::read(word)?).map_err(|refused| roll::refused(word, &refused))?;
+            put(asked, &entry::of_roll(&read))?;
+            Ok(Status::Well)
+        }
+        _ if asked.has(&OLD) => Err(Stop::trouble("--old is for a ROLL, and a log was named")),
+        _ => show_log(asked),
+    }
+}
+
+fn show_log(asked: &Asked) -> Result<Status, Stop> {
     let stored = Stored::load(&asked.words)?;
     let fault = stored.fault();
     let good = match fault {
@@ -17,24 +32,28 @@ pub fn run(asked: &Asked) -> Result<Status, Stop> {
         Some(Fault::Action { number, .. }) => stored.log(number - 1),
         _ => stored.log(stored.action_count),
     };
-    let mut output: Output = Output::new()?;
-    for entry in good.iter().flat_map(entry::entries) {
-        let line = if asked.has(&JSON) { entry.object() } else { line(&entry) };
-        output.put(line.as_bytes())?;
-        output.put(b"\n")?;
-    }
-    output.flush()?;
+    put(asked, &good.iter().flat_map(entry::of_log).collect::<Vec<_>>())?;
     match fault {
         None => Ok(Status::Well),
         Some(fault) => {
-            told::tell(&[input::shown(&asked.words[0]), b": ", fault.to_string().as_bytes()]);
+            told::tell(&[&stored.told(&fault)]);
             Ok(Status::Trouble)
         }
     }
 }
 
+fn put(asked: &Asked, entries: &[Entry]) -> Result<(), Stop> {
+    let mut output: Output = Output::new()?;
+    for entry in entries {
+        let line = if asked.has(&JSON) { entry.object() } else { line(entry) };
+        output.put(line.as_bytes())?;
+        output.put(b"\n")?;
+    }
+    output.flush()
+}
+
 /// Action, moves made, side, what was done, and of the position after it the length of its list and its FEN with the counters.
 fn line(entry: &Entry) -> String {
     let fen = entry.board.to_fen_full();
-    format!("{:4} {:4} {:5} {:13} {:3} {fen}", entry.action, entry.moves, entry.side(), entry.done(), entry.list)
+    format!("{:4} {:4} {:5} {:13} {:>3} {fen}", entry.action, entry.moves, entry.side(), entry.done(), entry.list())
 }

@@ -13,6 +13,8 @@ const OLD_POSITION_BYTES: usize = POSITION_BYTES - 4;
 
 /// The two parts as a call is lent them, zeros behind what the files hold.
 pub struct Stored {
+    /// What the two were named.
+    words: [OsString; 2],
     actions: Vec<u8>,
     positions: Vec<u8>,
     /// How many of each the files hold.
@@ -46,7 +48,9 @@ pub enum Why {
     },
     Kind(u8),
     NoPosition,
-    Bytes,
+    /// The call that the action stands for is accepted, but it leaves other bytes than the file has: of the action, or of the position.
+    ActionBytes,
+    PositionBytes,
 }
 
 /// A counter that is not what it must be.
@@ -70,7 +74,22 @@ impl Stored {
         if position_count == 0 {
             return Err(Stop::Trouble([input::shown(&words[1]), b": it is empty, but a log has a start"].concat()));
         }
-        Ok(Stored { actions, positions, action_count, position_count })
+        let words = [words[0].clone(), words[1].clone()];
+        Ok(Stored { words, actions, positions, action_count, position_count })
+    }
+
+    /// The log, if it is good.
+    pub fn good(&self) -> Result<Log, Stop> {
+        match (self.fault(), self.log(self.action_count)) {
+            (None, Some(log)) => Ok(log),
+            (fault, _) => Err(Stop::Trouble(fault.map_or(vec![], |fault| self.told(&fault)))),
+        }
+    }
+
+    /// What is said of a fault, with the file that is at fault.
+    pub fn told(&self, fault: &Fault) -> Vec<u8> {
+        let word = &self.words[usize::from(fault.is_of_positions())];
+        [input::shown(word), b": ", fault.to_string().as_bytes()].concat()
     }
 
     /// The counts of the first `actions` actions.
@@ -134,7 +153,7 @@ impl Stored {
             5 => lent::game_resign(&mut actions, &self.positions, counts, colour),
             kind => return Why::Kind(kind),
         };
-        call.map_or_else(Why::Refused, |_| Why::Bytes)
+        call.map_or_else(Why::Refused, |_| Why::ActionBytes)
     }
 
     fn why_move(&self, counts: Counts, made: u64) -> Why {
@@ -143,16 +162,19 @@ impl Stored {
         let Some(after) = after else { return Why::NoPosition };
         let (mut actions, mut positions) = (self.actions.clone(), self.positions.clone());
         match lent::game_make_move(&mut actions, &mut positions, counts, made, after.given()) {
-            Ok(_) => Why::Bytes,
-            Err(refused @ (Error::OutOfRange | Error::WrongRecord)) => self.why_position(counts, made, &after.record, refused),
-            Err(refused) => Why::Refused(refused),
+            Ok(_) if actions != self.actions => Why::ActionBytes,
+            Ok(_) => Why::PositionBytes,
+            Err(refused @ (Error::GameOver | Error::MoveNotListed | Error::LogFull)) => Why::Refused(refused),
+            Err(refused) => self.why_position(counts, made, &after.record, refused),
         }
     }
 
     /// Compares the position after a move that came with the wrong one with the one that the move leads to.
     fn why_position(&self, counts: Counts, made: u64, held: &Record, refused: Error) -> Why {
         let before = lent::stored_position(&self.positions, counts.moves as usize);
-        let Some(owed) = before.and_then(|before| lent::board_after(&before.record, made).ok()) else { return Why::Refused(refused) };
+        let Some(owed) = before.and_then(|before| lent::board_after(&before.record, made).ok()) else {
+            return Why::Position { refused, boards: None, counters: vec![] };
+        };
         let both = [(CLOCK, held.half_moves, owed.half_moves), (NUMBER, held.full_moves, owed.full_moves)];
         let counter = |(name, held, owed): (_, _, u16)| Counter { name, held, owed: owed.to_string() };
         let counters = both.into_iter().filter(|(_, held, owed)| held != owed).map(counter).collect();
@@ -183,6 +205,16 @@ fn part(word: &OsStr, what: &str, size: usize, length: usize) -> Result<(Vec<u8>
     Ok((bytes, held / size))
 }
 
+impl Fault {
+    /// Whether it is the file of the positions that is at fault, and not that of the actions.
+    fn is_of_positions(&self) -> bool {
+        match self {
+            Fault::Start(_) | Fault::Positions { .. } => true,
+            Fault::Action { why, .. } => matches!(why, Why::Position { .. } | Why::NoPosition | Why::PositionBytes),
+        }
+    }
+}
+
 impl fmt::Display for Fault {
     fn fmt(&self, f: &mut fmt::Formatter<'_>) -> fmt::Result {
         f.write_str("the log is not good: ")?;
@@ -208,7 +240,8 @@ impl fmt::Display for Why {
             }
             Why::Kind(kind) => write!(f, "there is no action of kind {kind}"),
             Why::NoPosition => f.write_str("the position after it is missing"),
-            Why::Bytes => f.write_str("a byte of it, or of the position after it, is not 0 where it must be"),
+            Why::ActionBytes => f.write_str("a byte of it is not 0 where it must be"),
+            Why::PositionBytes => f.write_str("a byte of the position after it is not 0 where it must be"),
         }
     }
 }

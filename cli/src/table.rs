@@ -2,9 +2,10 @@
 //! module of its own.
 
 use crate::options::{Argument, Command, Example, Flag, Takes};
-use crate::{completion, diff, explain, keys, man, pgn, roll, ruling, show};
+use crate::{completion, diff, explain, help, keys, man, pgn, roll, ruling, show};
+use std::ffi::OsStr;
 
-pub const ABOUT: &str = "FEN keys, explanations, PGN games, rulings, stored logs, what differs between games, and old rolls written anew";
+pub const ABOUT: &str = "FEN keys, explanations, PGN games, rulings, stored logs, rolls, and what differs between games";
 
 pub const TEXT: &[&str] = &[
     "A chess archive files each position once, under its FEN text. Every judgement of this program, keys, numbers, offsets, names and \
@@ -13,8 +14,9 @@ pub const TEXT: &[&str] = &[
      read brings less than it could, so that a slow pipe gets each one at once; if the reader of a pipe has gone, the program ends quietly.",
 ];
 
-pub const TROUBLE: &str =
-    "trouble: an option, a file that could not be read to its end, a log or roll that is refused, or a write that failed";
+/// What status 2 includes in every command.
+pub const TROUBLE: &str = "an option, a file that could not be read to its end, standard input or output that is needed and not open, or a write \
+                           that failed";
 
 /// Options that every command takes.
 pub const COMMON: &[Flag] = &[
@@ -22,42 +24,56 @@ pub const COMMON: &[Flag] = &[
     Flag { name: "version", value: None, about: "print the version" },
 ];
 
+/// Short names of options, and the names that they stand for.
+pub const SHORT: &[(&str, &str)] = &[("-h", "--help"), ("-o", "--output")];
+
+const fn file(name: &'static str, about: &'static str) -> Argument {
+    Argument { name, takes: Takes::File, least: 1, most: Some(1), about }
+}
+
 const LOG: &[Argument] = &[
-    Argument { name: "ACTIONS", takes: Takes::File, least: 1, most: Some(1), about: "the used bytes of a log's actions, 4 for each" },
-    Argument {
-        name: "POSITIONS",
-        takes: Takes::File,
-        least: 1,
-        most: Some(1),
-        about: "the used bytes of its positions, 584 for the start and for each move",
-    },
+    file("ACTIONS", "the used bytes of a log's actions, 4 for each"),
+    file("POSITIONS", "the used bytes of its positions, 584 for the start and for each move"),
 ];
+
+const WHICH_KIND: &str = "The same bytes can be an old roll and a new one, with two meanings, so nothing is guessed: a store must know which kind it \
+                          keeps.";
+
+const NOT_GOOD: &str = "If a log is not good, standard error says so, with the file that is at fault and the first action that does not stand; where a \
+                        move came with another position than it leads to, with both, and with each counter that differs.";
+
+const WHOLE: &str = "A file is written whole or not at all: to one beside it, .menkhodur-PROCESS-N, which then takes its place. One that exists is \
+                     left alone, unless there is --force; then it is replaced and keeps its permissions. Only a regular file is replaced. If the \
+                     program is killed, the file beside it may be left behind, and can be removed.";
 
 pub const COMMANDS: &[Command] = &[
     Command {
         name: "keys",
         about: "the key of each FEN text, or what is wrong with it",
-        arguments: &[Argument {
+        forms: &[&[Argument {
             name: "FILE",
             takes: Takes::File,
             least: 0,
             most: None,
             about: "FEN texts, one per line; standard input if none is named",
-        }],
-        flags: &[keys::CHECK, keys::STRICT, keys::JSON],
+        }]],
+        flags: &[keys::CHECK, keys::STRICT, keys::CRLF, keys::JSON],
         text: &[
             "Prints for each line, in order, its key, which is the one FEN of its position, or `! N OFFSET`: 18, fewer than four fields, \
              at the line's length; 19, the first byte that may not stand in a placement; 20, the start of a field that is not a side. Offsets count \
              the bytes of the line from 0. A line of more than 131071 bytes gives `! long`.",
             "With --check the lines are a store's own keys. Only those that are not their own key are printed, `FILE:LINE: TEXT -> KEY` if \
-             the text is a second name for a position, `FILE:LINE: TEXT ! N OFFSET reason` if it is refused.",
+             the text is a second name for a position, `FILE:LINE: TEXT ! N OFFSET reason` if it is refused. On a terminal, control characters \
+             of the text, and bytes that are not UTF-8, are shown as \\xNN.",
             "With --strict a text that is accepted, but that the PGN standard would not allow, is refused too, as `! strict OFFSET NAME`.",
-            "An empty line is a text like any other, and a carriage return is part of its line. A last line without a newline counts if it \
-             has a byte; one cut short by a failed read does not. The last line of standard error counts the lines that were written whole.",
+            "An empty line is a text like any other, and a carriage return is part of its line, unless --crlf says that lines end as on Windows. \
+             A last line without a newline counts if it has a byte; one cut short by a failed read does not. The last line of standard error \
+             counts the lines that were written whole.",
             "An object of --json has file, line and text, and key, or number, offset and reason, or strict, offset and reason. Where a text \
              is not UTF-8, text_hex has its bytes.",
         ],
         statuses: &["nothing was refused (with --check: every line is its own key)", "something was (with --check: some line is not)"],
+        trouble: "",
         examples: &[
             Example { command: "menkhodur keys examples/few.fen", about: "five lines, of which the second and the third have one key" },
             Example { command: "menkhodur keys --check store.keys || echo 'second names, or no keys'", about: "what filled the disk" },
@@ -67,13 +83,13 @@ pub const COMMANDS: &[Command] = &[
     Command {
         name: "explain",
         about: "what a FEN text says, or why and where it is refused",
-        arguments: &[Argument {
+        forms: &[&[Argument {
             name: "FEN",
             takes: Takes::Text,
             least: 1,
             most: None,
             about: "the text; several words are joined by single spaces, and - alone reads texts, one per line, from standard input",
-        }],
+        }]],
         flags: &[explain::FULL, explain::JSON],
         text: &[
             "Prints whether the text is accepted; if not, why, with a caret under the byte; if so, the board, the key, the side to move, the \
@@ -89,6 +105,7 @@ pub const COMMANDS: &[Command] = &[
              --full also fen, the full FEN.",
         ],
         statuses: &["the text is accepted", "it is refused"],
+        trouble: "",
         examples: &[
             Example {
                 command: "menkhodur explain 'rnbqkbnr/pppppppp/8/8/8/8/PPPPPPP/RNBQKBNR w KQkq - 0 1'",
@@ -104,85 +121,99 @@ pub const COMMANDS: &[Command] = &[
     Command {
         name: "pgn",
         about: "the games of PGN files, each with its moves counted, or what is wrong with its move text",
-        arguments: &[Argument {
+        forms: &[&[Argument {
             name: "FILE",
             takes: Takes::File,
             least: 0,
             most: None,
             about: "games: tag pairs, then move text; standard input if none is named",
-        }],
-        flags: &[pgn::MOVES, pgn::JSON],
+        }]],
+        flags: &[pgn::TAGS, pgn::MOVES, pgn::STRICT, pgn::LIMIT, pgn::JSON],
         text: &[
-            "Prints for each game a line: its index, its line in the file, its number of moves and the number in its variations; or its \
-             index, its line, and `! N LINE:COLUMN reason`, with the line and a caret under the byte: 21, a comment or bracket left open; 22, \
-             brackets deeper than 8 levels; 23, something that is not a token, a result in brackets, a stray closing bracket. Columns count \
-             bytes from 1. Where several files are named, each line begins with `FILE: `.",
-            "A game ends with its result, or at the next tag pairs. Tag pairs, lines that begin with %, and comments that belong to no game are \
-             passed over. A line that begins with `[Event \"` begins a game even in a comment that was left open. What a move says is not \
-             checked, only that it may be a move.",
-            "A game with a line of more than 131071 bytes gives `! long LINE`. One cut short by a failed read is left out. The last line of \
-             standard error counts the games that were written whole.",
-            "An object of --json has file, game and line, and moves and variations (with --moves also list, each move with its level), or \
-             number, at (the line), column, text and reason.",
+            "Prints for each game a line: its number in the file, its line there, its number of moves, the number in its variations, and its \
+             result, - if it has none; or its number, its line, and `! N LINE:COLUMN reason`, with the line and a caret under the byte: 21, a \
+             comment or bracket left open; 22, brackets deeper than 8 levels; 23, something that is not a token, a result in brackets, a stray \
+             closing bracket. Columns count bytes from 1. Where several files are named, each line begins with `FILE: `.",
+            "A game ends with its result, or at the next tag pairs. They may follow on the same line, as they do where a file without a last \
+             newline was joined to another, and a second Event tag begins a game too. Tag pairs, lines that begin with %, byte order marks \
+             before a line, a game or tag pairs, and comments that belong to no game are passed over. A line that begins with `[Event \"` begins a \
+             game even in a comment that was left open. What a move says is not checked, only that it may be a move.",
+            "If a file ends without the result of its last game, standard error says so; with --strict it tells every game that has no result, \
+             and the status is 1.",
+            "A game, or a line, of more than 64 MB is not kept, or of as many as --limit says: it gives `! large LINE reason`, with the line in which \
+             it became too large. A game cut short by a failed read is left out. The last line of standard error counts the games that were \
+             written whole.",
+            "The tag pairs of --tags are as they stand in the file, but on a terminal control characters, and bytes that are not UTF-8, are shown \
+             as \\xNN.",
+            "An object of --json has file, game and line, then moves and variations, or number, at (the line), column, text (the line, or what of it \
+             is near the column, from text_column on) and reason, or large, at and reason; then result, null if there is none, with --tags tags, \
+             each with name and value, and with --moves list, each move with its level.",
         ],
-        statuses: &["no game was refused", "some game was"],
+        statuses: &["no game was refused (with --strict: and each has its result)", "some game was (with --strict: or has no result)"],
+        trouble: "",
         examples: &[
             Example { command: "menkhodur pgn games.pgn", about: "one line per game" },
             Example { command: "menkhodur pgn --moves - <game.pgn", about: "the moves of a game, each with the level of its brackets" },
+            Example { command: "cat *.pgn | menkhodur pgn --strict --tags", about: "whose games they are, and which have no result" },
         ],
         run: pgn::run,
     },
     Command {
         name: "ruling",
         about: "a stored game, its result, and whether a draw may be claimed",
-        arguments: LOG,
+        forms: &[LOG],
         flags: &[ruling::AT, ruling::JSON],
         text: &[
             "Prints the start with its counters; the game, each move by its name from the stored lists and with its number by the position \
              that it was made in, with offers and resignations; the result; the ruling by the crate's count and by that of article 9.3 of the Laws; and what \
              they rest on: both counts, where each began and by what, and the earlier positions of the run that equal the last, by the log's \
              move numbers, with their key. Both counts begin with the log: what the start's half-move clock says is not added. Counters \
-             do not keep positions from being equal.",
-            "If a log is not good, standard error says so, with the first action that does not stand; where a move came with another \
-             position than it leads to, with both, and with each counter that differs. With --at the actions after N need not stand.",
+             do not keep positions from being equal. In a game that is over no draw may be claimed, and the ruling says so.",
+            NOT_GOOD,
+            "With --at the actions after N need not stand.",
             "The object of --json has actions, moves, result, claim and laws_claim in words and as numbers, count with count_since, laws_count \
              with laws_since, equals, equal and last, and as game the objects of `menkhodur show`.",
         ],
         statuses: &["a claim stands, by the log's rules or only by the Laws", "none stands"],
+        trouble: "a log that is not good (with --at: up to N), or that has fewer actions than N; files that are not a log's parts by their size",
         examples: &[Example { command: "menkhodur ruling --at 8 game.actions game.positions", about: "after the first eight actions" }],
         run: ruling::run,
     },
     Command {
         name: "show",
-        about: "a stored log as text, one action per line",
-        arguments: LOG,
-        flags: &[show::JSON],
+        about: "a roll or a stored log as text, one action per line",
+        forms: &[&[file("ROLL", "a game's start and its actions as bytes")], LOG],
+        flags: &[show::OLD, show::JSON],
         text: &[
             "Prints a line for the start, as action 0, and for each action: its number, how many moves have been made, the side, the move's \
              name or what else was done, the length of the list of the position after it, and that position's full FEN, which ends in its \
-             half-move clock and its move number, where a key always ends in ` 0 1`. If a log is not good, only what stands is printed, and \
-             standard error tells what does not.",
+             half-move clock and its move number, where a key always ends in ` 0 1`.",
+            "A roll has no lists, by which a move is named: a move is told in coordinates, the length of a list is -, and the position after a move \
+             is the one that the archive makes of the move and the position before it. Whether a roll's actions make a game is not asked.",
+            "An old roll, from before version 12, has no counters. With --old ROLL is read as an old one, and its start gets 0 and 1.",
+            WHICH_KIND,
+            NOT_GOOD,
+            "Of a log that is not good, what stands is printed.",
             "An object of --json has action, moves, side, kind (start, move, offer, accept, declare, resign), key, fen (the full one), \
-             half_moves, full_moves, in_check and list; that of a move has name, null if no text names it, and coordinates.",
+             half_moves, full_moves, in_check and list; that of a move has name, null if no text names it, and coordinates. Of a roll, name, \
+             in_check and list are null.",
         ],
-        statuses: &["the log is good"],
-        examples: &[Example { command: "menkhodur show game.actions game.positions", about: "every action of a game" }],
+        statuses: &["the log is good, or the roll is one"],
+        trouble: "a log that is not good; a roll that is refused, 5, 13 or 17 as for `menkhodur diff`; files that are not a log's parts by their size",
+        examples: &[
+            Example { command: "menkhodur show game.roll", about: "every action of a game, and the position after it" },
+            Example { command: "menkhodur show game.actions game.positions", about: "the same of a log, with the names of its moves" },
+        ],
         run: show::run,
     },
     Command {
         name: "diff",
         about: "what differs between two games, by their rolls",
-        arguments: &[
-            Argument {
-                name: "FIRST",
-                takes: Takes::File,
-                least: 1,
-                most: Some(1),
-                about: "a roll: a game's start and its actions as bytes",
-            },
-            Argument { name: "SECOND", takes: Takes::File, least: 1, most: Some(1), about: "another; - may stand for one of the two" },
-        ],
-        flags: &[diff::NAMES, diff::OLD_FIRST, diff::OLD_SECOND],
+        forms: &[&[
+            file("FIRST", "a roll: a game's start and its actions as bytes"),
+            file("SECOND", "another; - may stand for one of the two"),
+        ]],
+        flags: &[diff::NAMES, diff::OLD_FIRST, diff::OLD_SECOND, diff::JSON],
         text: &[
             "Prints a line for each of these that differs, in this order: the squares of the start, keyed by number (a1 is 0, e4 is 28, h8 is \
              63), side, white, black, ep, half, full, then the first action that differs, keyed action and its index from 0. A line is its key, \
@@ -192,12 +223,15 @@ pub const COMMANDS: &[Command] = &[
              byte for byte.",
             "With --names each line is followed, after a tab, by the same in words, as in `e4: white pawn, nothing`.",
             "An old roll, from before version 12, has no counters. With --old-first or --old-second that roll is read as an old one and compared \
-             as `menkhodur roll upgrade` writes it, with 0 and 1. The same bytes can be an old roll and a new one, with two meanings, so nothing \
-             is guessed: a store must know which kind it keeps.",
+             as `menkhodur roll upgrade` writes it, with 0 and 1.",
+            WHICH_KIND,
             "For a roll that is refused only the number is printed: 5, a number of the start out of range; 13, more actions or moves than a log \
              has; 17, anything else. If both would be refused, it is the first one's. Standard error tells which roll, and why.",
+            "An object of --json has key, for an action index, first and second, and in words name, first_name and second_name; that of a refused \
+             roll has roll (first or second), number and reason.",
         ],
         statuses: &["the rolls are equal", "they differ"],
+        trouble: "a roll that is refused",
         examples: &[
             Example { command: "menkhodur diff --names here.roll there.roll", about: "two sites' copies of a game" },
             Example { command: "menkhodur diff --old-first old/7.roll new/7.roll", about: "whether a new roll has the game of an old one" },
@@ -206,50 +240,68 @@ pub const COMMANDS: &[Command] = &[
     },
     Command {
         name: "roll",
-        about: "an old roll, without counters, written anew",
-        arguments: &[
-            Argument { name: "upgrade", takes: Takes::OneOf(&["upgrade"]), least: 1, most: Some(1), about: "what is done: this word" },
-            Argument {
-                name: "OLD",
-                takes: Takes::File,
-                least: 1,
-                most: Some(1),
-                about: "a roll from before version 12: the 68 numbers of the start, and its actions",
-            },
-            Argument { name: "NEW", takes: Takes::File, least: 1, most: Some(1), about: "the file to write; - is standard output" },
-        ],
-        flags: &[roll::FORCE],
+        about: "the roll of a stored log",
+        forms: &[LOG],
+        flags: &[roll::OUTPUT, roll::FORCE],
         text: &[
-            "Writes the game of an old roll as a new one, in which the start has the half-move clock 0 and the move number 1: the same bytes \
-             with 0 and 1 put in behind the 68th.",
-            "The same bytes can be an old roll and a new one, with two meanings. OLD is taken for an old one and nothing is guessed: a store \
-             must know which kind it keeps. A roll that this command wrote is never upgraded again: as an old one it is refused with 17.",
-            "If OLD is refused, standard error says why, with the number: 5, a number of the start out of range; 13, more actions or moves than \
-             a log has; 17, anything else.",
-            "NEW is written whole or not at all: to a file beside it, .menkhodur-PROCESS-N, which then takes its place. A NEW that exists is left \
-             alone, unless there is --force; then it is replaced and keeps its permissions, and it may be OLD itself. Only a regular file is \
-             replaced. If the program is killed, the file beside it may be left behind, and can be removed.",
+            "Writes the game of a log as a roll: the start with its counters and what was done, without the positions after it, to standard output \
+             or to the file of --output. `menkhodur show` shows it, and `menkhodur diff` compares it with another.",
+            NOT_GOOD,
+            "Of a log that is not good, nothing is written.",
+            WHOLE,
+            "Where the actions are in a file named upgrade, ./upgrade names it: `menkhodur roll upgrade` is another command.",
         ],
-        statuses: &["NEW was written"],
+        statuses: &["the roll was written"],
+        trouble: "a log that is not good; files that are not a log's parts by their size; a FILE that exists, without --force",
         examples: &[
-            Example { command: "menkhodur roll upgrade old/7.roll new/7.roll", about: "one game; docs/STORE.md has the loop over all" },
-            Example { command: "menkhodur roll upgrade - - <old >new", about: "between two pipes" },
+            Example { command: "menkhodur roll -o game.roll game.actions game.positions", about: "a log's roll in a file" },
+            Example {
+                command: "menkhodur roll game.actions game.positions | menkhodur diff - there.roll",
+                about: "whether another site has the same game",
+            },
         ],
         run: roll::run,
     },
     Command {
+        name: "roll upgrade",
+        about: "an old roll, without counters, written anew",
+        forms: &[&[
+            file("OLD", "a roll from before version 12: the 68 numbers of the start, and its actions"),
+            file("NEW", "the file to write; - is standard output"),
+        ]],
+        flags: &[roll::FORCE],
+        text: &[
+            "Writes the game of an old roll as a new one, in which the start has the half-move clock 0 and the move number 1: the same bytes \
+             with 0 and 1 put in behind the 68th.",
+            "OLD is taken for an old roll. A roll that this command wrote is never upgraded again: as an old one it is refused with 17.",
+            WHICH_KIND,
+            "If OLD is refused, standard error says why, with the number: 5, a number of the start out of range; 13, more actions or moves than \
+             a log has; 17, anything else.",
+            WHOLE,
+            "With --force NEW may be OLD itself.",
+        ],
+        statuses: &["NEW was written"],
+        trouble: "a roll that is refused; a NEW that exists, without --force",
+        examples: &[
+            Example { command: "menkhodur roll upgrade old/7.roll new/7.roll", about: "one game; docs/STORE.md has the loop over all" },
+            Example { command: "menkhodur roll upgrade - - <old >new", about: "between two pipes" },
+        ],
+        run: roll::upgrade,
+    },
+    Command {
         name: "completion",
         about: "a script with which a shell completes the words of this program",
-        arguments: &[Argument {
+        forms: &[&[Argument {
             name: "SHELL",
             takes: Takes::OneOf(&["bash", "zsh", "fish"]),
             least: 1,
             most: Some(1),
             about: "bash, zsh or fish",
-        }],
+        }]],
         flags: &[],
-        text: &[],
+        text: &["cli/install puts the scripts of all three, and the manual page, where the shells and man look for them."],
         statuses: &["the script was written"],
+        trouble: "",
         examples: &[Example {
             command: "menkhodur completion bash >~/.local/share/bash-completion/completions/menkhodur",
             about: "for bash",
@@ -259,15 +311,53 @@ pub const COMMANDS: &[Command] = &[
     Command {
         name: "man",
         about: "the manual page of this program",
-        arguments: &[],
+        forms: &[&[]],
         flags: &[],
         text: &[],
         statuses: &["the page was written"],
+        trouble: "",
         examples: &[Example { command: "menkhodur man >menkhodur.1 && man ./menkhodur.1", about: "to read it" }],
         run: man::run,
     },
+    Command {
+        name: "help",
+        about: "what --help says, of this program or of a command",
+        forms: &[&[Argument {
+            name: "COMMAND",
+            takes: Takes::Command,
+            least: 0,
+            most: Some(2),
+            about: "the command's name; some have two words",
+        }]],
+        flags: &[],
+        text: &[],
+        statuses: &["the help was written"],
+        trouble: "",
+        examples: &[Example { command: "menkhodur help roll upgrade", about: "the same as menkhodur roll upgrade --help" }],
+        run: help::run,
+    },
 ];
 
+/// The commands of one word.
+pub fn on_top() -> impl Iterator<Item = &'static Command> {
+    COMMANDS.iter().filter(|command| !command.name.contains(' '))
+}
+
+/// The commands of two words that begin with a command's, each with its second word.
+pub fn lower(command: &Command) -> impl Iterator<Item = (&'static str, &'static Command)> {
+    COMMANDS.iter().filter_map(|other| Some((other.name.strip_prefix(command.name)?.strip_prefix(' ')?, other)))
+}
+
+/// The command that a word names under another.
+pub fn under(command: &Command, word: &OsStr) -> Option<&'static Command> {
+    lower(command).find(|(second, _)| word == *second).map(|(_, lower)| lower)
+}
+
+/// An option by its long name.
+pub fn long(word: &OsStr) -> &OsStr {
+    SHORT.iter().find(|(short, _)| word == *short).map_or(word, |(_, long)| OsStr::new(long))
+}
+
 pub fn names() -> Vec<&'static str> {
-    COMMANDS.iter().map(|command| command.name).collect()
+    on_top().map(|command| command.name).collect()
 }

@@ -20,6 +20,16 @@ pub fn counted(count: u64, what: &str) -> String {
     format!("{count} {what}{}", if count == 1 { "" } else { "s" })
 }
 
+/// Bytes as a terminal should be given them: control characters, and what is not UTF-8, as `\xNN`.
+pub fn visible(bytes: &[u8]) -> String {
+    let hex = |bytes: &[u8]| bytes.iter().map(|byte| format!("\\x{byte:02x}")).collect::<String>();
+    let letter = |letter: char| match letter.is_control() {
+        true => hex(letter.to_string().as_bytes()),
+        false => letter.to_string(),
+    };
+    bytes.utf8_chunks().map(|chunk| chunk.valid().chars().map(letter).collect::<String>() + &hex(chunk.invalid())).collect()
+}
+
 /// Says how far long work has come, if someone looks on.
 pub struct Progress {
     next: Option<Instant>,
@@ -43,5 +53,16 @@ impl Progress {
             tell(&[counted(count, what).as_bytes(), b" so far"]);
             self.next = Some(now + EVERY);
         }
+    }
+}
+
+#[cfg(test)]
+mod tests {
+    use super::*;
+
+    #[test]
+    fn a_terminal_is_given_no_control_character_and_no_bad_byte() {
+        assert_eq!(visible("a\x1b[2J\x7f\u{9b}é".as_bytes()), "a\\x1b[2J\\x7f\\xc2\\x9bé");
+        assert_eq!(visible(b"K\xff\x9b w\r"), "K\\xff\\x9b w\\x0d");
     }
 }

@@ -83,6 +83,30 @@ fn every_start_number_and_action_in_words() {
 }
 
 #[test]
+fn objects_of_json_have_numbers_and_words() {
+    let (mut first, mut second) = (game(&[(2, Some(12 + 64 * 28)), (4, None)]), game(&[(2, Some(12 + 64 * 28))]));
+    (first.start[0], first.start[64], first.start[66], second.start[67]) = (12, 1, 1, 3);
+    (first.start[HALF], second.start[FULL]) = (9_999, 127);
+    let told = [
+        r#"{"key":"0","first":12,"second":0,"name":"a1","first_name":"black king","second_name":"nothing"}"#,
+        r#"{"key":"side","first":1,"second":0,"name":"side to move","first_name":"black","second_name":"white"}"#,
+        r#"{"key":"black","first":1,"second":0,"name":"black may castle","first_name":"king side","second_name":"no"}"#,
+        r#"{"key":"ep","first":0,"second":3,"name":"en passant file","first_name":"none","second_name":"c"}"#,
+        r#"{"key":"half","first":9999,"second":0,"name":"half-move clock","first_name":"9999","second_name":"0"}"#,
+        r#"{"key":"full","first":1,"second":127,"name":"move number","first_name":"1","second_name":"127"}"#,
+        r#"{"key":"action","index":1,"first":4,"second":0,"name":"action 1","first_name":"white offers a draw","second_name":"nothing"}"#,
+    ];
+    let folder = Folder::new();
+    let (a, b) = (folder.file("a", roll(&first)), folder.file("b", roll(&second)));
+    expect(&["diff", "--json", &a, &b], "", (told.join("\n") + "\n", "", 1));
+    expect(&["diff", "--json", "--names", &a, &b], "", (told.join("\n") + "\n", "", 1));
+    expect(&["diff", "--json", &a, &a], "", ("", "", 0));
+    let bad = "the bytes are not a roll, or not the actions of one";
+    let object = format!("{{\"roll\":\"second\",\"number\":17,\"reason\":\"{bad}\"}}\n");
+    expect(&["diff", "--json", &a, "-"], "", (object, &format!("menkhodur: standard input, the second roll: {bad} (answer 17)\n"), 2));
+}
+
+#[test]
 fn games_of_the_crate_with_one_thing_changed() {
     let games = Game::of_the_crate();
     for (index, game) in games.iter().enumerate() {

@@ -1,5 +1,6 @@
 //! Games and their rolls, made by the words of document 02, orders 1 and 12; the crate's games are out of oracle/logs.
 
+use crate::common::{FULL_MOVES, HALF_MOVES};
 use std::fs;
 use std::path::PathBuf;
 
@@ -24,6 +25,15 @@ impl Game {
 
     /// Games of the crate, with the counters 0 and 1, out of the logs that cli/run-tests has written.
     pub fn of_the_crate() -> Vec<Game> {
+        let plain = |mut game: Game| {
+            (game.start[HALF], game.start[FULL]) = (0, 1);
+            game
+        };
+        Game::logs().into_iter().map(|(_, _, game)| plain(game)).collect()
+    }
+
+    /// The files of each of those logs, and its game with the start's own counters.
+    pub fn logs() -> Vec<(String, String, Game)> {
         let default = concat!(env!("CARGO_MANIFEST_DIR"), "/../target/logs");
         let folder = PathBuf::from(std::env::var("MENKHODUR_LOGS").unwrap_or(default.to_string()));
         let entries = fs::read_dir(folder).expect("cli/run-tests makes the logs");
@@ -31,8 +41,10 @@ impl Game {
             entries.filter_map(|entry| Some(entry.ok()?.path())).filter(|path| path.extension().is_some_and(|e| e == "actions")).collect();
         paths.sort();
         assert!(paths.len() > 100);
+        let name = |path: &PathBuf| path.to_str().expect("UTF-8").to_string();
         let of = |path: &PathBuf| {
-            let (actions, positions) = (fs::read(path).unwrap(), fs::read(path.with_extension("positions")).unwrap());
+            let names = (name(path), name(&path.with_extension("positions")));
+            let (actions, positions) = (fs::read(&names.0).unwrap(), fs::read(&names.1).unwrap());
             let action = |bytes: &[u8]| {
                 let code = u32::from(bytes[0]) * 2 + u32::from(bytes[1]);
                 (code, (code == 2).then(|| u32::from(u16::from_le_bytes([bytes[2], bytes[3]]))))
@@ -41,7 +53,10 @@ impl Game {
             for (number, byte) in game.start.iter_mut().zip(&positions[..HALF]) {
                 *number = u32::from(*byte);
             }
-            game
+            for (number, at) in [(HALF, HALF_MOVES), (FULL, FULL_MOVES)] {
+                game.start[number] = u32::from(u16::from_le_bytes([positions[at], positions[at + 1]]));
+            }
+            (names.0, names.1, game)
         };
         paths.iter().map(of).collect()
     }

@@ -83,6 +83,25 @@ fn bad_bytes_are_printed_as_they_are_and_escaped_in_json() {
 }
 
 #[test]
+fn with_crlf_a_carriage_return_ends_a_line_and_is_no_part_of_it() {
+    let input = format!("{INITIAL}\r\n w - -\r\n\r\n{EMPTY}\n8/8 w\r -\r\r\n{EMPTY}\r");
+    let owed = format!("{INITIAL}\n{EMPTY}\n! 18 0\n{EMPTY}\n! 18 9\n{EMPTY}\n");
+    expect(&["keys", "--crlf"], &input, (owed, "menkhodur: 6 lines, 4 accepted, 2 refused\n", 1));
+    let few = "the FEN text ends before its fourth token";
+    let owed = format!("-:2:  w - - -> {EMPTY}\n-:3:  ! 18 0 {few}\n-:5: 8/8 w\r -\r ! 18 9 {few}\n");
+    expect(&["keys", "--check", "--crlf"], &input, (owed, "menkhodur: 6 lines, 3 keys, 1 second name, 2 refused\n", 1));
+    // Every line of a store that went over a Windows machine is a second name, and with the option none is.
+    let keys = run(&["keys", &repository("examples/positions.fen")], b"");
+    let sent = keys.text().replace('\n', "\r\n");
+    assert!(run(CHECK, sent.as_bytes()).err.ends_with(" 0 keys, 2048 second names, 0 refused\n"));
+    expect(&["keys", "--check", "--crlf"], sent, ("", "menkhodur: 2048 lines, 2048 keys, 0 second names, 0 refused\n", 0));
+    // A long line stays one, its carriage return counted, and the line after it has its own number.
+    let long = format!("{}\r\n w - -\r\n", " ".repeat(131_071));
+    let owed = format!("-:1: ! long the line has more than 131071 bytes\n-:2:  w - - -> {EMPTY}\n");
+    expect(&["keys", "--check", "--crlf"], long, (owed, "menkhodur: 2 lines, 0 keys, 1 second name, 1 refused\n", 1));
+}
+
+#[test]
 fn strict_refuses_what_is_odd_and_leaves_the_archives_refusals() {
     let input = format!("{INITIAL}\n{EMPTY}\n8/8/8/8/8/8/PPPPPPP/8 w - - 0 1\n w - -\n8/8 w -\n8/8/8/8/8/8/8/8 w kK - 0 1\n");
     let owed = format!("{INITIAL}\n{EMPTY}\n! strict 19 short-rank\n! strict 0 empty-field\n! 18 7\n! strict 19 castling-order\n");

@@ -1,6 +1,7 @@
 //! `menkhodur show` and `menkhodur ruling`, on games of the crate with what the crate says of them (oracle/logs).
 
 use crate::common::{ENTRIES, FULL_MOVES, Folder, HALF_MOVES, IN_CHECK, MOVES, empty_position, expect, run};
+use crate::games::{self, old_roll, roll};
 use menkhodur::lent::{ACTION_BYTES, ACTIONS_PART, MAX_ACTIONS, MAX_MOVES, POSITION_BYTES, POSITIONS_PART};
 use std::collections::HashMap;
 use std::fs;
@@ -113,6 +114,39 @@ fn show_prints_every_action_as_the_crate_has_it() {
     }
 }
 
+/// What `show` owes the game's roll: no names and no lists.
+fn shown_of_roll(told: &[Told]) -> String {
+    let line = |told: &Told| {
+        let what = if told["kind"] == "move" { &told["coordinates"] } else { done(told) };
+        format!("{:>4} {:>4} {:5} {what:13}   - {}\n", told["action"], told["moves"], told["side"], fen(told))
+    };
+    told.iter().map(line).collect()
+}
+
+#[test]
+fn show_prints_a_roll_as_the_crate_has_its_game() {
+    for (game, (_, _, rolled)) in games().into_iter().zip(games::Game::logs()) {
+        expect(&["show", "-"], roll(&rolled), (shown_of_roll(&game.told), "", 0));
+        let mut told = game.told.clone();
+        count(&mut told, (0, 1));
+        expect(&["show", "--old", "-"], old_roll(&rolled), (shown_of_roll(&told), "", 0));
+    }
+}
+
+#[test]
+fn show_has_the_same_of_a_roll_as_json() {
+    for (game, (_, _, rolled)) in games().into_iter().zip(games::Game::logs()).step_by(7) {
+        let unknown = |told: &Told| {
+            let (name, list) = (format!("\"name\":\"{}\"", told["name"]), format!("\"list\":{}}}", told["list"]));
+            let in_check = format!("\"in_check\":{}", told["in_check"] == "1");
+            let plain = object(told).replace(&name, "\"name\":null").replace(&list, "\"list\":null}");
+            plain.replace(&in_check, "\"in_check\":null") + "\n"
+        };
+        let owed: String = game.told.iter().map(unknown).collect();
+        expect(&["show", "--json", "-"], roll(&rolled), (owed, "", 0));
+    }
+}
+
 /// The fields of a position.
 fn position(told: &Told) -> String {
     format!("\"key\":\"{}\",\"fen\":\"{}\",\"half_moves\":{},\"full_moves\":{}", told["key"], fen(told), told["half"], told["full"])
@@ -171,7 +205,10 @@ fn see_ruling(game: &Game, at: usize, words: &[&str]) {
     let claims = ["claim", "laws_claim"].map(|name| number(told, name));
     assert_eq!((ran.err.as_str(), ran.status), ("", i32::from(claims[1] == 0)), "{} after {at}", game.actions);
     assert!(row(text, "result").starts_with(&format!("{}, after {at} action", RESULTS[number(told, "result")])), "{text}");
-    assert_eq!((row(text, "claim"), row(text, "Laws' claim")), (CLAIMS[claims[0]], CLAIMS[claims[1]]));
+    // No claim stands in a game that is over, and that comes first.
+    let over = if number(told, "result") == 0 { "" } else { "the game is over: " };
+    let owed = claims.map(|claim| format!("{over}{}", CLAIMS[claim]));
+    assert_eq!([row(text, "claim"), row(text, "Laws' claim")], owed.each_ref().map(String::as_str));
     for (name, field, by_rights) in [("count", "count", true), ("Laws' count", "laws_count", false)] {
         let began = number(told, "moves") - number(told, field);
         let since = game.told[..=at].iter().position(|entry| number(entry, "moves") == began).unwrap();
@@ -319,26 +356,44 @@ fn one_of_the_two_may_be_standard_input() {
     expect(&["show", "-", "-"], "", ("", "menkhodur: standard input can be only one of ACTIONS and POSITIONS\n", 2));
 }
 
-/// A log of some actions from the middle of the longest, to be damaged.
-fn damaged(actions: usize, damage: impl Fn(&mut Vec<u8>, &mut Vec<u8>)) -> (Folder, String, String) {
+/// A log of some actions from the middle of the longest, to be damaged in one of its files.
+struct Damaged {
+    folder: Folder,
+    actions: String,
+    positions: String,
+    /// The file that was damaged.
+    at_fault: String,
+}
+
+fn damaged(actions: usize, damage: impl Fn(&mut Vec<u8>, &mut Vec<u8>)) -> Damaged {
     let game = longest();
     let (mut a, mut p) = (fs::read(&game.actions).unwrap(), fs::read(&game.positions).unwrap());
     a.truncate(ACTION_BYTES * actions);
     p.truncate(POSITION_BYTES * (number(&game.told[actions], "moves") + 1));
+    let before = [a.clone(), p.clone()];
     damage(&mut a, &mut p);
+    let is_damaged = [a != before[0], p != before[1]];
+    assert_eq!(is_damaged.iter().filter(|is| **is).count(), 1);
     let folder = Folder::new();
-    let files = (folder.file("a", a), folder.file("p", p));
-    (folder, files.0, files.1)
+    let (actions, positions) = (folder.file("a", a), folder.file("p", p));
+    let at_fault = if is_damaged[0] { &actions } else { &positions }.clone();
+    Damaged { folder, actions, positions, at_fault }
 }
 
-/// Both commands tell the fault, and `show` prints what stands before it.
+/// The three commands tell the fault, and blame the file that has it; `show` prints what stands before it, and `roll` writes nothing.
 #[track_caller]
 fn see_fault(actions: usize, standing: usize, fault: &str, damage: impl Fn(&mut Vec<u8>, &mut Vec<u8>)) {
-    let (_folder, a, p) = damaged(actions, damage);
-    let told = format!("menkhodur: {a}: the log is not good: {fault}\n");
+    let Damaged { folder, actions: a, positions: p, at_fault } = damaged(actions, damage);
+    let told = format!("menkhodur: {at_fault}: the log is not good: {fault}\n");
     expect(&["ruling", &a, &p], "", ("", &told, 2));
     let shown = run(&["show", &a, &p], b"");
     assert_eq!((shown.err.as_str(), shown.status, shown.text().lines().count()), (told.as_str(), 2, standing));
+    let roll = folder.path("roll");
+    expect(&["roll", "-o", &roll, &a, &p], "", ("", &told, 2));
+    assert!(!fs::exists(roll).unwrap());
+    // By standard input, the file at fault has another name.
+    let (input, words) = if at_fault == a { (&a, ["show", "-", &p]) } else { (&p, ["show", &a, "-"]) };
+    assert_eq!(run(&words, &fs::read(input).unwrap()).err, told.replace(&at_fault, "standard input"));
 }
 
 /// What is told of the fifth move, a knight's, if it comes with this position.
@@ -357,9 +412,14 @@ fn the_first_action_that_does_not_stand_is_told() {
     see_fault(40, 8, &format!("action 8 does not stand: {range}"), |a, _| a[4 * 7 + 1] = 2);
     see_fault(40, 9, &format!("action 9 does not stand: {range}"), |_, p| p[5 * POSITION_BYTES + 10] = 13);
     see_fault(40, 9, &format!("action 9 does not stand: {range}"), |_, p| p[5 * POSITION_BYTES + IN_CHECK] = 2);
-    let bytes = "a byte of it, or of the position after it, is not 0 where it must be";
-    see_fault(40, 8, &format!("action 8 does not stand: {bytes}"), |a, _| a[4 * 7 + 3] = 1);
+    see_fault(40, 8, "action 8 does not stand: a byte of it is not 0 where it must be", |a, _| a[4 * 7 + 3] = 1);
+    see_fault(40, 9, "action 9 does not stand: a byte of it is not 0 where it must be", |a, _| a[4 * 8 + 1] = 1);
+    let bytes = "a byte of the position after it is not 0 where it must be";
     see_fault(40, 9, &format!("action 9 does not stand: {bytes}"), |_, p| p[6 * POSITION_BYTES - 1] = 1);
+    let list = "the list has more than 255 moves, or a move's number is over 28,671 (answer 6)";
+    see_fault(40, 9, &format!("action 9 does not stand: {list}"), |_, p| {
+        p[5 * POSITION_BYTES + MOVES..][..2].copy_from_slice(&28_672_u16.to_le_bytes())
+    });
     see_fault(40, 9, "action 9 does not stand: the position after the move has the wrong side to move (answer 12)", |_, p| {
         p[5 * POSITION_BYTES + 64] = 0
     });
@@ -406,7 +466,7 @@ fn a_start_that_is_none_and_positions_too_few_or_too_many_are_told() {
 
 #[test]
 fn actions_before_the_fault_can_be_ruled_on() {
-    let (_folder, a, p) = damaged(40, |a, _| a[4 * 6 + 2] = 0);
+    let Damaged { folder: _folder, actions: a, positions: p, .. } = damaged(40, |a, _| a[4 * 6 + 2] = 0);
     let ran = run(&["ruling", "--at", "6", &a, &p], b"");
     let fault = "the log is not good: action 7 does not stand: the move is not in the list (answer 11)";
     assert_eq!((ran.err.as_str(), ran.status), (format!("menkhodur: {a}: {fault}; the first 6 actions stand\n").as_str(), 1));
@@ -428,7 +488,7 @@ fn files_of_another_size_are_trouble() {
                 a position had 580";
     ruling(&empty, &old, &format!("{old}: {told}"));
     let not_good = "the log is not good: the start is not a position: its move number is 0, and must be from 1 to 9999";
-    ruling(&empty, &zeros, &format!("{empty}: {not_good}"));
+    ruling(&empty, &zeros, &format!("{zeros}: {not_good}"));
     ruling(&empty, &empty, &format!("{empty}: it is empty, but a log has a start"));
     ruling(&none, &start, &format!("{none}: No such file or directory"));
     ruling(&folder.path(""), &start, &format!("{}: Is a directory", folder.path("")));
@@ -436,7 +496,9 @@ fn files_of_another_size_are_trouble() {
     ruling(&empty, "/dev/zero", &format!("/dev/zero: more than {POSITIONS_PART} bytes, the most that the positions of a log may have"));
     // An empty board with an empty list: a stalemate.
     let ran = run(&["ruling", &empty, &start], b"");
-    assert!(ran.text().contains("\nresult       stalemate, after 0 actions and 0 moves\n"), "{}", ran.text());
+    let over = "the game is over: no draw may be claimed";
+    let rows = format!("\nresult       stalemate, after 0 actions and 0 moves\nclaim        {over}\nLaws' claim  {over}\n");
+    assert!(ran.text().contains(&rows), "{}", ran.text());
     assert_eq!(ran.status, 1);
 }
 

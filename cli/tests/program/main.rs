@@ -1,5 +1,6 @@
 //! The built program, from outside: every command, every status, bad bytes and files, pipes and devices.
 
+mod closed;
 mod common;
 mod diff;
 mod explain;

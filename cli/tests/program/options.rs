@@ -4,12 +4,17 @@ use crate::common::{Folder, expect, run};
 use menkhodur::lent::{ACTION_BYTES, POSITION_BYTES};
 use std::process::Command;
 
-const COMMANDS: [&str; 9] = ["keys", "explain", "pgn", "ruling", "show", "diff", "roll", "completion", "man"];
+const COMMANDS: [&str; 11] = ["keys", "explain", "pgn", "ruling", "show", "diff", "roll", "roll upgrade", "completion", "man", "help"];
+
+/// Words behind those of a command.
+fn words<'a>(command: &'a str, more: &[&'a str]) -> Vec<&'a str> {
+    command.split(' ').chain(more.iter().copied()).collect()
+}
 
 #[test]
 fn what_is_not_known_is_trouble_and_named() {
     for (words, told) in [
-        (vec![], "a command is needed: keys, explain, pgn, ruling, show, diff, roll, completion, man; see menkhodur --help"),
+        (vec![], "a command is needed: keys, explain, pgn, ruling, show, diff, roll, completion, man, help; see menkhodur --help"),
         (vec!["nope"], "unknown command nope; see menkhodur --help"),
         (vec!["--nope"], "unknown option --nope; see menkhodur --help"),
         (vec!["keys", "--nope"], "unknown option --nope; see menkhodur keys --help"),
@@ -18,15 +23,27 @@ fn what_is_not_known_is_trouble_and_named() {
         (vec!["keys", "--at", "1"], "unknown option --at; see menkhodur keys --help"),
         (vec!["explain"], "missing FEN; see menkhodur explain --help"),
         (vec!["ruling"], "missing ACTIONS; see menkhodur ruling --help"),
-        (vec!["show", "a"], "missing POSITIONS; see menkhodur show --help"),
+        (vec!["ruling", "a"], "missing POSITIONS; see menkhodur ruling --help"),
+        (vec!["show"], "missing ROLL; see menkhodur show --help"),
+        (vec!["show", "--old", "a", "b"], "--old is for a ROLL, and a log was named"),
         (vec!["show", "a", "b", "c"], "one word too many: c; see menkhodur show --help"),
         (vec!["ruling", "a", "b", "--at"], "a value (N) is needed for --at; see menkhodur ruling --help"),
         (vec!["completion", "csh"], "completion: csh is not bash, zsh or fish"),
-        (vec!["roll"], "missing upgrade; see menkhodur roll --help"),
-        (vec!["roll", "downgrade"], "roll: downgrade is not upgrade"),
-        (vec!["roll", "upgrade"], "missing OLD; see menkhodur roll --help"),
-        (vec!["roll", "upgrade", "a"], "missing NEW; see menkhodur roll --help"),
-        (vec!["roll", "upgrade", "a", "b", "c"], "one word too many: c; see menkhodur roll --help"),
+        (vec!["roll"], "missing ACTIONS; see menkhodur roll --help"),
+        (vec!["roll", "downgrade"], "missing POSITIONS; see menkhodur roll --help"),
+        (vec!["roll", "a", "upgrade", "b"], "one word too many: b; see menkhodur roll --help"),
+        (vec!["roll", "a", "b", "-o"], "a value (FILE) is needed for -o; see menkhodur roll --help"),
+        (vec!["roll", "upgrade"], "missing OLD; see menkhodur roll upgrade --help"),
+        (vec!["roll", "upgrade", "a"], "missing NEW; see menkhodur roll upgrade --help"),
+        (vec!["roll", "--force", "upgrade", "a"], "missing NEW; see menkhodur roll upgrade --help"),
+        (vec!["roll", "upgrade", "a", "b", "c"], "one word too many: c; see menkhodur roll upgrade --help"),
+        (vec!["roll", "upgrade", "-o", "a", "b", "c"], "unknown option -o; see menkhodur roll upgrade --help"),
+        (vec!["pgn", "--limit", "0"], "--limit 0: a number of MB from 1 up is needed"),
+        (vec!["pgn", "--limit=x"], "--limit x: a number of MB from 1 up is needed"),
+        (vec!["pgn", "--limit", "18446744073709551615"], "--limit 18446744073709551615: a number of MB from 1 up is needed"),
+        (vec!["help", "nope"], "unknown command nope; see menkhodur --help"),
+        (vec!["help", "roll", "nope"], "unknown command roll nope; see menkhodur --help"),
+        (vec!["help", "a", "b", "c"], "one word too many: c; see menkhodur help --help"),
     ] {
         expect(&words, "", ("", &format!("menkhodur: {told}\n"), 2));
     }
@@ -36,20 +53,45 @@ fn what_is_not_known_is_trouble_and_named() {
 fn help_has_an_example_of_each_command() {
     let whole = run(&["--help"], b"");
     assert_eq!((whole.status, whole.err.as_str()), (0, ""));
-    assert_eq!(run(&["-h"], b""), whole);
+    assert_eq!((run(&["-h"], b""), run(&["help"], b"")), (run(&["--help"], b""), run(&["--help"], b"")));
     for command in COMMANDS {
         assert!(whole.text().contains(&format!("\n  {command} ")), "{command}");
-        let help = run(&[command, "--help"], b"");
+        let help = run(&words(command, &["--help"]), b"");
         assert!(help.text().starts_with(&format!("menkhodur {command}")), "{}", help.text());
         assert!(help.text().contains("\nExample") && help.text().contains("\nExit status:\n  0 "), "{}", help.text());
         assert_eq!((help.status, help.err.as_str()), (0, ""));
-        assert_eq!(run(&[command, "-h", "--nope"], b""), help);
+        assert_eq!(run(&words(command, &["-h", "--nope"]), b""), help);
+        assert_eq!(run(&words("help", &words(command, &[])), b""), help);
     }
+}
+
+/// A text with single spaces.
+fn joined(text: &str) -> String {
+    text.split_whitespace().collect::<Vec<_>>().join(" ")
+}
+
+#[test]
+fn help_says_what_trouble_is() {
+    let always =
+        "an option, a file that could not be read to its end, standard input or output that is needed and not open, or a write that failed";
+    for (command, here) in [
+        ("keys", ""),
+        ("ruling", "a log that is not good (with --at: up to N), or that has fewer actions than N; "),
+        ("show", "a log that is not good; a roll that is refused, 5, 13 or 17 "),
+        ("diff", "a roll that is refused; "),
+        ("roll", "a log that is not good; "),
+        ("roll upgrade", "a roll that is refused; a NEW that exists, without --force; "),
+    ] {
+        let help = joined(run(&words(command, &["--help"]), b"").text());
+        let status = help.split(" Exit status: ").nth(1).unwrap_or_default();
+        assert!(status.contains(&format!(" 2 trouble: {here}")) && status.contains(always), "{status}");
+    }
+    assert!(joined(run(&["--help"], b"").text()).contains(&format!(" 2 trouble: a log or roll that is refused; {always}")));
 }
 
 #[test]
 fn help_has_the_archives_sizes() {
-    for command in ["ruling", "show"] {
+    for command in ["ruling", "show", "roll"] {
         let help = run(&[command, "--help"], b"");
         assert!(help.text().contains(&format!("actions, {ACTION_BYTES} for each\n")), "{}", help.text());
         assert!(help.text().contains(&format!("positions, {POSITION_BYTES} for the start and for each move\n")), "{}", help.text());
@@ -67,7 +109,7 @@ fn the_version_is_the_archives() {
 
 /// The options that the help of a command names.
 fn options(command: &str) -> Vec<String> {
-    let help = run(&[command, "--help"], b"");
+    let help = run(&words(command, &["--help"]), b"");
     let rest = help.text().lines().filter_map(|line| line.strip_prefix("  --"));
     let named = rest.filter(|rest| rest.starts_with(|letter: char| letter.is_ascii_lowercase()));
     named.filter_map(|rest| rest.split_whitespace().next().map(str::to_string)).collect()
@@ -79,7 +121,7 @@ fn man_page_and_completion_name_every_command_and_option() {
     let scripts = ["bash", "zsh", "fish"].map(|shell| run(&["completion", shell], b""));
     assert!([&man].into_iter().chain(&scripts).all(|ran| ran.status == 0 && ran.err.is_empty()));
     for command in COMMANDS {
-        assert!(scripts.iter().all(|script| script.text().contains(command)), "{command}");
+        assert!(command.split(' ').all(|word| scripts.iter().all(|script| script.text().contains(word))), "{command}");
         assert!(man.text().contains(&format!(".SS menkhodur {command}")), "{command}");
         assert!(options(command).len() >= 2, "{command}");
         for option in options(command) {
@@ -108,7 +150,7 @@ fn bash_completes_commands_options_and_words() {
     let script = folder.file("completion", &run(&["completion", "bash"], b"").out);
     for (words, owed) in [
         (&["menkhodur", "k"][..], &["keys"][..]),
-        (&["menkhodur", "keys", "--c"], &["--check"]),
+        (&["menkhodur", "keys", "--c"], &["--check", "--crlf"]),
         (&["menkhodur", "ruling", "--a"], &["--at"]),
         (&["menkhodur", "completion", "z"], &["zsh"]),
         (&["menkhodur", "explain", "--j"], &["--json"]),
@@ -116,8 +158,24 @@ fn bash_completes_commands_options_and_words() {
         (&["menkhodur", "diff", "--old-s"], &["--old-second"]),
         (&["menkhodur", "roll", "u"], &["upgrade"]),
         (&["menkhodur", "roll", "upgrade", "--f"], &["--force"]),
+        (&["menkhodur", "roll", "s"], &["src"]),
+        (&["menkhodur", "roll", "--o"], &["--output"]),
+        (&["menkhodur", "roll", "upgrade", "Cargo.t"], &["Cargo.toml"]),
+        (&["menkhodur", "help", "ru"], &["ruling"]),
     ] {
         assert_eq!(completed(&script, words).unwrap_or(owed.iter().map(|word| word.to_string()).collect()), owed);
+    }
+}
+
+// Only where they are installed.
+#[test]
+fn the_scripts_of_other_shells_are_read_without_a_complaint() {
+    let folder = Folder::new();
+    for (shell, options) in [("zsh", &["-n"][..]), ("fish", &["--no-execute"]), ("bash", &["-n"])] {
+        let script = folder.file(shell, &run(&["completion", shell], b"").out);
+        if let Ok(ran) = Command::new(shell).args(options).arg(&script).output() {
+            assert_eq!((String::from_utf8_lossy(&ran.stderr).as_ref(), ran.status.code()), ("", Some(0)), "{shell}");
+        }
     }
 }
 

@@ -81,7 +81,7 @@ fn a_game_that_was_not_read_or_written_whole_is_not_counted() {
     let ran = cut(program().args(["pgn"]), "1. e4 *\n1. d4 d5\n");
     let told = "menkhodur: standard input: Resource temporarily unavailable\nmenkhodur: standard input: stopped after 2 lines\n\
                 menkhodur: 1 game, 1 accepted, 0 refused; input incomplete\n";
-    assert_eq!((ran.text(), ran.err.as_str(), ran.status), ("1 1 1 0\n", told, 2));
+    assert_eq!((ran.text(), ran.err.as_str(), ran.status), ("1 1 1 0 *\n", told, 2));
     let ran = full(&["pgn"], "1. e4 *\n");
     let told = "menkhodur: standard output: No space left on device\n\
                 menkhodur: 0 games, 0 accepted, 0 refused; output incomplete: these games were written whole\n";
@@ -223,4 +223,29 @@ fn progress_is_told_on_a_terminal_and_only_there() {
     to.write_all(b" w - -\n").unwrap();
     drop(to);
     assert_eq!(Ran::of(child.wait_with_output().unwrap()).err, "menkhodur: 2 lines, 2 accepted, 0 refused\n");
+}
+
+/// What a command writes to a terminal, line by line.
+fn seen(words: &[&str]) -> Vec<String> {
+    let (own, given) = terminal();
+    let mut child = program().args(words).stdin(Stdio::null()).stdout(given).stderr(Stdio::null()).spawn().unwrap();
+    let from = lines_of(own);
+    child.wait().unwrap();
+    // The terminal gives an error, no end, once nobody has it any more.
+    from.iter().map(|line| line.trim_end_matches('\r').to_string()).collect()
+}
+
+#[test]
+fn a_terminal_gets_no_control_characters() {
+    let folder = Folder::new();
+    let fens = folder.file("fens", b" w - - \x1b[2J\x07\xc2\x9b\xff\n w - - \xc3\xa9\n");
+    assert_eq!(
+        seen(&["keys", "--check", &fens]),
+        [format!("{fens}:1:  w - - \\x1b[2J\\x07\\xc2\\x9b\\xff -> {EMPTY}"), format!("{fens}:2:  w - - é -> {EMPTY}")]
+    );
+    let ran = Ran::of(program().args(["keys", "--check", &fens]).output().unwrap());
+    let plain = [format!("{fens}:1: ").as_bytes(), b" w - - \x1b[2J\x07\xc2\x9b\xff -> ", EMPTY.as_bytes(), b"\n"].concat();
+    assert!(ran.out.starts_with(&plain));
+    let pgn = folder.file("pgn", b"[White \"a\x1b]0;b\x07 \xc3\xa9\xe9\"]\n\ne4 *\n");
+    assert_eq!(seen(&["pgn", "--tags", &pgn]), ["1 1 1 0 *", "  [White \"a\\x1b]0;b\\x07 é\\xe9\"]"]);
 }

@@ -1,7 +1,8 @@
-//! `menkhodur roll upgrade`. What an old roll is owed is said by document 02, order 12: the same game, with 0 and 1 after its 68 numbers.
+//! `menkhodur roll` and `menkhodur roll upgrade`. What a roll is, is said by document 02, orders 1 and 12; what an old one is owed, by order 12:
+//! the same game, with 0 and 1 after its 68 numbers.
 
-use crate::common::{Folder, Ran, expect, program, repository};
-use crate::games::{Game, old_roll, roll};
+use crate::common::{FULL_MOVES, Folder, HALF_MOVES, Ran, empty_position, expect, program, repository, run};
+use crate::games::{FULL, Game, HALF, old_roll, roll};
 use menkhodur::lent::{MAX_ACTIONS, MAX_MOVES, MAX_ROLL};
 use std::fs::{self, File, Permissions};
 use std::os::fd::OwnedFd;
@@ -15,6 +16,89 @@ fn names(folder: &Folder) -> Vec<String> {
     let mut names: Vec<String> = entries.map(|entry| entry.unwrap().file_name().into_string().unwrap()).collect();
     names.sort();
     names
+}
+
+#[test]
+fn the_roll_of_a_log_has_its_start_with_its_counters_and_its_actions() {
+    let folder = Folder::new();
+    for (index, (actions, positions, game)) in Game::logs().into_iter().enumerate() {
+        expect(&["roll", &actions, &positions], "", (roll(&game), "", 0));
+        let file = folder.path(&index.to_string());
+        expect(&["roll", "-o", &file, &actions, &positions], "", ("", "", 0));
+        assert_eq!(fs::read(&file).unwrap(), roll(&game));
+        expect(&["diff", "-", &file], roll(&game), ("", "", 0));
+    }
+    // A start with counters of two bytes each, which the crate's games have not.
+    let (mut start, mut game) = (empty_position(), Game::empty());
+    (game.start[HALF], game.start[FULL]) = (9_999, 300);
+    start[HALF_MOVES..HALF_MOVES + 2].copy_from_slice(&9_999_u16.to_le_bytes());
+    start[FULL_MOVES..FULL_MOVES + 2].copy_from_slice(&300_u16.to_le_bytes());
+    let empty = folder.file("empty", "");
+    expect(&["roll", &empty, "-"], start, (roll(&game), "", 0));
+    let words = ["roll", "--output=-", &empty, "-"];
+    expect(&words, start, (roll(&game), "", 0));
+}
+
+#[test]
+fn a_roll_is_put_where_it_is_asked_for_and_replaces_only_by_force() {
+    let folder = Folder::new();
+    let (a, p) = (folder.file("a", ""), folder.file("p", empty_position()));
+    let taken = folder.file("taken", "mine");
+    expect(&["roll", "-o", &taken, &a, &p], "", ("", &format!("menkhodur: {taken}: it exists; --force replaces it\n"), 2));
+    assert_eq!(fs::read(&taken).unwrap(), b"mine");
+    expect(&["roll", &a, &p, "--force", "--output", &taken], "", ("", "", 0));
+    assert_eq!((fs::read(&taken).unwrap(), names(&folder).len()), (roll(&Game::empty()), 3));
+    expect(&["roll", "-o", "/dev/null", "--force", &a, &p], "", ("", "menkhodur: /dev/null: it is not a regular file\n", 2));
+    expect(&["roll", "-", "-"], "", ("", "menkhodur: standard input can be only one of ACTIONS and POSITIONS\n", 2));
+}
+
+#[test]
+fn a_file_named_as_the_other_command_is_reached_by_its_path() {
+    let folder = Folder::new();
+    (folder.file("upgrade", ""), folder.file("p", empty_position()));
+    for words in [&["roll", "./upgrade", "p"][..], &["roll", "--", "upgrade", "p"], &["roll", "--force", "--", "upgrade", "p"]] {
+        let ran = Ran::of(program().args(words).current_dir(&folder.0).output().unwrap());
+        assert_eq!(ran, Ran { out: roll(&Game::empty()), err: String::new(), status: 0 });
+    }
+    let ran = Ran::of(program().args(["roll", "-o", "upgrade", "--force", "./upgrade", "p"]).current_dir(&folder.0).output().unwrap());
+    assert_eq!((ran.err.as_str(), ran.status, fs::read(folder.path("upgrade")).unwrap()), ("", 0, roll(&Game::empty())));
+}
+
+// Whether its actions make a game, a roll does not say: white resigns, black moves a man that is not there, and a draw is accepted.
+#[test]
+fn a_roll_that_is_no_game_is_shown_too() {
+    let game = Game { actions: vec![(10, None), (2, Some(52 + 64 * 36)), (6, None), (5, None), (8, None)], ..Game::empty() };
+    let (empty, after) = ("8/8/8/8/8/8/8/8 w - - 0 1", "8/8/8/8/8/8/8/8 b - - 1 1");
+    let lines = [
+        format!("   0    0 -     start           - {empty}"),
+        format!("   1    0 white resigns         - {empty}"),
+        format!("   2    1 white e7e5            - {after}"),
+        format!("   3    1 -     draw accepted   - {after}"),
+        format!("   4    1 black offers a draw   - {after}"),
+        format!("   5    1 -     draw declared   - {after}"),
+    ];
+    expect(&["show", "-"], roll(&game), (lines.join("\n") + "\n", "", 0));
+}
+
+#[test]
+fn what_is_no_roll_is_not_shown() {
+    let folder = Folder::new();
+    let over = MAX_ACTIONS + 1;
+    let many = [vec![0; 68], vec![0, 1, 128 + (over % 128) as u8, (over / 128) as u8]].concat();
+    let (old, new) = (old_roll(&Game::empty()), roll(&Game::empty()));
+    let none = folder.path("none");
+    for (words, bytes, number) in [
+        (&["show", "-"][..], &[13; 71][..], 5),
+        (&["show", "-"], &many, 13),
+        (&["show", "-"], &old, 17),
+        (&["show", "--old", "-"], &new, 17),
+        (&["show", "--json", "-"], &[], 17),
+    ] {
+        let ran = run(words, bytes);
+        assert_eq!((ran.text(), ran.status), ("", 2));
+        assert!(ran.err.starts_with("menkhodur: standard input: ") && ran.err.ends_with(&format!(" (answer {number})\n")), "{}", ran.err);
+    }
+    expect(&["show", &none], "", ("", &format!("menkhodur: {none}: No such file or directory\n"), 2));
 }
 
 const NOT_A_ROLL: &str = "the bytes are not a roll, or not the actions of one (answer 17)";
@@ -130,7 +214,7 @@ fn what_is_no_regular_file_is_never_replaced() {
 
 /// Runs the program where no file may grow.
 fn without_room(words: &str) -> Ran {
-    let script = format!("trap '' XFSZ; ulimit -f 0; exec {} roll upgrade {words}", env!("CARGO_BIN_EXE_menkhodur"));
+    let script = format!("trap '' XFSZ; ulimit -f 0; exec {} roll {words}", env!("CARGO_BIN_EXE_menkhodur"));
     Ran::of(Command::new("sh").args(["-c", &script]).output().unwrap())
 }
 
@@ -139,11 +223,17 @@ fn a_write_that_fails_leaves_nothing() {
     let folder = Folder::new();
     let (game, new, taken) = (Game::empty(), folder.path("new"), folder.file("taken", "mine"));
     let old = folder.file("old", old_roll(&game));
-    for (words, name) in [(format!("{old} {new}"), &new), (format!("--force {old} {taken}"), &taken)] {
+    let (a, p) = (folder.file("a", ""), folder.file("p", empty_position()));
+    for (words, name) in [
+        (format!("upgrade {old} {new}"), &new),
+        (format!("upgrade --force {old} {taken}"), &taken),
+        (format!("-o {new} {a} {p}"), &new),
+        (format!("--force -o {taken} {a} {p}"), &taken),
+    ] {
         let ran = without_room(&words);
         assert_eq!((ran.text(), ran.err.as_str(), ran.status), ("", format!("menkhodur: {name}: File too large\n").as_str(), 2));
     }
-    assert_eq!((fs::read(&taken).unwrap(), names(&folder)), (b"mine".to_vec(), vec!["old".to_string(), "taken".to_string()]));
+    assert_eq!((fs::read(&taken).unwrap(), names(&folder)), (b"mine".to_vec(), ["a", "old", "p", "taken"].map(str::to_string).to_vec()));
     let full = program().args(["roll", "upgrade", &old, "-"]).stdout(File::create("/dev/full").unwrap()).output().unwrap();
     assert_eq!(Ran::of(full).err, "menkhodur: standard output: No space left on device\n");
 }
@@ -153,10 +243,13 @@ fn a_write_that_fails_leaves_nothing() {
 fn a_closed_pipe_is_trouble_and_quiet() {
     let folder = Folder::new();
     let old = folder.file("old", old_roll(&Game::empty()));
-    let (from, to) = UnixStream::pair().unwrap();
-    drop(from);
-    let ran = Ran::of(program().args(["roll", "upgrade", &old, "-"]).stdout(OwnedFd::from(to)).output().unwrap());
-    assert_eq!((ran.err.as_str(), ran.status), ("", 2));
+    let (a, p) = (folder.file("a", ""), folder.file("p", empty_position()));
+    for words in [["roll", "upgrade", &old, "-"].as_slice(), &["roll", &a, &p]] {
+        let (from, to) = UnixStream::pair().unwrap();
+        drop(from);
+        let ran = Ran::of(program().args(words).stdout(OwnedFd::from(to)).output().unwrap());
+        assert_eq!((ran.err.as_str(), ran.status), ("", 2));
+    }
 }
 
 /// The lines of docs/STORE.md that upgrade a folder of rolls.
