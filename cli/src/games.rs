@@ -193,7 +193,7 @@ impl Games {
 
     /// A tag pair. No game has two Event tags: the second is that of the next, if the first has no text.
     fn tag(&mut self, number: u64, tag: &[u8], each: Each<'_>) -> Result<(), Stop> {
-        let is_event = parts(tag).is_some_and(|(name, _)| name == b"Event");
+        let is_event = named(tag).is_some_and(|(name, _)| name == b"Event");
         if is_event && self.game.event {
             self.end(None, each)?;
         }
@@ -231,16 +231,27 @@ fn blank(text: &[u8]) -> usize {
     }
 }
 
-/// The name of the tag pair at the front of a text, and what stands between its quotes, as far as that goes.
-pub fn parts(text: &[u8]) -> Option<(&[u8], &[u8])> {
+/// The name of the tag pair that a text begins with, and where its value begins, behind a quote.
+fn named(text: &[u8]) -> Option<(&[u8], usize)> {
     let blank = |byte: u8| byte.is_ascii_whitespace();
     let name = run(text.strip_prefix(b"[")?, 0, blank) + 1;
     let end = run(text, name, |byte| byte.is_ascii_alphanumeric() || byte == b'_');
-    let value = text[run(text, end, blank)..].strip_prefix(b"\"")?;
-    (end > name).then(|| (&text[name..end], &value[..quote_end(value)]))
+    let quote = run(text, end, blank);
+    (end > name && text.get(quote) == Some(&b'"')).then(|| (&text[name..end], quote + 1))
 }
 
-/// What stands between quotes says: a backslash stands before a quote, and before another backslash.
+fn is_tag(text: &[u8]) -> bool {
+    named(text).is_some()
+}
+
+/// The name and the value of a tag pair. Not every file has a backslash before a quote in a value: it ends with the last quote.
+pub fn parts(tag: &[u8]) -> Option<(&[u8], &[u8])> {
+    let (name, from) = named(tag)?;
+    let value = &tag[from..];
+    Some((name, &value[..value.iter().rposition(|byte| *byte == b'"').unwrap_or(value.len())]))
+}
+
+/// What a value says: in it a backslash stands before a quote and before another backslash.
 pub fn unquoted(value: &[u8]) -> Vec<u8> {
     let mut plain = vec![];
     let mut bytes = value.iter().copied().peekable();
@@ -249,10 +260,6 @@ pub fn unquoted(value: &[u8]) -> Vec<u8> {
         plain.push(escaped.unwrap_or(byte));
     }
     plain
-}
-
-fn is_tag(text: &[u8]) -> bool {
-    parts(text).is_some()
 }
 
 /// Where the quote ends that a text begins in; a backslash takes the byte behind it with it.

@@ -216,8 +216,8 @@ fn a_comment_left_open_over_the_file_is_told_by_the_games_own_line() {
 
 #[test]
 fn tag_pairs_are_told_as_they_stand() {
-    let input = b"[White \"M\xc3\xbcller \\\"x\\\" \\\\\"]  [Black\"\xfc\"]\n[A]\n[ B_1 \"\" ]\n[White \"again\"]\n\n1. e4 * $ *\n";
-    let tags = b"  [White \"M\xc3\xbcller \\\"x\\\" \\\\\"]\n  [Black\"\xfc\"]\n  [ B_1 \"\" ]\n  [White \"again\"]\n".to_vec();
+    let input = b"[White \"M\xc3\xbcller \\\"x\\\" \\\\\"]  [Black\"\xfc\"]\n[A]\n[ B_1 \"\" ]\n[White \"\"again\"\"]\n\n1. e4 * $ *\n";
+    let tags = b"  [White \"M\xc3\xbcller \\\"x\\\" \\\\\"]\n  [Black\"\xfc\"]\n  [ B_1 \"\" ]\n  [White \"\"again\"\"]\n".to_vec();
     let refused = format!("2 6 ! 23 6:9 {ERROR_23}\n  1. e4 * $ *\n          ^\n");
     let owed = [b"1 1 1 0 *\n".to_vec(), tags.clone(), refused.clone().into_bytes()].concat();
     expect(&["pgn", "--tags"], input, (owed, "menkhodur: 2 games, 1 accepted, 1 refused\n", 1));
@@ -228,7 +228,7 @@ fn tag_pairs_are_told_as_they_stand() {
         tag("White", "Müller \\\"x\\\" \\\\") + "}",
         tag("Black", "\u{fffd}") + ",\"value_hex\":\"fc\"}",
         tag("B_1", "") + "}",
-        tag("White", "again") + "}",
+        tag("White", "\\\"again\\\"") + "}",
     ];
     let first =
         format!("{{\"file\":\"-\",\"game\":1,\"line\":1,\"moves\":1,\"variations\":0,\"result\":\"*\",\"tags\":[{}]}}\n", tags.join(","));

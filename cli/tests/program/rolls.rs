@@ -55,7 +55,8 @@ fn a_roll_is_put_where_it_is_asked_for_and_replaces_only_by_force() {
 #[test]
 fn a_file_named_as_the_other_command_is_reached_by_its_path() {
     let folder = Folder::new();
-    (folder.file("upgrade", ""), folder.file("p", empty_position()));
+    folder.file("upgrade", "");
+    folder.file("p", empty_position());
     for words in [&["roll", "./upgrade", "p"][..], &["roll", "--", "upgrade", "p"], &["roll", "--force", "--", "upgrade", "p"]] {
         let ran = Ran::of(program().args(words).current_dir(&folder.0).output().unwrap());
         assert_eq!(ran, Ran { out: roll(&Game::empty()), err: String::new(), status: 0 });
