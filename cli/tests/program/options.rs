@@ -132,14 +132,14 @@ fn man_page_and_completion_name_every_command_and_option() {
     }
 }
 
-/// Asks the script for bash what may stand at the end of some words.
-fn completed(script: &str, words: &[&str]) -> Option<Vec<String>> {
+/// Asks the script for bash what may stand at the end of some words, in a folder.
+fn completed(script: &str, words: &[&str], folder: &Folder) -> Option<Vec<String>> {
     let ask = format!(
         "source {script}; COMP_WORDS=({}); COMP_CWORD={}; _menkhodur; printf '%s\\n' \"${{COMPREPLY[@]}}\"",
         words.join(" "),
         words.len() - 1
     );
-    let ran = Command::new("bash").args(["-c", &ask]).output().ok()?;
+    let ran = Command::new("bash").args(["-c", &ask]).current_dir(&folder.0).output().ok()?;
     assert!(ran.status.success() && ran.stderr.is_empty(), "{}", String::from_utf8_lossy(&ran.stderr));
     Some(String::from_utf8_lossy(&ran.stdout).lines().map(str::to_string).collect())
 }
@@ -148,6 +148,9 @@ fn completed(script: &str, words: &[&str]) -> Option<Vec<String>> {
 fn bash_completes_commands_options_and_words() {
     let folder = Folder::new();
     let script = folder.file("completion", &run(&["completion", "bash"], b"").out);
+    for name in ["up.actions", "game.roll"] {
+        folder.file(name, "");
+    }
     for (words, owed) in [
         (&["menkhodur", "k"][..], &["keys"][..]),
         (&["menkhodur", "keys", "--c"], &["--check", "--crlf"]),
@@ -156,14 +159,15 @@ fn bash_completes_commands_options_and_words() {
         (&["menkhodur", "explain", "--j"], &["--json"]),
         (&["menkhodur", "explain", "--f"], &["--full"]),
         (&["menkhodur", "diff", "--old-s"], &["--old-second"]),
-        (&["menkhodur", "roll", "u"], &["upgrade"]),
+        (&["menkhodur", "roll", "u"], &["up.actions", "upgrade"]),
+        (&["menkhodur", "roll", "upg"], &["upgrade"]),
         (&["menkhodur", "roll", "upgrade", "--f"], &["--force"]),
-        (&["menkhodur", "roll", "s"], &["src"]),
         (&["menkhodur", "roll", "--o"], &["--output"]),
-        (&["menkhodur", "roll", "upgrade", "Cargo.t"], &["Cargo.toml"]),
+        (&["menkhodur", "roll", "upgrade", "u"], &["up.actions"]),
+        (&["menkhodur", "show", "g"], &["game.roll"]),
         (&["menkhodur", "help", "ru"], &["ruling"]),
     ] {
-        assert_eq!(completed(&script, words).unwrap_or(owed.iter().map(|word| word.to_string()).collect()), owed);
+        assert_eq!(completed(&script, words, &folder).unwrap_or(owed.iter().map(|word| word.to_string()).collect()), owed);
     }
 }
 
