@@ -146,6 +146,11 @@ enum {
 #define MENKHODUR_CAST(type, value) ((type)(value))
 #endif
 
+/* A square's number, as a uint8_t: MENKHODUR_SQUARE('e', 4) is 28. The file is a letter from 'a' to 'h' and the rank a number from 1 to 8; each is
+ * evaluated once, and the number is a constant if they are. menkhodur_make_square also refuses what is out of range. */
+#define MENKHODUR_SQUARE(file, rank) \
+    MENKHODUR_CAST(uint8_t, MENKHODUR_CAST(unsigned, file) - MENKHODUR_CAST(unsigned, 'a') + 8u * (MENKHODUR_CAST(unsigned, rank) - 1u))
+
 /* A move's number, as a uint16_t: source + 64 * destination + 4,096 * promotion. The arguments must be in range, squares of 0 to 63 and
  * a promotion of 0 to 6, and each is evaluated once; the number is a constant if they are. Then the three parts of such a number. */
 #define MENKHODUR_MOVE(source, destination, promotion) \

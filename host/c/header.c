@@ -7,7 +7,13 @@
 #error "the preprocessor does not know the version"
 #endif
 
-enum { E2E4 = MENKHODUR_MOVE(12, 28, MENKHODUR_PROMOTE_NONE) };
+/* The corners of the board and e4 by document 01's numbers: where one is another, the array's length is negative. */
+enum { A1 = MENKHODUR_SQUARE('a', 1), H1 = MENKHODUR_SQUARE('h', 1), A8 = MENKHODUR_SQUARE('a', 8), H8 = MENKHODUR_SQUARE('h', 8) };
+typedef char corners_are_squares[A1 == 0 && H1 == 7 && A8 == 56 && H8 == 63 && MENKHODUR_SQUARE('e', 4) == 28 ? 1 : -1];
+typedef char a_square_is_a_byte[sizeof MENKHODUR_SQUARE('e', 4) == 1 ? 1 : -1];
+
+enum { E2E4 = MENKHODUR_MOVE(MENKHODUR_SQUARE('e', 2), MENKHODUR_SQUARE('e', 4), MENKHODUR_PROMOTE_NONE) };
+typedef char moves_are_of_squares[E2E4 == 12 + 64 * 28 ? 1 : -1];
 
 uint16_t moves[2] = { E2E4, MENKHODUR_MOVE(52, 60, MENKHODUR_PROMOTE_QUEEN) };
 
@@ -17,6 +23,17 @@ int part_of(uint64_t move)
     case MENKHODUR_MOVE(12, 28, 0): return MENKHODUR_MOVE_SOURCE(E2E4);
     case MENKHODUR_LAST_MOVE: return MENKHODUR_MOVE_PROMOTION(move);
     default: return MENKHODUR_MOVE_DESTINATION(move);
+    }
+}
+
+uint8_t square(char file, uint64_t rank)
+{
+    static const uint8_t center[4] = {
+        MENKHODUR_SQUARE('d', 4), MENKHODUR_SQUARE('e', 4), MENKHODUR_SQUARE('d', 5), MENKHODUR_SQUARE('e', 5)
+    };
+    switch (rank) {
+    case MENKHODUR_SQUARE('b', 1): return center[rank];
+    default: return MENKHODUR_SQUARE(file, rank);
     }
 }
 
