@@ -69,8 +69,8 @@ pub fn quoted(text: &str) -> String {
     for letter in text.chars() {
         match letter {
             '"' | '\\' => out.extend(['\\', letter]),
-            // DEL may stand as it is, but a terminal should not see it.
-            letter if letter < ' ' || letter == '\x7f' => {
+            // From DEL on they may stand as they are, but a terminal should not see them.
+            letter if letter.is_control() => {
                 let _ = write!(out, "\\u{:04x}", u32::from(letter));
             }
             letter => out.push(letter),
@@ -85,8 +85,8 @@ mod tests {
     use super::*;
 
     #[test]
-    fn every_character_below_the_space_is_escaped() {
-        for code in (0..32).chain([127]) {
+    fn every_control_character_is_escaped() {
+        for code in (0..32).chain(127..160) {
             let letter = char::from(code);
             assert_eq!(quoted(&letter.to_string()), format!("\"\\u{code:04x}\""));
         }

@@ -140,8 +140,8 @@ pub const COMMANDS: &[Command] = &[
              game even in a comment that was left open. What a move says is not checked, only that it may be a move.",
             "If a file ends without the result of its last game, standard error says so; with --strict it tells every game that has no result, \
              and the status is 1.",
-            "A game, or a line, of more than 64 MB is not kept, or of as many as --limit says: it gives `! large LINE reason`, with the line in which \
-             it became too large. A game cut short by a failed read is left out. The last line of standard error counts the games that were \
+            "A game or a line of more than 64 MB, or of more than --limit says, is not kept: it gives `! large LINE reason`, with the line in which the \
+             game became too large. A game cut short by a failed read is left out. The last line of standard error counts the games that were \
              written whole.",
             "The tag pairs of --tags are as they stand in the file, but on a terminal control characters, and bytes that are not UTF-8, are shown \
              as \\xNN.",
