@@ -157,6 +157,11 @@ fn a_game_that_is_too_large_is_refused_by_its_line_and_the_next_is_read() {
         let counted = format!("menkhodur: 2 games, {} accepted, {more} refused\n", 2 - more);
         expect(&limited, input, (format!("1 1 {first}\n2 {} 1 0 *\n", last + 1), &counted, more as i32));
     }
+    // The longest line, and one byte more.
+    let line = |bytes: usize| format!("e4 {} *\n[Event \"b\"]\nd4 *\n", comment(bytes - 5));
+    expect(&limited, line(MB), ("1 1 1 0 *\n2 2 1 0 *\n", "menkhodur: 2 games, 2 accepted, 0 refused\n", 0));
+    let owed = format!("1 1 ! large 1 {told}\n2 2 1 0 *\n");
+    expect(&limited, line(MB + 1), (owed, "menkhodur: 2 games, 1 accepted, 1 refused\n", 1));
     // A line that is too large by itself: of a game, of comments, and of tag pairs.
     for (before, line, owed) in [("e4\n", comment(MB + 1), 1), ("", comment(MB + 1), 1), ("\n\n", format!("[A \"{}\"]", "x".repeat(MB)), 3)]
     {
