@@ -59,6 +59,8 @@ pub enum Error {
     /// 13: the log has [`MAX_ACTIONS`](crate::lent::MAX_ACTIONS) actions, or, for a move, [`MAX_MOVES`](crate::lent::MAX_MOVES) moves; or a
     /// roll has more.
     LogFull,
+    /// 13 too, of a report: the page has more than [`REPORT_LINES`](crate::lent::REPORT_LINES) lines.
+    PageTooLong,
     /// 14: there is no offer to accept.
     NoDrawOffer,
     /// 15: no draw can be claimed.
@@ -133,7 +135,7 @@ impl Error {
             Error::GameOver => 10,
             Error::MoveNotListed => 11,
             Error::WrongSideToMove => 12,
-            Error::LogFull => 13,
+            Error::LogFull | Error::PageTooLong => 13,
             Error::NoDrawOffer => 14,
             Error::NoClaim => 15,
             Error::PartTooShort => 16,
@@ -229,6 +231,7 @@ impl Error {
             Error::MoveNotListed => "the move is not in the list",
             Error::WrongSideToMove => "the position after the move has the wrong side to move",
             Error::LogFull => "the log has all the actions, or all the moves, that a log may have, or the roll has more",
+            Error::PageTooLong => "the page has more than 4,096 lines, the most that a report takes",
             Error::NoDrawOffer => "there is no draw offer to accept",
             Error::NoClaim => "no draw can be claimed",
             Error::PartTooShort => "the part of the actions or that of the positions is too short",
@@ -314,6 +317,13 @@ mod tests {
         let error = Error::PageTooShort { lines: 3 };
         assert_eq!((error.number(), error.offset()), (7, None));
         assert_eq!(error.to_string(), "the room for the page's records or that for its numbers is too short, its lines are 3 (answer 7)");
+    }
+
+    #[test]
+    fn a_page_that_is_too_long_is_told_from_a_full_log() {
+        let error = Error::PageTooLong;
+        assert_eq!((error.number(), error.offset(), Error::judge(13, 0)), (13, None, Err(Error::LogFull)));
+        assert_eq!(error.to_string(), "the page has more than 4,096 lines, the most that a report takes (answer 13)");
     }
 
     #[test]

@@ -93,6 +93,17 @@ pub(crate) struct Ruled {
     pub(crate) laws_claim: u64,
 }
 
+#[repr(C)]
+#[derive(Clone, Copy)]
+pub(crate) struct Report {
+    pub(crate) number: u64,
+    pub(crate) lines: u64,
+    pub(crate) accepted: u64,
+    pub(crate) refused: u64,
+    pub(crate) men: [u64; lent::KINDS],
+    pub(crate) repeated: u64,
+}
+
 impl Board {
     pub(crate) fn of(record: &lent::Record) -> Board {
         let lent::Record { numbers, half_moves, full_moves } = *record;
@@ -158,6 +169,17 @@ impl Ruled {
     }
 }
 
+impl Report {
+    /// As a page is judged; 13 is told apart from that of a log.
+    pub(crate) fn judged(self) -> Result<lent::Report, Error> {
+        let Report { number, lines, accepted, refused, men, repeated } = self;
+        if number == 13 {
+            return Err(Error::PageTooLong);
+        }
+        Answer { number, value: lines }.judged_page().map(|lines| lent::Report { lines, accepted, refused, men, repeated })
+    }
+}
+
 // The declarations are those of the archive's crate, which `host/menkhodur.h` repeats; the tests below and those of the package run each
 // of them. `safe` are those that take and give numbers alone: every number is judged, and none of the caller's memory is looked at.
 unsafe extern "C" {
@@ -189,6 +211,14 @@ unsafe extern "C" {
         numbers: *mut u64,
         numbers_length: usize,
     ) -> Answer;
+    pub(crate) fn menkhodur_fen_report(
+        text: *const u8,
+        length: usize,
+        records: *mut u8,
+        records_length: usize,
+        numbers: *mut u64,
+        numbers_length: usize,
+    ) -> Report;
 
     pub(crate) fn menkhodur_move_read(text: *const u8, length: usize) -> Placed;
     pub(crate) fn menkhodur_move_write(number: u64, out: *mut u8, room: usize) -> Answer;

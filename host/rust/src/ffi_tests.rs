@@ -79,9 +79,17 @@ fn a_ruling_is_eight_numbers_in_the_headers_order() {
 }
 
 #[test]
+fn a_report_is_seventeen_numbers_in_the_headers_order() {
+    assert_eq!((size_of::<Report>(), align_of::<Report>()), (136, 8));
+    let front = [offset_of!(Report, number), offset_of!(Report, lines), offset_of!(Report, accepted), offset_of!(Report, refused)];
+    assert_eq!((front, offset_of!(Report, men), offset_of!(Report, repeated)), ([0, 8, 16, 24], 32, 128));
+}
+
+#[test]
 fn the_parts_have_the_papers_lengths() {
     assert_eq!((ACTIONS_PART, POSITIONS_PART), (32_768, 2_392_648));
     assert_eq!((lent::MAX_ROLL, lent::MAX_DIFFERENCES, MAX_FEN, MAX_FULL_FEN, lent::MAX_COUNT), (20_554, 658, 85, 91, 9_999));
+    assert_eq!((lent::REPORT_LINES, lent::KINDS), (4_096, 12));
 }
 
 #[test]
@@ -164,6 +172,33 @@ fn a_page_has_its_lines_as_value_accepted_or_refused() {
         } else {
             assert_eq!((numbers, records), ([9; 7], [0xA5; 205]));
         }
+    }
+}
+
+// The number and the lines, then the other figures of a report in rooms of so many bytes and numbers; and what is then in the rooms.
+fn report(text: &[u8], bytes: usize, told: usize) -> ([u64; 2], [u64; 15], Vec<u8>, Vec<u64>) {
+    let (mut records, mut numbers) = (vec![0xA5; bytes], vec![9; told]);
+    // SAFETY: each pointer and length are those of one slice, and the two that are written are borrowed mutably.
+    let r = unsafe { menkhodur_fen_report(text.as_ptr(), text.len(), records.as_mut_ptr(), bytes, numbers.as_mut_ptr(), told) };
+    let mut figures = [0; 15];
+    (figures[0], figures[1], figures[14]) = (r.accepted, r.refused, r.repeated);
+    figures[2..14].copy_from_slice(&r.men);
+    ([r.number, r.lines], figures, records, numbers)
+}
+
+#[test]
+fn a_refused_report_has_its_lines_alone_or_nothing() {
+    // Two white pawns and a black king, twice; and a line that is refused.
+    let text = b"PPk w - -\n9 w - -\nPPk w - - 7 20";
+    let (judged, figures, records, numbers) = report(text, 205, 7);
+    assert_eq!((judged, figures), ([0, 3], [2, 1, 4, 0, 0, 0, 0, 0, 0, 0, 0, 0, 0, 2, 1]));
+    assert_eq!((numbers, records[56..59].to_vec(), records[204]), (vec![0, 0, 19, 0, 0, 0, 9], vec![1, 1, 12], 0xA5));
+    for (bytes, told) in [(203, 6), (204, 5), (0, 0)] {
+        assert_eq!(report(text, bytes, told), ([7, 3], [0; 15], vec![0xA5; bytes], vec![9; told]));
+    }
+    // More than 4,096 lines: not even their number, in rooms that fit and in none.
+    for (bytes, told) in [(68 * 4_097, 2 * 4_097), (0, 0)] {
+        assert_eq!(report(&[b'\n'; 4_097], bytes, told), ([13, 0], [0; 15], vec![0xA5; bytes], vec![9; told]));
     }
 }
 

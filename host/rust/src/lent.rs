@@ -79,6 +79,10 @@ pub const POSITIONS_PART: usize = (MAX_MOVES + 1) * POSITION_BYTES;
 pub const PAGE_RECORD: usize = 68;
 /// The numbers of a page's other room that each line has: the answer's number, then its offset.
 pub const PAGE_NUMBERS: usize = 2;
+/// The most lines that a page has which is reported on.
+pub const REPORT_LINES: usize = 4_096;
+/// The kinds of men: six of each colour.
+pub const KINDS: usize = 12;
 /// The most bytes that a roll has: the record's numbers, two of each counter and of the count, one of each action, and three more of each move.
 pub const MAX_ROLL: usize = PAGE_RECORD + 4 + 2 + MAX_ACTIONS + 3 * MAX_MOVES;
 
@@ -147,6 +151,23 @@ pub struct Ruled {
     pub claim: u64,
     /// The same by the Laws' count.
     pub laws_claim: u64,
+}
+
+/// What is reported on a page of FEN texts (document 02, order 14), as [`fen_report`] gives it. The figures do not depend on the order of the
+/// lines. [`Report`](crate::Report) has the same in types.
+#[must_use = "a page is reported on for its figures"]
+#[derive(Clone, Copy, Debug, PartialEq, Eq, Hash)]
+pub struct Report {
+    /// How many lines the page has: those accepted and those refused.
+    pub lines: u64,
+    /// The lines that [`fen_read`] accepts.
+    pub accepted: u64,
+    /// The others.
+    pub refused: u64,
+    /// The men of each kind on the accepted lines, the man with the number `code` of [`Numbers`] at `code - 1`.
+    pub men: [u64; KINDS],
+    /// The accepted lines that have the [`Numbers`] of an earlier accepted one: three equal lines are two.
+    pub repeated: u64,
 }
 
 /// The version of the archive that is linked. `build.rs` has refused any other than [`VERSION`](crate::VERSION).
@@ -385,6 +406,29 @@ pub fn fen_page(text: &[u8], records: &mut [u8], numbers: &mut [u64]) -> Result<
     // so that they overlap neither each other nor the text.
     let answer = unsafe { ffi::menkhodur_fen_page(text.as_ptr(), text.len(), records.as_mut_ptr(), bytes, numbers.as_mut_ptr(), told) };
     answer.judged_page().map(|lines| lines as usize)
+}
+
+/// Reads a page of FEN texts as [`fen_page`] does, for at most [`REPORT_LINES`] lines, and counts over what was read. Both rooms are then as
+/// [`fen_page`] leaves them. Refused: 13 for more lines, then 7, with the number of lines, if either room is too short.
+/// [`PageReader::report`](crate::PageReader::report) gives the same in types.
+///
+/// ```
+/// use menkhodur::Error;
+/// use menkhodur::lent::{self, Report};
+///
+/// let (mut records, mut numbers) = ([0; 3 * 68], [0; 3 * 2]);
+/// let report = lent::fen_report(b"PPk w - -\n9 w - -\nPPk w - - 7 20\n", &mut records, &mut numbers);
+/// let men = [4, 0, 0, 0, 0, 0, 0, 0, 0, 0, 0, 2];
+/// assert_eq!(report, Ok(Report { lines: 3, accepted: 2, refused: 1, men, repeated: 1 }));
+/// assert_eq!(numbers, [0, 0, 19, 0, 0, 0]);
+/// assert_eq!(lent::fen_report(b"\n\n", &mut records, &mut numbers[..3]), Err(Error::PageTooShort { lines: 2 }));
+/// assert_eq!(lent::fen_report(&[b'\n'; 4_097], &mut [], &mut []), Err(Error::PageTooLong));
+/// ```
+pub fn fen_report(text: &[u8], records: &mut [u8], numbers: &mut [u64]) -> Result<Report, Error> {
+    let (bytes, told) = (records.len(), numbers.len());
+    // SAFETY: each pointer and length are those of one slice, the numbers' of aligned `u64`. Both rooms are borrowed mutably for the call,
+    // so that they overlap neither each other nor the text.
+    unsafe { ffi::menkhodur_fen_report(text.as_ptr(), text.len(), records.as_mut_ptr(), bytes, numbers.as_mut_ptr(), told) }.judged()
 }
 
 /// The number of the move that a coordinate text says. Refused: 2, 3, with the place in the text.

@@ -3,6 +3,7 @@
 use crate::board::Board;
 use crate::error::{Error, certain};
 use crate::lent::{self, Numbers, PAGE_NUMBERS, PAGE_RECORD, Record};
+use crate::report::Report;
 use std::fmt;
 use std::io::BufRead;
 use std::iter::FusedIterator;
@@ -54,14 +55,37 @@ impl PageReader {
     /// ```
     #[must_use = "a page is read for its answers"]
     pub fn read<'a>(&'a mut self, text: &'a [u8]) -> Page<'a> {
-        let lines = match lent::fen_page(text, self.records.as_flattened_mut(), self.numbers.as_flattened_mut()) {
+        let lines = certain(self.fill(text, lent::fen_page));
+        Page { text, records: &self.records[..lines], numbers: &self.numbers[..lines] }
+    }
+
+    /// Reads the lines of a text, at most [`REPORT_LINES`](lent::REPORT_LINES) of them, and reports on them: one call, or a second one if the
+    /// rooms had to grow. The page is the one that [`PageReader::read`] gives. Refused: [`Error::PageTooLong`], and the rooms are as they were.
+    ///
+    /// ```
+    /// use menkhodur::{Color, Error, Piece, PageReader};
+    ///
+    /// let mut reader = PageReader::new();
+    /// let (page, report) = reader.report(b"K w - - 0 1\nK w - - 5 9\nK x - -\n").unwrap();
+    /// assert_eq!((report.lines, report.accepted, report.refused, report.repeated), (3, 2, 1, 1));
+    /// assert_eq!(report.men(Piece::King, Color::White), 2);
+    /// assert_eq!(page.get(2), Some(Err(Error::BadSide { offset: 2 })));
+    /// assert_eq!(reader.report(&[b'\n'; 4_097]).unwrap_err(), Error::PageTooLong);
+    /// ```
+    pub fn report<'a>(&'a mut self, text: &'a [u8]) -> Result<(Page<'a>, Report), Error> {
+        let report = Report::of(self.fill(text, lent::fen_report)?);
+        let page = Page { text, records: &self.records[..report.lines], numbers: &self.numbers[..report.lines] };
+        Ok((page, report))
+    }
+
+    fn fill<T>(&mut self, text: &[u8], call: fn(&[u8], &mut [u8], &mut [u64]) -> Result<T, Error>) -> Result<T, Error> {
+        match call(text, self.records.as_flattened_mut(), self.numbers.as_flattened_mut()) {
             Err(Error::PageTooShort { lines }) => {
                 *self = PageReader::for_lines(lines);
-                certain(lent::fen_page(text, self.records.as_flattened_mut(), self.numbers.as_flattened_mut()))
+                call(text, self.records.as_flattened_mut(), self.numbers.as_flattened_mut())
             }
-            answer => certain(answer),
-        };
-        Page { text, records: &self.records[..lines], numbers: &self.numbers[..lines] }
+            answer => answer,
+        }
     }
 }
 
@@ -109,6 +133,22 @@ impl<'a> Page<'a> {
     pub fn lent(text: &'a [u8], records: &'a mut [Numbers], numbers: &'a mut [[u64; PAGE_NUMBERS]]) -> Result<Page<'a>, Error> {
         let lines = lent::fen_page(text, records.as_flattened_mut(), numbers.as_flattened_mut())?;
         Ok(Page { text, records: &records[..lines], numbers: &numbers[..lines] })
+    }
+
+    /// Reads the lines of a text into rooms that the caller keeps, as [`Page::lent`] does, and reports on them. Refused, with nothing written:
+    /// [`Error::PageTooLong`] for more than [`REPORT_LINES`](lent::REPORT_LINES) lines, then [`Error::PageTooShort`].
+    ///
+    /// ```
+    /// use menkhodur::{Error, Page};
+    ///
+    /// let (mut records, mut numbers) = ([[9; 68]; 2], [[9; 2]; 2]);
+    /// let (page, report) = Page::report(b" w - -\n w - -", &mut records, &mut numbers).unwrap();
+    /// assert_eq!((page.len(), report.accepted, report.repeated), (2, 2, 1));
+    /// assert_eq!(Page::report(b"\n\n\n", &mut records, &mut numbers).unwrap_err(), Error::PageTooShort { lines: 3 });
+    /// ```
+    pub fn report(text: &'a [u8], records: &'a mut [Numbers], numbers: &'a mut [[u64; PAGE_NUMBERS]]) -> Result<(Page<'a>, Report), Error> {
+        let report = Report::of(lent::fen_report(text, records.as_flattened_mut(), numbers.as_flattened_mut())?);
+        Ok((Page { text, records: &records[..report.lines], numbers: &numbers[..report.lines] }, report))
     }
 
     /// How many lines there are.

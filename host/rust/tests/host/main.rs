@@ -17,6 +17,7 @@ mod paper;
 mod pgn;
 mod refused;
 mod refused_logs;
+mod report;
 mod rolls;
 mod rulings;
 mod standard;

@@ -3,7 +3,7 @@
 #![deny(unfulfilled_lint_expectations)]
 
 use crate::common::{Parts, play};
-use menkhodur::{Board, CastleRights, Color, Error, Move, PageReader, Piece, Square, lent};
+use menkhodur::{Board, CastleRights, Color, Error, Move, Page, PageReader, Piece, Square, lent};
 
 #[test]
 fn steps() {
@@ -77,6 +77,21 @@ fn answers() {
     reader.read(b" w - -\n");
     #[expect(unused_must_use)]
     reader.read(b" w - -\n").iter();
+    #[expect(unused_must_use)]
+    reader.report(b" w - -\n").unwrap().1.men(Piece::King, Color::White);
+}
+
+#[test]
+fn reports() -> Result<(), Error> {
+    let (mut records, mut numbers) = ([[0; 68]], [[0; 2]]);
+    // The figures are given here alone: the question mark must not be the end of them.
+    #[expect(unused_must_use)]
+    lent::fen_report(b" w - -\n", records.as_flattened_mut(), numbers.as_flattened_mut())?;
+    #[expect(unused_must_use)]
+    PageReader::new().report(b" w - -\n")?;
+    #[expect(unused_must_use)]
+    Page::report(b" w - -\n", &mut records, &mut numbers)?;
+    Ok(())
 }
 
 #[test]

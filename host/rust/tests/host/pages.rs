@@ -6,17 +6,17 @@ use menkhodur::{Board, Error, PageReader};
 const PAGES: &str = include_str!("pages.txt");
 
 #[derive(Clone, PartialEq, Eq, Debug)]
-struct Line {
+pub struct Line {
     /// With the newline that ends it, if one does.
-    text: Vec<u8>,
-    record: Numbers,
-    told: [u64; PAGE_NUMBERS],
+    pub text: Vec<u8>,
+    pub record: Numbers,
+    pub told: [u64; PAGE_NUMBERS],
 }
 
-struct Vector {
-    what: &'static str,
+pub struct Vector {
+    pub what: &'static str,
     joined: bool,
-    lines: Vec<Line>,
+    pub lines: Vec<Line>,
 }
 
 impl Vector {
@@ -63,7 +63,7 @@ fn line(row: &str) -> Line {
 }
 
 /// All pages of the file, as many and as long as it says.
-fn vectors() -> Vec<Vector> {
+pub fn vectors() -> Vec<Vector> {
     let mut rows = PAGES.lines().filter(|row| !row.is_empty() && !row.starts_with('#'));
     let count: usize = rows.next().and_then(|row| row.strip_prefix("pages ")).unwrap().parse().unwrap();
     let mut vectors = Vec::new();

@@ -248,6 +248,27 @@ fn number_7_rooms() {
     assert_eq!(Error::OutputTooShort { needed }.number(), 7);
 }
 
+/// 13 stands before 7, which tells the number of lines.
+#[test]
+fn number_13_and_7_reports() {
+    let refuses_report = |want: Error, text: &[u8], bytes: usize, told: usize| {
+        let (mut records, mut numbers) = (vec![0xA5; bytes], vec![9; told]);
+        assert_eq!(lent::fen_report(text, &mut records, &mut numbers), Err(want));
+        assert_eq!((records, numbers), (vec![0xA5; bytes], vec![9; told]), "{want}: a refused call has written");
+    };
+    let lines = [b'\n'; 4_098];
+    for (bytes, told) in [(0, 0), (68 * 4_098, 2 * 4_098), (68 * 4_098, 0)] {
+        refuses_report(Error::PageTooLong, &lines, bytes, told);
+        refuses_report(Error::PageTooLong, &lines[..4_097], bytes, told);
+    }
+    for (bytes, told) in [(0, 0), (68 * 4_096 - 1, 2 * 4_096), (68 * 4_096, 2 * 4_096 - 1)] {
+        refuses_report(Error::PageTooShort { lines: 4_096 }, &lines[..4_096], bytes, told);
+    }
+    refuses_report(Error::PageTooShort { lines: 1 }, b"K w - -", 67, 2);
+    refuses_report(Error::PageTooShort { lines: 1 }, b"K w - -", 68, 1);
+    assert_eq!((Error::PageTooLong.number(), Error::PageTooShort { lines: 1 }.number()), (13, 7));
+}
+
 #[test]
 fn number_8_no_name() {
     let pawn = record(b"8/4P3/8/8/8/8/8/8 w - -");

@@ -3,6 +3,7 @@
 use crate::common::play;
 use menkhodur::lent::Record;
 use menkhodur::{ALL_COLORS, Action, Actions, Board, Error, GameResult, Log, Move, Position, Positions, Reason, Roll, Ruling, Square};
+use menkhodur::{PageReader, Report};
 use std::thread;
 
 #[test]
@@ -17,6 +18,8 @@ fn everything_is_send_and_sync() {
     both::<Roll>();
     both::<GameResult>();
     both::<Ruling>();
+    both::<PageReader>();
+    both::<Report>();
     both::<Error>();
     both::<Position<'static>>();
     both::<Actions<'static>>();
@@ -62,4 +65,18 @@ fn a_log_does_not_lie_on_the_stack() {
         Log::from_parts(copy.used_actions(), copy.used_positions(), copy.counts()) == Ok(log)
     });
     assert!(worker.unwrap().join().unwrap());
+}
+
+/// A report puts 25,000 bytes there, as the header says, and the rooms are the caller's.
+#[test]
+fn a_report_needs_little_of_the_stack() {
+    let workers = [(); 2].map(|()| {
+        let small = thread::Builder::new().stack_size(64 * 1024);
+        let report = || PageReader::new().report(&b"K w - -\n".repeat(4_096)).map(|(_, report)| report);
+        small.spawn(report).unwrap()
+    });
+    for worker in workers {
+        let report = worker.join().unwrap().unwrap();
+        assert_eq!((report.accepted, report.repeated), (4_096, 4_095));
+    }
 }
