@@ -8,6 +8,9 @@ use std::fmt;
 use std::io::BufRead;
 use std::iter::FusedIterator;
 
+/// A function of [`lent`] over a page's text and its two rooms.
+type Call<T> = fn(&[u8], &mut [u8], &mut [u64]) -> Result<T, Error>;
+
 /// Reads pages of FEN texts, and keeps the two rooms for their answers from one page to the next.
 ///
 /// ```
@@ -78,7 +81,7 @@ impl PageReader {
         Ok((page, report))
     }
 
-    fn fill<T>(&mut self, text: &[u8], call: fn(&[u8], &mut [u8], &mut [u64]) -> Result<T, Error>) -> Result<T, Error> {
+    fn fill<T>(&mut self, text: &[u8], call: Call<T>) -> Result<T, Error> {
         match call(text, self.records.as_flattened_mut(), self.numbers.as_flattened_mut()) {
             Err(Error::PageTooShort { lines }) => {
                 *self = PageReader::for_lines(lines);
