@@ -212,15 +212,15 @@ enum {
     MENKHODUR_MAX_DIFFERENCES = 658
 };
 
-/* What a page of FENs takes of its two rooms for each line. */
+/* What a page of FENs takes of its two rooms for each line, and how many lines a page may have that is reported on. */
 enum {
     MENKHODUR_PAGE_RECORD = 68, /* bytes: a record without its counters, in the order of menkhodur_board */
-    MENKHODUR_PAGE_NUMBERS = 2  /* the answer's number, then its offset */
+    MENKHODUR_PAGE_NUMBERS = 2, /* the answer's number, then its offset */
+    MENKHODUR_REPORT_LINES = 4096
 };
 
-/* How many lines a page may have that is reported on, and how many kinds of men there are. */
+/* How many kinds of men there are. */
 enum {
-    MENKHODUR_REPORT_LINES = 4096,
     MENKHODUR_KINDS = 12
 };
 

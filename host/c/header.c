@@ -63,3 +63,13 @@ menkhodur_board with_men(menkhodur_board b)
     b.full_moves = 1;
     return b;
 }
+
+/* The rooms of the longest page that is reported on, and how many men were counted. */
+uint8_t records[MENKHODUR_PAGE_RECORD * MENKHODUR_REPORT_LINES];
+uint64_t numbers[MENKHODUR_PAGE_NUMBERS * MENKHODUR_REPORT_LINES];
+
+uint64_t kings(const uint8_t *text, size_t length)
+{
+    menkhodur_report r = menkhodur_fen_report(text, length, records, sizeof records, numbers, MENKHODUR_PAGE_NUMBERS * MENKHODUR_REPORT_LINES);
+    return r.number == MENKHODUR_ACCEPTED ? r.men[MENKHODUR_WHITE_KING - 1] + r.men[MENKHODUR_KINDS - 1] : 0;
+}

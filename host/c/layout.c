@@ -173,6 +173,10 @@ static void check_lengths(void)
     expect("roll", 20554, MENKHODUR_LONGEST_ROLL);
     expect("roll", MENKHODUR_LONGEST_ROLL, KEY_NUMBERS + 2 * 2 + 2 + 4 * MENKHODUR_MAX_MOVES + (MENKHODUR_MAX_ACTIONS - MENKHODUR_MAX_MOVES));
     expect("differences", 658, MENKHODUR_MAX_DIFFERENCES);
+    expect("lines of a report", 4096, MENKHODUR_REPORT_LINES);
+    expect("kinds of men", MENKHODUR_BLACK_KING, MENKHODUR_KINDS);
+    expect("men of a report", 8 * MENKHODUR_KINDS, offsetof(menkhodur_report, repeated) - offsetof(menkhodur_report, men));
+    expect("report", 136, sizeof(menkhodur_report));
 }
 
 void check_layout(void)

@@ -34,6 +34,7 @@ static const struct answers all[] = {
     { "menkhodur_fen_read_full", N(0) | N(18) | N(19) | N(20) | N(25) },
     { "menkhodur_fen_write_full", N(0) | N(5) | N(7) },
     { "menkhodur_fen_page", N(0) | N(7) },
+    { "menkhodur_fen_report", N(0) | N(7) | N(13) },
     { "menkhodur_move_read", N(0) | N(2) | N(3) },
     { "menkhodur_move_write", N(0) | N(6) | N(7) },
     { "menkhodur_san_read", N(0) | N(4) | N(5) | N(6) },
@@ -71,6 +72,7 @@ int main(int argc, char **argv)
     check_fen(argv[1]);
     check_full(argv[1]);
     check_page(argv[1], argv[2]);
+    check_report(argv[1], argv[2]);
     check_coordinates();
     check_san();
     check_standard();

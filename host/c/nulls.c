@@ -1,6 +1,8 @@
 /* NULL with length 0, for each parameter that is a pointer and a length: an empty text, list, part, roll or room. */
 #include "game.h"
 
+#include <string.h>
+
 static const uint16_t one_move[1] = { 1153 };
 
 static menkhodur_board knight(void)
@@ -69,6 +71,34 @@ static void check_pages(void)
     expect_answer(MENKHODUR_OUTPUT_TOO_SHORT, 1, menkhodur_fen_page(text.bytes, text.length, NULL, 0, told, 2));
     expect_answer(MENKHODUR_OUTPUT_TOO_SHORT, 1, menkhodur_fen_page(text.bytes, text.length, records.bytes, records.length, NULL, 0));
     expect_answer(MENKHODUR_OUTPUT_TOO_SHORT, 1, menkhodur_fen_page(text.bytes, text.length, NULL, 0, NULL, 0));
+    expect_unchanged("text", &text);
+    expect_unchanged("records", &records);
+    expect_unchanged("numbers", &numbers);
+    give_back(&text);
+    give_back(&records);
+    give_back(&numbers);
+}
+
+/* Of an empty text all figures are 0; with 7 only the lines are told. */
+static void expect_nothing(uint64_t number, uint64_t lines, menkhodur_report got)
+{
+    const menkhodur_report want = { .number = number, .lines = lines };
+    expect("number", number, got.number);
+    expect("lines", lines, got.lines);
+    expect("the same in all figures", 0, (uint64_t)(memcmp(&want, &got, sizeof want) != 0));
+}
+
+static void check_reports(void)
+{
+    struct part text = lend_text("K w - -\n"), records = lend(MENKHODUR_PAGE_RECORD), numbers = lend(16);
+    uint64_t *told = (uint64_t *)(void *)numbers.bytes;
+    about("menkhodur_fen_report", "NULL text");
+    expect_nothing(MENKHODUR_ACCEPTED, 0, menkhodur_fen_report(NULL, 0, records.bytes, records.length, told, 2));
+    expect_nothing(MENKHODUR_ACCEPTED, 0, menkhodur_fen_report(NULL, 0, NULL, 0, NULL, 0));
+    about("menkhodur_fen_report", "NULL rooms");
+    expect_nothing(MENKHODUR_OUTPUT_TOO_SHORT, 1, menkhodur_fen_report(text.bytes, text.length, NULL, 0, told, 2));
+    expect_nothing(MENKHODUR_OUTPUT_TOO_SHORT, 1, menkhodur_fen_report(text.bytes, text.length, records.bytes, records.length, NULL, 0));
+    expect_nothing(MENKHODUR_OUTPUT_TOO_SHORT, 1, menkhodur_fen_report(text.bytes, text.length, NULL, 0, NULL, 0));
     expect_unchanged("text", &text);
     expect_unchanged("records", &records);
     expect_unchanged("numbers", &numbers);
@@ -183,6 +213,7 @@ void check_nulls(void)
     check_lists();
     check_lists_of_standard();
     check_pages();
+    check_reports();
     check_rooms();
     check_rolls_of_null();
     check_differences_of_null();

@@ -1,12 +1,10 @@
 /* A page of FENs: order 7 of document 02. Lines are found by a splitter of the tests' own; what each of them is owed, the single reader says, and for the
  * pages of a file the crate chess 3.2.0, which was asked before. */
-#include "check.h"
+#include "page.h"
 
 #include <stdio.h>
 #include <stdlib.h>
 #include <string.h>
-
-enum { MOST_LINES = 4096, RECORD = MENKHODUR_PAGE_RECORD, TOLD = MENKHODUR_PAGE_NUMBERS };
 
 static const char page[] = "menkhodur_fen_page";
 
@@ -16,13 +14,13 @@ struct line {
 };
 
 static struct line lines[MOST_LINES];
-static uint8_t records_owed[RECORD * MOST_LINES];
-static uint64_t numbers_owed[TOLD * MOST_LINES];
+uint8_t records_owed[RECORD * MOST_LINES];
+uint64_t numbers_owed[TOLD * MOST_LINES];
 
 /* ---- What is owed ---- */
 
 /* "lines ended by a newline byte", "An unended last line counts if it has a byte in it." */
-static size_t split(const uint8_t *text, size_t length)
+size_t split(const uint8_t *text, size_t length)
 {
     size_t count = 0, start = 0;
     for (size_t i = 0; i < length; i++) {
@@ -34,7 +32,7 @@ static size_t split(const uint8_t *text, size_t length)
     return count;
 }
 
-static void owe(size_t count)
+void owe(size_t count)
 {
     for (size_t i = 0; i < count; i++) {
         menkhodur_fen fen = menkhodur_fen_read(lines[i].at, lines[i].length);
@@ -194,7 +192,7 @@ static void check_long_lines(void)
 /* ---- Random pages ---- */
 
 /* A line of a FEN, with counters or ` 0 1`, good in one of two; a damage may be a newline or the loss of the one at the end. */
-static size_t any_line(uint8_t *text)
+size_t any_line(uint8_t *text)
 {
     static const char damages[] = "\n\n  x9/w\rK\xff";
     menkhodur_board b;
@@ -219,7 +217,7 @@ static size_t any_page(uint8_t *text)
 
 static void check_random(void)
 {
-    uint8_t text[9 * (MENKHODUR_LONGEST_FULL_FEN + 1)];
+    uint8_t text[9 * LONGEST_LINE];
     for (unsigned i = 0; i < (exact ? 300 : 3000); i++) {
         size_t length = any_page(text);
         about(page, "random page %u, `%.*s`", i, (int)length, (const char *)text);
@@ -230,7 +228,7 @@ static void check_random(void)
 /* Two pages, the second into the rooms behind what the first filled, leave what the page of both joined does. */
 static void check_joined(void)
 {
-    uint8_t text[18 * (MENKHODUR_LONGEST_FULL_FEN + 1) + 1];
+    uint8_t text[18 * LONGEST_LINE + 1];
     for (unsigned i = 0; i < (exact ? 100 : 1000); i++) {
         size_t front = any_page(text), length, first, count;
         struct part records, numbers;
@@ -255,16 +253,22 @@ static void check_joined(void)
     }
 }
 
+size_t read_file(const char *function, const char *path, uint8_t *text, size_t room)
+{
+    FILE *f = fopen(path, "rb");
+    size_t length = f ? fread(text, 1, room, f) : 0;
+    about(function, "file %s", path);
+    expect("can be read", 1, length > 0 && length < room);
+    if (f) fclose(f);
+    return length;
+}
+
 /* Positions of games: the file as one page, whole and without its last byte. */
 static void check_file(const char *positions)
 {
     static uint8_t text[128 * MOST_LINES];
-    FILE *f = fopen(positions, "rb");
-    size_t length = f ? fread(text, 1, sizeof text, f) : 0;
-    about(page, "file %s", positions);
-    expect("can be read", 1, length > 0 && length < sizeof text);
-    if (!f) return;
-    fclose(f);
+    size_t length = read_file(page, positions, text, sizeof text);
+    if (!length) return;
     expect("lines fit", 1, menkhodur_fen_page(text, length, NULL, 0, NULL, 0).value <= MOST_LINES);
     check_page_of(text, length);
     check_page_of(text, length - 1);
@@ -325,22 +329,22 @@ static void check_told(const uint8_t *text, size_t length, size_t count)
 }
 
 /* The file tells its form. */
-static void check_pages(const char *pages)
+void each_page(const char *function, const char *pages, void check(const uint8_t *text, size_t length, size_t count))
 {
     static char row[8192];
     static uint8_t text[64 * MOST_LINES];
     unsigned owed = 0, seen = 0;
     FILE *f = fopen(pages, "rb");
-    about(page, "file %s", pages);
+    about(function, "file %s", pages);
     expect("can be read", 1, f != NULL);
     while (f && fgets(row, sizeof row, f)) {
         size_t count, length = 0;
         if (sscanf(row, "pages %u", &owed) == 1) continue;
         if (sscanf(row, "page %zu", &count) != 1 && sscanf(row, "joined %zu", &count) != 1) continue;
         if (count > MOST_LINES) break;
-        about(page, "%s, page %u", pages, ++seen);
+        about(function, "%s, page %u", pages, ++seen);
         for (size_t i = 0; i < count && fgets(row, sizeof row, f); i++) length += take_row(row, i, text + length);
-        check_told(text, length, count);
+        check(text, length, count);
     }
     expect("pages", owed, seen);
     expect("any page", 1, seen > 0);
@@ -358,5 +362,5 @@ void check_page(const char *positions, const char *pages)
     check_random();
     check_joined();
     check_file(positions);
-    check_pages(pages);
+    each_page(page, pages, check_told);
 }

@@ -117,6 +117,20 @@ static unsigned wrong_pages(void)
     return wrong + (memcmp(owed, told, sizeof owed) != 0);
 }
 
+/* The same page reported on: the third line repeats the first, and two initial positions have 64 men. */
+static unsigned wrong_reports(void)
+{
+    static const menkhodur_report owed = { MENKHODUR_ACCEPTED, 3, 2, 1, { 16, 4, 4, 4, 2, 2, 16, 4, 4, 4, 2, 2 }, 1 };
+    static const menkhodur_report short_of_room = { .number = MENKHODUR_OUTPUT_TOO_SHORT, .lines = 3 };
+    uint8_t read[3][MENKHODUR_PAGE_RECORD];
+    uint64_t told[6];
+    menkhodur_report got = menkhodur_fen_report(page_of_all.bytes, page_of_all.length, NULL, 0, told, 6);
+    unsigned wrong = memcmp(&short_of_room, &got, sizeof got) != 0;
+    got = menkhodur_fen_report(page_of_all.bytes, page_of_all.length, read[0], sizeof read, told, 6);
+    wrong += memcmp(&owed, &got, sizeof got) != 0;
+    return wrong + (memcmp(&initial, read[2], sizeof read[2]) || told[2] != MENKHODUR_TOO_FEW_TOKENS);
+}
+
 /* Of a log of the knights' round alone, of whole rounds: the last position equals each fourth before it, and the first of them is the start. */
 static unsigned wrong_queries(const struct game *g, uint64_t result, uint64_t claim)
 {
@@ -210,7 +224,7 @@ static void *work(void *worker)
     struct worker *w = worker;
     for (unsigned i = 0; i < (exact ? ROUNDS_EXACT : ROUNDS); i++) {
         w->wrong += wrong_numbers() + wrong_texts() + wrong_full_texts() + wrong_standard_texts() + wrong_queries(&log_of_all, MENKHODUR_GOES_ON, 1);
-        w->wrong += wrong_pages() + wrong_rolls() + wrong_old_rolls() + wrong_differences() + wrong_move_text() + wrong_own(&w->own);
+        w->wrong += wrong_pages() + wrong_reports() + wrong_rolls() + wrong_old_rolls() + wrong_differences() + wrong_move_text() + wrong_own(&w->own);
     }
     return NULL;
 }
