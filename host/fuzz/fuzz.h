@@ -58,6 +58,7 @@ TWIN_OF(menkhodur_full_moves);
 TWIN_OF(menkhodur_fen_read_full);
 TWIN_OF(menkhodur_fen_write_full);
 TWIN_OF(menkhodur_roll_read_old);
+TWIN_OF(menkhodur_fen_report);
 #endif
 
 /* ---- Violations (lent.c) ---- */
@@ -109,8 +110,9 @@ struct input {
     uint8_t text[MOST_TEXT];
     size_t length;
     uint64_t move;
-    bool front;    /* which side of lent texts, lists and rooms faults */
-    bool long_log; /* whether a log of full length may be made: once in an input */
+    bool front;         /* which side of lent texts, lists and rooms faults */
+    bool long_log;      /* whether a log of full length may be made: once in an input */
+    bool had_long_page; /* whether a page of full length was reported on: once in an input */
 };
 
 /* The next byte, 0 behind the end; two of them; and a number of up to 64 bits, mostly small. */
@@ -138,6 +140,7 @@ step call_roll_write, call_roll_read, call_roll_differences, keep_roll, add_acti
 step call_pgn_check, call_pgn_next, walk_pgn, put_token;
 step call_board_after;
 step call_counter_step, call_fen_read_full, call_fen_write_full, call_roll_read_old, old_roll_of_game;
+step call_fen_report, call_long_report;
 
 /* The texts that the register can be set to. */
 void text_of_board(struct input *in);

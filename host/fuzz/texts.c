@@ -1,13 +1,15 @@
 /* Squares, rights, board steps and texts: what document 01 says of their answers and of the bytes lent, and document 02 of refused FENs,
- * of counters, coordinate texts and pages. */
+ * of counters, coordinate texts, pages and reports. */
 #include "fuzz.h"
 
 #include <stdio.h>
 #include <string.h>
 
-static struct lent text_part, room_part, records_part, numbers_part;
+static struct lent text_part, room_part, records_part, numbers_part, long_text_part, long_records_part, long_numbers_part;
 
 enum { RECORD = MENKHODUR_PAGE_RECORD, TOLD = MENKHODUR_PAGE_NUMBERS }; /* the bytes and the numbers that a line of a page has */
+/* A long page: some lines more than a report takes, and as many bytes as that many FENs of 64 men have. */
+enum { LINES = MENKHODUR_REPORT_LINES, MOST_LINES = LINES + 8, MOST_PAGE = 80 * MOST_LINES };
 
 static const char letters[] = " pnbrqk";
 
@@ -17,6 +19,9 @@ void texts_begin(void)
     if (!room_part.low) lent_make(&room_part, MOST_TEXT);
     if (!records_part.low) lent_make(&records_part, RECORD * (MOST_TEXT + 1));
     if (!numbers_part.low) lent_make(&numbers_part, 8 * TOLD * (MOST_TEXT + 1));
+    if (!long_text_part.low) lent_make(&long_text_part, MOST_PAGE);
+    if (!long_records_part.low) lent_make(&long_records_part, RECORD * (MOST_LINES + 1));
+    if (!long_numbers_part.low) lent_make(&long_numbers_part, 8 * TOLD * (MOST_LINES + 1));
 }
 
 static menkhodur_answer accepted_if(bool accepted, uint64_t value, uint64_t otherwise)
@@ -447,10 +452,10 @@ void call_fen_read_full(struct input *in)
 
 /* ---- Pages ---- */
 
-/* Document 02, order 7: what each line of the text register is owed. How many lines there are: each newline ends one, and bytes behind the
- * last newline are one more. */
-static uint8_t records_owed[RECORD * MOST_TEXT];
-static uint64_t numbers_owed[TOLD * MOST_TEXT];
+/* Document 02, order 7: what each line of a text is owed. How many lines there are: each newline ends one, and bytes behind the last newline
+ * are one more. */
+static uint8_t records_owed[RECORD * MOST_LINES];
+static uint64_t numbers_owed[TOLD * MOST_LINES];
 
 static size_t model_page(const uint8_t *text, size_t length)
 {
@@ -478,24 +483,153 @@ static size_t take_lines(struct input *in, size_t count, size_t each)
     return how % (3 * each);
 }
 
+/* A text with its lines and its two rooms, and the memory that is lent for them. */
+struct page {
+    const uint8_t *text;
+    size_t length, count, bytes, told;
+    bool fits, front;
+    struct lent *text_in, *records_in, *numbers_in;
+};
+
+#define LENT_PAGE(p) (p).length ? (p).text_in->bytes : NULL, (p).length, (p).bytes ? (p).records_in->bytes : NULL, (p).bytes, \
+    (p).told ? (uint64_t *)(void *)(p).numbers_in->bytes : NULL, (p).told
+
+static void take_rooms(struct input *in, struct page *p)
+{
+    p->count = model_page(p->text, p->length);
+    p->bytes = take_lines(in, p->count, RECORD);
+    p->told = take_lines(in, p->count, TOLD);
+    p->fits = p->bytes >= RECORD * p->count && p->told >= TOLD * p->count;
+    p->front = in->front;
+}
+
+static struct page page_of_text(struct input *in)
+{
+    struct page p = { .text = in->text, .length = in->length, .text_in = &text_part, .records_in = &records_part, .numbers_in = &numbers_part };
+    take_rooms(in, &p);
+    return p;
+}
+
+static void lend_page(const struct page *p, unsigned turn)
+{
+    lend(p->text_in, p->length, p->front, turn);
+    lent_put(p->text_in, 0, p->text, p->length);
+    lend(p->records_in, p->bytes, p->front, turn);
+    lend(p->numbers_in, 8 * p->told, p->front, turn);
+}
+
+/* After a call: all is as before, but for what the lines of an accepted page are owed. */
+static void expect_rooms(const struct page *p, bool accepted)
+{
+    lent_expect(p->records_in, 0, records_owed, accepted ? RECORD * p->count : 0);
+    lent_expect(p->numbers_in, 0, numbers_owed, accepted ? 8 * TOLD * p->count : 0);
+    lent_same("text", p->text_in);
+    lent_same("records", p->records_in);
+    lent_same("numbers", p->numbers_in);
+}
+
 void call_fen_page(struct input *in)
 {
-    size_t count = model_page(in->text, in->length), bytes = take_lines(in, count, RECORD), told = take_lines(in, count, TOLD);
-    bool fits = bytes >= RECORD * count && told >= TOLD * count;
+    struct page p = page_of_text(in);
     for (unsigned turn = 0; turn < 2; turn++) {
-        lend_text(in, turn);
-        lend(&records_part, bytes, in->front, turn);
-        lend(&numbers_part, 8 * told, in->front, turn);
+        lend_page(&p, turn);
         about("fen_page");
-        expect_answer((menkhodur_answer){ fits ? 0 : 7, count },
-                      CALL(turn, menkhodur_fen_page, in->length ? text_part.bytes : NULL, in->length, bytes ? records_part.bytes : NULL, bytes,
-                           told ? (uint64_t *)(void *)numbers_part.bytes : NULL, told));
-        lent_expect(&records_part, 0, records_owed, fits ? RECORD * count : 0);
-        lent_expect(&numbers_part, 0, numbers_owed, fits ? 8 * TOLD * count : 0);
-        lent_same("text", &text_part);
-        lent_same("records", &records_part);
-        lent_same("numbers", &numbers_part);
+        expect_answer((menkhodur_answer){ p.fits ? 0 : 7, p.count }, CALL(turn, menkhodur_fen_page, LENT_PAGE(p)));
+        expect_rooms(&p, p.fits);
     }
+}
+
+/* ---- Reports ---- */
+
+/* Document 02, order 14, over what each line is owed: "how many accepted FENs repeat the record of an earlier accepted one". */
+static bool is_repeat(size_t i)
+{
+    size_t j = 0;
+    while (j < i && (numbers_owed[TOLD * j] || memcmp(records_owed + RECORD * j, records_owed + RECORD * i, RECORD) != 0)) j++;
+    return j < i;
+}
+
+static void add_men(menkhodur_report *r, const uint8_t *squares)
+{
+    for (unsigned square = 0; square < 64; square++)
+        if (squares[square]) r->men[squares[square] - 1]++;
+}
+
+static menkhodur_report model_report(const struct page *p)
+{
+    menkhodur_report r = { .number = MENKHODUR_OUTPUT_TOO_SHORT, .lines = p->count };
+    if (p->count > LINES) return (menkhodur_report){ .number = MENKHODUR_LOG_FULL };
+    if (!p->fits) return r;
+    r.number = MENKHODUR_ACCEPTED;
+    for (size_t i = 0; i < p->count; i++) {
+        bool accepted = numbers_owed[TOLD * i] == 0;
+        r.accepted += accepted;
+        r.refused += !accepted;
+        r.repeated += accepted && is_repeat(i);
+        if (accepted) add_men(&r, records_owed + RECORD * i);
+    }
+    return r;
+}
+
+static void expect_report(const menkhodur_report *want, const menkhodur_report *got)
+{
+    expect("number", want->number, got->number);
+    expect("lines", want->lines, got->lines);
+    expect("accepted", want->accepted, got->accepted);
+    expect("refused", want->refused, got->refused);
+    for (unsigned kind = 0; kind < MENKHODUR_KINDS; kind++) expect("men of a kind", want->men[kind], got->men[kind]);
+    expect("repeated", want->repeated, got->repeated);
+}
+
+static void report_on(const struct page *p)
+{
+    menkhodur_report want = model_report(p);
+    for (unsigned turn = 0; turn < 2; turn++) {
+        menkhodur_report got;
+        lend_page(p, turn);
+        about("fen_report");
+        got = CALL(turn, menkhodur_fen_report, LENT_PAGE(*p));
+        expect_report(&want, &got);
+        expect_rooms(p, want.number == 0);
+    }
+}
+
+void call_fen_report(struct input *in)
+{
+    struct page p = page_of_text(in);
+    report_on(&p);
+}
+
+static size_t newlines_in(const uint8_t *text, size_t length)
+{
+    size_t count = 0;
+    for (size_t i = 0; i < length; i++) count += text[i] == '\n';
+    return count;
+}
+
+/* The text register as often as the input says and there is room for, then newlines up to about as many lines as a report takes; and last, if it is
+ * not 0, a byte behind them. */
+static size_t put_long_page(struct input *in, uint8_t *page)
+{
+    size_t lines = LINES - 2 + take(in) % 4, own = newlines_in(in->text, in->length), used = 0, length = 0;
+    unsigned copies = take_pair(in), last = take(in);
+    for (; copies && used + own <= lines && length + in->length + lines < MOST_PAGE; copies--, used += own, length += in->length)
+        memcpy(page + length, in->text, in->length);
+    memset(page + length, '\n', lines - used);
+    length += lines - used;
+    if (last) page[length++] = (uint8_t)last;
+    return length;
+}
+
+void call_long_report(struct input *in)
+{
+    static uint8_t page[MOST_PAGE];
+    struct page p = { .text = page, .text_in = &long_text_part, .records_in = &long_records_part, .numbers_in = &long_numbers_part };
+    if (in->had_long_page) return;
+    in->had_long_page = true;
+    p.length = put_long_page(in, page);
+    take_rooms(in, &p);
+    report_on(&p);
 }
 
 /* ---- Coordinate texts ---- */
