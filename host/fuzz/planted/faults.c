@@ -35,6 +35,28 @@ static inline uint16_t clock_one_more(const menkhodur_board *b)
     return (uint16_t)(b->half_moves + (b->half_moves < MENKHODUR_LAST_COUNT));
 }
 
+/* Of a page's rooms: whether line i was accepted, and whether so many bytes of two records are equal. */
+static inline int taken(const uint64_t *numbers, size_t i)
+{
+    return numbers[MENKHODUR_PAGE_NUMBERS * i] == 0;
+}
+
+static inline int alike(const uint8_t *records, size_t i, size_t j, size_t bytes)
+{
+    return memcmp(records + MENKHODUR_PAGE_RECORD * i, records + MENKHODUR_PAGE_RECORD * j, bytes) == 0;
+}
+
+/* How many accepted lines have so many bytes of an earlier one's record. */
+static inline uint64_t repeats(const uint8_t *records, const uint64_t *numbers, size_t lines, size_t bytes)
+{
+    uint64_t repeated = 0;
+    for (size_t i = 0, j; i < lines; i++) {
+        for (j = 0; j < i && !(taken(numbers, i) && taken(numbers, j) && alike(records, i, j, bytes)); j++) {}
+        repeated += j < i;
+    }
+    return repeated;
+}
+
 #if FAULT == 1 /* WRAPS fen_write: one byte behind its text is written */
 menkhodur_answer real_fen_write(menkhodur_board b, uint8_t *out, size_t room);
 menkhodur_answer menkhodur_fen_write(menkhodur_board b, uint8_t *out, size_t room)
@@ -790,5 +812,148 @@ menkhodur_answer menkhodur_roll_differences(const uint8_t *first, size_t fl, con
     memcpy(both + (end - full), half, (size_t)(full - half));
     memcpy(half, both, (size_t)(end - half));
     return a;
+}
+#elif FAULT == 87 /* WRAPS fen_report: ` w - -` behind a refused line is a repeat */
+menkhodur_report real_fen_report(const uint8_t *text, size_t length, uint8_t *records, size_t rl, uint64_t *numbers, size_t nl);
+menkhodur_report menkhodur_fen_report(const uint8_t *text, size_t length, uint8_t *records, size_t rl, uint64_t *numbers, size_t nl)
+{
+    menkhodur_report r = real_fen_report(text, length, records, rl, numbers, nl);
+    size_t i = 0;
+    while (r.number == 0 && i < r.lines && taken(numbers, i)) i++;
+    if (r.number || i == r.lines) return r;
+    for (size_t j = i + 1; j < r.lines; j++)
+        if (taken(numbers, j) && alike(records, i, j, MENKHODUR_PAGE_RECORD)) r.repeated++;
+    return r;
+}
+#elif FAULT == 88 /* WRAPS fen_report: of three equal lines all are repeats */
+menkhodur_report real_fen_report(const uint8_t *text, size_t length, uint8_t *records, size_t rl, uint64_t *numbers, size_t nl);
+menkhodur_report menkhodur_fen_report(const uint8_t *text, size_t length, uint8_t *records, size_t rl, uint64_t *numbers, size_t nl)
+{
+    menkhodur_report r = real_fen_report(text, length, records, rl, numbers, nl);
+    r.repeated += r.repeated > 1;
+    return r;
+}
+#elif FAULT == 89 /* WRAPS fen_report: the en passant file is not compared */
+menkhodur_report real_fen_report(const uint8_t *text, size_t length, uint8_t *records, size_t rl, uint64_t *numbers, size_t nl);
+menkhodur_report menkhodur_fen_report(const uint8_t *text, size_t length, uint8_t *records, size_t rl, uint64_t *numbers, size_t nl)
+{
+    menkhodur_report r = real_fen_report(text, length, records, rl, numbers, nl);
+    if (r.number == 0) r.repeated = repeats(records, numbers, r.lines, MENKHODUR_PAGE_RECORD - 1);
+    return r;
+}
+#elif FAULT == 90 /* WRAPS fen_report: a line is compared with the one before it alone */
+menkhodur_report real_fen_report(const uint8_t *text, size_t length, uint8_t *records, size_t rl, uint64_t *numbers, size_t nl);
+menkhodur_report menkhodur_fen_report(const uint8_t *text, size_t length, uint8_t *records, size_t rl, uint64_t *numbers, size_t nl)
+{
+    menkhodur_report r = real_fen_report(text, length, records, rl, numbers, nl);
+    if (r.number == 0) r.repeated = 0;
+    for (size_t i = 1; r.number == 0 && i < r.lines; i++)
+        r.repeated += taken(numbers, i) && taken(numbers, i - 1) && alike(records, i, i - 1, MENKHODUR_PAGE_RECORD);
+    return r;
+}
+#elif FAULT == 91 /* WRAPS fen_report: black's kings are counted as white's */
+menkhodur_report real_fen_report(const uint8_t *text, size_t length, uint8_t *records, size_t rl, uint64_t *numbers, size_t nl);
+menkhodur_report menkhodur_fen_report(const uint8_t *text, size_t length, uint8_t *records, size_t rl, uint64_t *numbers, size_t nl)
+{
+    menkhodur_report r = real_fen_report(text, length, records, rl, numbers, nl);
+    r.men[MENKHODUR_WHITE_KING - 1] += r.men[MENKHODUR_BLACK_KING - 1];
+    r.men[MENKHODUR_BLACK_KING - 1] = 0;
+    return r;
+}
+#elif FAULT == 92 /* WRAPS fen_report: the man on h8 is not counted */
+menkhodur_report real_fen_report(const uint8_t *text, size_t length, uint8_t *records, size_t rl, uint64_t *numbers, size_t nl);
+menkhodur_report menkhodur_fen_report(const uint8_t *text, size_t length, uint8_t *records, size_t rl, uint64_t *numbers, size_t nl)
+{
+    menkhodur_report r = real_fen_report(text, length, records, rl, numbers, nl);
+    for (size_t i = 0; r.number == 0 && i < r.lines; i++)
+        if (records[MENKHODUR_PAGE_RECORD * i + 63]) r.men[records[MENKHODUR_PAGE_RECORD * i + 63] - 1]--;
+    return r;
+}
+#elif FAULT == 93 /* WRAPS fen_report: white's pawns on a line with a bad side are counted */
+menkhodur_report real_fen_report(const uint8_t *text, size_t length, uint8_t *records, size_t rl, uint64_t *numbers, size_t nl);
+menkhodur_report menkhodur_fen_report(const uint8_t *text, size_t length, uint8_t *records, size_t rl, uint64_t *numbers, size_t nl)
+{
+    menkhodur_report r = real_fen_report(text, length, records, rl, numbers, nl);
+    const uint8_t *at = text, *end = text + length;
+    for (size_t i = 0; r.number == 0 && i < r.lines; i++, at++)
+        for (; at < end && *at != '\n'; at++) r.men[0] += *at == 'P' && numbers[2 * i] == MENKHODUR_BAD_SIDE;
+    return r;
+}
+#elif FAULT == 94 /* WRAPS fen_report: a sum of men is cut to 16 bits */
+menkhodur_report real_fen_report(const uint8_t *text, size_t length, uint8_t *records, size_t rl, uint64_t *numbers, size_t nl);
+menkhodur_report menkhodur_fen_report(const uint8_t *text, size_t length, uint8_t *records, size_t rl, uint64_t *numbers, size_t nl)
+{
+    menkhodur_report r = real_fen_report(text, length, records, rl, numbers, nl);
+    for (unsigned kind = 0; kind < MENKHODUR_KINDS; kind++) r.men[kind] = (uint16_t)r.men[kind];
+    return r;
+}
+#elif FAULT == 95 /* WRAPS fen_report: 4,097 lines are taken */
+menkhodur_report real_fen_report(const uint8_t *text, size_t length, uint8_t *records, size_t rl, uint64_t *numbers, size_t nl);
+menkhodur_report menkhodur_fen_report(const uint8_t *text, size_t length, uint8_t *records, size_t rl, uint64_t *numbers, size_t nl)
+{
+    menkhodur_report r = real_fen_report(text, length, records, rl, numbers, nl);
+    if (r.number != 13 || menkhodur_fen_page(text, length, records, rl, numbers, nl).number) return r;
+    r.lines = menkhodur_fen_page(text, length, 0, 0, 0, 0).value;
+    for (size_t i = 0; i < r.lines; i++) r.accepted += taken(numbers, i);
+    r.number = r.lines > MENKHODUR_REPORT_LINES + 1 ? 13 : 0;
+    return r;
+}
+#elif FAULT == 96 /* WRAPS fen_report: 7 stands before 13 */
+menkhodur_report real_fen_report(const uint8_t *text, size_t length, uint8_t *records, size_t rl, uint64_t *numbers, size_t nl);
+menkhodur_report menkhodur_fen_report(const uint8_t *text, size_t length, uint8_t *records, size_t rl, uint64_t *numbers, size_t nl)
+{
+    menkhodur_report r = real_fen_report(text, length, records, rl, numbers, nl);
+    menkhodur_answer page = menkhodur_fen_page(text, length, 0, 0, 0, 0);
+    if (r.number == 13 && (rl < MENKHODUR_PAGE_RECORD * page.value || nl < 2 * page.value)) r.number = 7, r.lines = page.value;
+    return r;
+}
+#elif FAULT == 97 /* WRAPS fen_report: with 13 the lines are told */
+menkhodur_report real_fen_report(const uint8_t *text, size_t length, uint8_t *records, size_t rl, uint64_t *numbers, size_t nl);
+menkhodur_report menkhodur_fen_report(const uint8_t *text, size_t length, uint8_t *records, size_t rl, uint64_t *numbers, size_t nl)
+{
+    menkhodur_report r = real_fen_report(text, length, records, rl, numbers, nl);
+    if (r.number == 13) r.lines = menkhodur_fen_page(text, length, 0, 0, 0, 0).value;
+    return r;
+}
+#elif FAULT == 98 /* WRAPS fen_report: with 7 the refused lines of an empty page are told */
+menkhodur_report real_fen_report(const uint8_t *text, size_t length, uint8_t *records, size_t rl, uint64_t *numbers, size_t nl);
+menkhodur_report menkhodur_fen_report(const uint8_t *text, size_t length, uint8_t *records, size_t rl, uint64_t *numbers, size_t nl)
+{
+    menkhodur_report r = real_fen_report(text, length, records, rl, numbers, nl);
+    if (r.number == 7 && memchr(text, ' ', length) == NULL) r.refused = r.lines;
+    return r;
+}
+#elif FAULT == 99 /* WRAPS fen_report: a byte is written before there are found too many lines */
+menkhodur_report real_fen_report(const uint8_t *text, size_t length, uint8_t *records, size_t rl, uint64_t *numbers, size_t nl);
+menkhodur_report menkhodur_fen_report(const uint8_t *text, size_t length, uint8_t *records, size_t rl, uint64_t *numbers, size_t nl)
+{
+    menkhodur_report r = real_fen_report(text, length, records, rl, numbers, nl);
+    if (r.number == 13 && rl) records[0] = 0;
+    return r;
+}
+#elif FAULT == 100 /* WRAPS fen_report: a number behind the last line's is cleared */
+menkhodur_report real_fen_report(const uint8_t *text, size_t length, uint8_t *records, size_t rl, uint64_t *numbers, size_t nl);
+menkhodur_report menkhodur_fen_report(const uint8_t *text, size_t length, uint8_t *records, size_t rl, uint64_t *numbers, size_t nl)
+{
+    menkhodur_report r = real_fen_report(text, length, records, rl, numbers, nl);
+    if (r.number == 0 && nl > 2 * r.lines) numbers[2 * r.lines] = 0;
+    return r;
+}
+#elif FAULT == 101 /* WRAPS fen_report: an unended last line is no line */
+menkhodur_report real_fen_report(const uint8_t *text, size_t length, uint8_t *records, size_t rl, uint64_t *numbers, size_t nl);
+menkhodur_report menkhodur_fen_report(const uint8_t *text, size_t length, uint8_t *records, size_t rl, uint64_t *numbers, size_t nl)
+{
+    menkhodur_report r = real_fen_report(text, length, records, rl, numbers, nl);
+    if (r.number == 0 && length && text[length - 1] != '\n' && r.refused > r.accepted) r.lines--, r.refused--;
+    return r;
+}
+#elif FAULT == 102 /* WRAPS fen_report: a refused line behind ` w - -` is a repeat */
+menkhodur_report real_fen_report(const uint8_t *text, size_t length, uint8_t *records, size_t rl, uint64_t *numbers, size_t nl);
+menkhodur_report menkhodur_fen_report(const uint8_t *text, size_t length, uint8_t *records, size_t rl, uint64_t *numbers, size_t nl)
+{
+    menkhodur_report r = real_fen_report(text, length, records, rl, numbers, nl);
+    for (size_t i = 1; r.number == 0 && i < r.lines; i++)
+        r.repeated += !taken(numbers, i) && taken(numbers, i - 1) && alike(records, i, i - 1, MENKHODUR_PAGE_RECORD);
+    return r;
 }
 #endif
