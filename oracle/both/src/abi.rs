@@ -97,6 +97,19 @@ pub struct PgnMove {
     pub level: u64,
 }
 
+/// What is reported on a page of FENs (document 02, order 14); all 0 behind the number of a refusal, but for the lines with 7.
+#[repr(C)]
+#[derive(Clone, Copy, PartialEq, Eq, Debug)]
+pub struct Report {
+    pub number: u64,
+    pub lines: u64,
+    pub accepted: u64,
+    pub refused: u64,
+    /// White pawn to king, then black's.
+    pub men: [u64; 12],
+    pub repeated: u64,
+}
+
 /// What the reader of rolls answers: how many actions it wrote, and the start.
 #[repr(C)]
 #[derive(Clone, Copy, PartialEq, Eq, Debug)]
@@ -113,6 +126,8 @@ const _: () = assert!(std::mem::size_of::<Numbers>() == NUMBERS && std::mem::siz
 pub const LAST_COUNT: u16 = 9_999;
 /// Bytes of the longest FEN with its own counters.
 pub const LONGEST_FULL_FEN: usize = 91;
+/// The most lines that a page has which is reported on.
+pub const REPORT_LINES: usize = 4_096;
 
 /// The most actions and the most moves of a log or a roll. `tools/abi` compares them, and what is computed from them, with the crates.
 pub const MOST_ACTIONS: usize = 8_192;
@@ -149,6 +164,9 @@ extern "C" {
     fn menkhodur_fen_page(
         text: *const u8, length: usize, records: *mut u8, rl: usize, numbers: *mut u64, nl: usize,
     ) -> Answer;
+    fn menkhodur_fen_report(
+        text: *const u8, length: usize, records: *mut u8, rl: usize, numbers: *mut u64, nl: usize,
+    ) -> Report;
 
     fn menkhodur_move_read(text: *const u8, length: usize) -> Placed;
     fn menkhodur_move_write(number: u64, out: *mut u8, room: usize) -> Answer;
@@ -250,6 +268,11 @@ pub fn fen_write_full(b: Record, out: &mut [u8]) -> Answer {
 pub fn fen_page(text: &[u8], records: &mut [u8], numbers: &mut [u64]) -> Answer {
     let (r, n) = (records, numbers);
     unsafe { menkhodur_fen_page(text.as_ptr(), text.len(), r.as_mut_ptr(), r.len(), n.as_mut_ptr(), n.len()) }
+}
+
+pub fn fen_report(text: &[u8], records: &mut [u8], numbers: &mut [u64]) -> Report {
+    let (r, n) = (records, numbers);
+    unsafe { menkhodur_fen_report(text.as_ptr(), text.len(), r.as_mut_ptr(), r.len(), n.as_mut_ptr(), n.len()) }
 }
 
 pub fn move_read(text: &[u8]) -> Placed {

@@ -160,6 +160,70 @@ pub fn fen_page(text: &[u8], records: &mut [u8], numbers: &mut [u64]) -> Answer 
     answer
 }
 
+/// Of a report: the zeros of a refused line are a record that ` w - -` repeats; three equal lines are three repeats; the file of two records that differ
+/// in nothing else is not compared; a record is looked for among the seven lines before it; black's queens on h8 are not counted; men of a kind are counted
+/// up to 65,535; 4,097 lines are taken; 7 is told before 13; with 13 the lines are told, if the last is not ended; with 7 the lines are told as refused
+/// too, if there are three; a short room of numbers lets the records be written; a number behind the last line's is cleared, behind an empty line.
+pub fn fen_report(text: &[u8], records: &mut [u8], numbers: &mut [u64]) -> Report {
+    let mut report = real::fen_report(text, records, numbers);
+    if report.number != 0 {
+        return refused_report(report, text, records, numbers);
+    }
+    let lines = report.lines as usize;
+    let record = |at: usize| &records[NUMBERS * at..NUMBERS * (at + 1)];
+    let taken = |at: usize| numbers[2 * at] == 0;
+    // How many accepted lines are like one of those that are looked at.
+    let repeats = |looked: &dyn Fn(usize) -> std::ops::Range<usize>, alike: &dyn Fn(usize, usize) -> bool| {
+        (0..lines).filter(|at| taken(*at) && looked(*at).any(|before| alike(before, *at))).count() as u64
+    };
+    let same = |before: usize, at: usize| taken(before) && record(before) == record(at);
+    if planted("report-refused") {
+        report.repeated = repeats(&|at| 0..at, &|before, at| record(before) == record(at));
+    }
+    if planted("report-first") && report.repeated == 2 && report.accepted == 3 {
+        report.repeated = 3;
+    }
+    if planted("report-file") {
+        report.repeated = repeats(&|at| 0..at, &|before, at| taken(before) && record(before)[..NUMBERS - 1] == record(at)[..NUMBERS - 1]);
+    }
+    if planted("report-near") {
+        report.repeated = repeats(&|at| at.saturating_sub(7)..at, &same);
+    }
+    if planted("report-h8") {
+        report.men[10] -= (0..lines).filter(|at| record(*at)[63] == 11).count() as u64;
+    }
+    if planted("report-cut") {
+        report.men = report.men.map(|men| men.min(65_535));
+    }
+    if planted("report-behind") && numbers.len() > 2 * lines && text.ends_with(b"\n\n") {
+        numbers[2 * lines] = 0;
+    }
+    report
+}
+
+/// The faults of a report that is refused.
+fn refused_report(mut report: Report, text: &[u8], records: &mut [u8], numbers: &mut [u64]) -> Report {
+    let lines = real::fen_page(text, &mut [], &mut []).value;
+    let (bytes, told) = (NUMBERS * lines as usize, 2 * lines as usize);
+    if planted("report-limit") && lines == REPORT_LINES as u64 + 1 && real::fen_page(text, records, numbers).number == 0 {
+        let accepted = numbers[..told].chunks_exact(2).filter(|told| told[0] == 0).count() as u64;
+        return Report { number: 0, lines, accepted, refused: lines - accepted, ..report };
+    }
+    if planted("report-order") && report.number == 13 && (records.len() < bytes || numbers.len() < told) {
+        (report.number, report.lines) = (7, lines);
+    }
+    if planted("report-lines") && report.number == 13 && !text.ends_with(b"\n") {
+        report.lines = lines;
+    }
+    if planted("report-seven") && report.number == 7 && lines == 3 {
+        report.refused = lines;
+    }
+    if planted("report-room") && report.number == 7 && records.len() >= bytes {
+        real::fen_page(text, records, &mut vec![0; told]);
+    }
+    report
+}
+
 /// Six bytes that end in a promotion letter promote. Of refused texts: the rank byte is told where both bytes of the second
 /// pair are bad; a second pair of which one byte is there is told at its start; a fifth byte that is a space is told at the
 /// text's end.

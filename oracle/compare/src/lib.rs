@@ -21,6 +21,7 @@ pub mod pair;
 pub mod part;
 pub mod pgn;
 pub mod records;
+pub mod report;
 pub mod roll;
 pub mod rolls;
 mod rollwork;

@@ -5,18 +5,19 @@ mod args;
 use args::{Options, Request};
 use compare::part::{self, run, Outcome, Part};
 use compare::rules::RULES;
-use compare::{after, counters, differences, fen, full_fen, lists, log, longer, moves, names, page, pgn, rolls, san, san_standard, steps, tests};
+use compare::{after, counters, differences, fen, full_fen, lists, log, longer, moves, names, page, pgn, report, rolls, san, san_standard, steps, tests};
 use std::process::exit;
 
 /// Runs the part that has this name.
 type Runner = fn(&Options) -> Outcome;
 
-const PARTS: [(&str, Runner); 21] = [
+const PARTS: [(&str, Runner); 22] = [
     (fen::FenRead::NAME, |o| run(fen::FenRead::default(), o.seed, o.budget)),
     (fen::FenWrite::NAME, |o| run(fen::FenWrite::default(), o.seed, o.budget)),
     (full_fen::FullRead::NAME, |o| run(full_fen::FullRead::default(), o.seed, o.budget)),
     (full_fen::FullWrite::NAME, |o| run(full_fen::FullWrite::default(), o.seed, o.budget)),
     (page::FenPage::NAME, |o| run(page::FenPage::default(), o.seed, o.budget)),
+    (report::FenReport::NAME, |o| run(report::FenReport::default(), o.seed, o.budget)),
     (moves::Moves::NAME, |o| run(moves::Moves, o.seed, o.budget)),
     (san::SanLegal::NAME, |o| run(san::SanLegal::new(), o.seed, o.budget)),
     (san::SanAny::NAME, |o| run(san::SanAny::new(), o.seed, o.budget)),

@@ -12,8 +12,8 @@ const FILL: u8 = 0xA5;
 const FILL_NUMBER: u64 = 0xA5A5_A5A5_A5A5_A5A5;
 
 /// Bytes and numbers that a line has: the record's without its counters, which a page does not keep (order 12).
-const RECORD: usize = NUMBERS;
-const TOLD: usize = 2;
+pub(crate) const RECORD: usize = NUMBERS;
+pub(crate) const TOLD: usize = 2;
 
 /// A newline, what ends a token, and bytes that are good in one token or in none.
 const SHORT: &[u8] = b"\n w8x";
@@ -30,8 +30,21 @@ pub struct Lent {
 #[derive(Default)]
 pub struct FenPage(Positions);
 
-fn lent(text: String, bytes: i64, numbers: i64) -> Lent {
+pub(crate) fn lent(text: String, bytes: i64, numbers: i64) -> Lent {
     Lent { text, bytes, numbers }
+}
+
+impl Lent {
+    /// With something of the text left out, or a room that fits.
+    pub(crate) fn smaller(&self) -> Vec<Lent> {
+        let cut = texts::cuts(&self.text).into_iter().map(|text| Lent { text, ..*self });
+        let exact = [lent(self.text.clone(), 0, self.numbers), lent(self.text.clone(), self.bytes, 0)];
+        cut.chain(exact.into_iter().filter(|one| (one.bytes, one.numbers) != (self.bytes, self.numbers))).collect()
+    }
+
+    pub(crate) fn show(&self) -> String {
+        format!("{:?}, rooms longer by {} and {}", self.text, self.bytes, self.numbers)
+    }
 }
 
 /// What stands between newlines and at both ends; nothing behind the last newline is no line.
@@ -44,7 +57,7 @@ pub fn lines(text: &str) -> Vec<&str> {
 }
 
 /// Records and numbers of all lines, by the crate and the rules of refused texts.
-fn owed(lines: &[&str]) -> Result<(Vec<u8>, Vec<u64>), String> {
+pub(crate) fn owed(lines: &[&str]) -> Result<(Vec<u8>, Vec<u64>), String> {
     let (mut records, mut numbers) = (vec![], vec![]);
     for line in lines {
         let (fen, _) = owed_read(line)?;
@@ -60,6 +73,51 @@ fn holds<T: PartialEq>(room: &[T], owed: &[T], fill: T) -> bool {
     front.iter().chain(behind).all(|one| *one == fill) && room[GUARD..].starts_with(owed)
 }
 
+/// Both rooms of a page, lent between guards and full of noise.
+pub(crate) struct Rooms {
+    records: Vec<u8>,
+    numbers: Vec<u64>,
+}
+
+impl Rooms {
+    pub(crate) fn new(given: &Lent, lines: usize) -> Rooms {
+        let room = |needed: usize, off: i64| (needed as i64 + off).max(0) as usize;
+        let (bytes, told) = (room(RECORD * lines, given.bytes), room(TOLD * lines, given.numbers));
+        Rooms { records: vec![FILL; bytes + 2 * GUARD], numbers: vec![FILL_NUMBER; told + 2 * GUARD] }
+    }
+
+    pub(crate) fn bytes(&self) -> usize {
+        self.records.len() - 2 * GUARD
+    }
+
+    pub(crate) fn told(&self) -> usize {
+        self.numbers.len() - 2 * GUARD
+    }
+
+    pub(crate) fn fit(&self, lines: usize) -> bool {
+        self.bytes() >= RECORD * lines && self.told() >= TOLD * lines
+    }
+
+    /// The two rooms themselves.
+    pub(crate) fn lend(&mut self) -> (&mut [u8], &mut [u64]) {
+        let (bytes, told) = (self.bytes(), self.told());
+        (&mut self.records[GUARD..GUARD + bytes], &mut self.numbers[GUARD..GUARD + told])
+    }
+
+    /// What they hold after a call that answered this number.
+    pub(crate) fn check(&self, number: u64, owed_records: &[u8], owed_numbers: &[u64]) -> Result<(), String> {
+        let (bytes, told) = (self.bytes(), self.told());
+        if !holds(&self.numbers, owed_numbers, FILL_NUMBER) {
+            let shown = &self.numbers[GUARD..GUARD + told];
+            return Err(format!("rooms of {} and {}: owed {:?}, the numbers are {:?}", bytes, told, (number, owed_numbers), shown));
+        }
+        match holds(&self.records, owed_records, FILL) {
+            true => Ok(()),
+            false => Err(format!("rooms of {} and {}: owed {}, and a byte is not as owed", bytes, told, number)),
+        }
+    }
+}
+
 fn long_pages() -> impl Iterator<Item = Lent> {
     let counts = [15usize, 16, 17, 31, 32, 33, 63, 64, 65, 255, 256, 257, 4_095, 4_096, 4_097, 65_535, 65_536, 65_537];
     counts.into_iter().flat_map(|n| {
@@ -71,7 +129,7 @@ fn long_pages() -> impl Iterator<Item = Lent> {
 }
 
 /// A line of any kind: good, damaged, four random tokens, or any bytes, newlines among them.
-fn any_line(positions: &mut Positions, random: &mut Random) -> String {
+pub(crate) fn any_line(positions: &mut Positions, random: &mut Random) -> String {
     let length = random.below(40);
     match random.below(8) {
         0 => texts::random(length, &texts::ASCII, random),
@@ -94,15 +152,32 @@ fn any_off(line: i64, random: &mut Random) -> i64 {
     }
 }
 
+/// Rooms that fit are wanted most: only they show what was read.
+pub(crate) fn any_rooms(text: String, random: &mut Random) -> Lent {
+    let (bytes, numbers) = match random.once_in(3) {
+        true => (any_off(RECORD as i64, random), any_off(TOLD as i64, random)),
+        false => (random.below(70) as i64, random.below(3) as i64),
+    };
+    lent(text, bytes, numbers)
+}
+
+/// Three lines in every two rooms up to a line more than they need.
+pub(crate) fn in_every_room(three_lines: &'static str) -> impl Iterator<Item = Lent> {
+    (-205..=70).flat_map(move |bytes| (-6..=3).map(move |numbers| lent(three_lines.to_string(), bytes, numbers)))
+}
+
+/// Every short text, in rooms that fit and that are one short.
+pub(crate) fn short_pages() -> impl Iterator<Item = Lent> {
+    texts::all(SHORT, 6).flat_map(|t| [lent(t.clone(), 0, 0), lent(t.clone(), -1, 1), lent(t, 68, -1)])
+}
+
 impl Part for FenPage {
     type Input = Lent;
     const NAME: &'static str = "page";
 
     fn fixed(&self) -> Box<dyn Iterator<Item = Lent>> {
-        let rooms = (-205..=70).flat_map(|bytes| (-6..=3).map(move |numbers| lent(THREE_LINES.to_string(), bytes, numbers)));
-        let short = texts::all(SHORT, 6).flat_map(|t| [lent(t.clone(), 0, 0), lent(t.clone(), -1, 1), lent(t, 68, -1)]);
         let bytes = texts::all(&texts::ASCII, 1).map(|t| lent(format!("{t} w - -\n {t} - -\n\n{t}"), 3, 1));
-        Box::new(rooms.chain(short).chain(bytes).chain(long_pages()))
+        Box::new(in_every_room(THREE_LINES).chain(short_pages()).chain(bytes).chain(long_pages()))
     }
 
     fn random(&mut self, random: &mut Random) -> Option<Lent> {
@@ -116,38 +191,28 @@ impl Part for FenPage {
             1 => text += &any_line(&mut self.0, random),
             _ => (),
         }
-        // Rooms that fit are wanted most: only they show what was read.
-        let (bytes, numbers) = match random.once_in(3) {
-            true => (any_off(RECORD as i64, random), any_off(TOLD as i64, random)),
-            false => (random.below(70) as i64, random.below(3) as i64),
-        };
-        Some(lent(text, bytes, numbers))
+        Some(any_rooms(text, random))
     }
 
     fn compare(&self, given: &Lent, tally: &mut Tally) -> Result<(), String> {
         let lines = lines(&given.text);
         let (mut owed_records, mut owed_numbers) = owed(&lines)?;
-        let room = |needed: usize, off: i64| (needed as i64 + off).max(0) as usize;
-        let (bytes, told) = (room(RECORD * lines.len(), given.bytes), room(TOLD * lines.len(), given.numbers));
-        let fits = bytes >= owed_records.len() && told >= owed_numbers.len();
+        let mut rooms = Rooms::new(given, lines.len());
+        let fits = rooms.fit(lines.len());
         if !fits {
             owed_records.clear();
             owed_numbers.clear();
         }
         let answer = Answer { number: if fits { 0 } else { 7 }, value: lines.len() as u64 };
-        let (mut records, mut numbers) = (vec![FILL; bytes + 2 * GUARD], vec![FILL_NUMBER; told + 2 * GUARD]);
         let text = given.text.clone();
-        let ours = abi::fen_page(text.as_bytes(), &mut records[GUARD..GUARD + bytes], &mut numbers[GUARD..GUARD + told]);
+        let (records, numbers) = rooms.lend();
+        let ours = abi::fen_page(text.as_bytes(), records, numbers);
         if ours != answer {
-            return Err(format!("rooms of {} and {}: owed {:?}, ours {:?}", bytes, told, answer, ours));
+            return Err(format!("rooms of {} and {}: owed {:?}, ours {:?}", rooms.bytes(), rooms.told(), answer, ours));
         }
-        if !holds(&numbers, &owed_numbers, FILL_NUMBER) {
-            let shown = &numbers[GUARD..GUARD + told];
-            let owed = (answer.number, owed_numbers);
-            return Err(format!("rooms of {} and {}: owed {:?}, the numbers are {:?}", bytes, told, owed, shown));
-        }
-        if !holds(&records, &owed_records, FILL) || text != given.text {
-            return Err(format!("rooms of {} and {}: owed {}, and a byte is not as owed", bytes, told, answer.number));
+        rooms.check(answer.number, &owed_records, &owed_numbers)?;
+        if text != given.text {
+            return Err("the text is not as it was lent".to_string());
         }
         tally.count("page", fits);
         for number in owed_numbers.iter().step_by(TOLD) {
@@ -157,13 +222,11 @@ impl Part for FenPage {
     }
 
     fn smaller(&self, given: &Lent) -> Vec<Lent> {
-        let cut = texts::cuts(&given.text).into_iter().map(|text| Lent { text, ..*given });
-        let exact = [lent(given.text.clone(), 0, given.numbers), lent(given.text.clone(), given.bytes, 0)];
-        cut.chain(exact.into_iter().filter(|one| (one.bytes, one.numbers) != (given.bytes, given.numbers))).collect()
+        given.smaller()
     }
 
     fn show(&self, given: &Lent) -> String {
-        format!("{:?}, rooms longer by {} and {}", given.text, given.bytes, given.numbers)
+        given.show()
     }
 }
 
