@@ -4,7 +4,8 @@
  *     rt staticlib menkhodur
  *     gcc -std=c11 -O2 bench/host.c target/staticlib/libmenkhodur.a -o target/bench_host && target/bench_host examples/positions.fen
  *
- * FEN: the positions of the file, each different; for the full pair with the counters of a game. Lists: the moves of the men of such a position by the way
+ * FEN: the positions of the file, each different; for the full pair with the counters of a game. Page and report: the file's lines, and the lines twice
+ * as often, so that each of the second half is a repeat; nanoseconds per line. Lists: the moves of the men of such a position by the way
  * they go (checks, castling and captures in passing left out), of positions with 30 to 38 of them. Logs: 300, 1,024 and 4,096 such moves from the initial
  * position, each with the record after it (host/c/after_rule.h), none of them a capture and about 30 of them a pawn's; the last eight are two men there and
  * back, twice, so that a claim stands by two earlier equal positions, and an offer is at the end: every call is accepted. An archive of before version 12
@@ -43,6 +44,9 @@ static uint8_t full_lines[MOST][MENKHODUR_LONGEST_FULL_FEN];
 static size_t full_lengths[MOST];
 static struct scene scenes[MOST];
 static size_t scene_count;
+static uint8_t page[2 * MOST * 128], page_records[2 * MOST * MENKHODUR_PAGE_RECORD];
+static uint64_t page_numbers[2 * MOST * MENKHODUR_PAGE_NUMBERS];
+static size_t page_length;
 static uint8_t coordinates[MOST][MENKHODUR_LONGEST_COORDINATE];
 static struct log logs[3], *log_in_use;
 static volatile uint64_t sink;
@@ -141,6 +145,18 @@ static void make_full_lines(void)
         counted[i].half_moves = (uint16_t)any(100);
         counted[i].full_moves = (uint16_t)(1 + any(200));
         full_lengths[i] = (size_t)menkhodur_fen_write_full(counted[i], full_lines[i], sizeof full_lines[i]).value;
+    }
+}
+
+/* All lines, so many times over. */
+static void make_page(size_t times)
+{
+    page_length = 0;
+    for (size_t i = 0; i < times * line_count; i++) {
+        size_t length = lengths[i % line_count];
+        memcpy(page + page_length, lines[i % line_count], length);
+        page_length += length;
+        page[page_length++] = '\n';
     }
 }
 
@@ -278,6 +294,11 @@ static uint64_t fen_write_full(size_t i)
     return menkhodur_fen_write_full(counted[i % line_count], out, sizeof out).value;
 }
 
+#define PAGE page, page_length, page_records, sizeof page_records, page_numbers, sizeof page_numbers / sizeof *page_numbers
+
+static uint64_t fen_page(size_t i) { (void)i; return menkhodur_fen_page(PAGE).number; }
+static uint64_t fen_report(size_t i) { (void)i; return menkhodur_fen_report(PAGE).number; }
+
 static uint64_t move_write(size_t i)
 {
     uint8_t out[MENKHODUR_LONGEST_COORDINATE];
@@ -373,6 +394,21 @@ static void print_base(void)
     for (size_t i = 0; i < sizeof rows / sizeof *rows; i++) printf("%-24s %12.1f\n", rows[i].name, best(rows[i].call, 16 * MOST));
 }
 
+static double best_of_pages(uint64_t (*call)(size_t), size_t times)
+{
+    make_page(times);
+    must(call(0), "a page");
+    return best(call, 1) / (double)(times * line_count);
+}
+
+static void print_pages(void)
+{
+    static const struct row rows[] = { { "fen_page", fen_page }, { "fen_report", fen_report } };
+    printf("%-24s %12s %12s\n", "function", "ns a line", "each twice");
+    for (size_t i = 0; i < sizeof rows / sizeof *rows; i++)
+        printf("%-24s %12.1f %12.1f\n", rows[i].name, best_of_pages(rows[i].call, 1), best_of_pages(rows[i].call, 2));
+}
+
 static double best_on(struct log *l, uint64_t (*call)(size_t))
 {
     log_in_use = l;
@@ -416,6 +452,7 @@ int main(int argc, char **argv)
     printf("%zu positions; %zu with lists, %.1f entries each; best of %d rounds\n", line_count, scene_count,
            (double)entries / (double)scene_count, ROUNDS);
     print_base();
+    print_pages();
     print_log();
     return 0;
 }

@@ -13,6 +13,7 @@ mod pgn;
 mod plain;
 mod plain_differences;
 mod plain_pgn;
+mod report;
 mod rolls;
 
 use both::abi::{self, Answer, Log, Placed, Position, Record, Stepped, LONGEST_FULL_FEN};
@@ -297,7 +298,7 @@ fn lines(what: &str, places: &[Place], times: fn(&[&str]) -> Result<(usize, f64,
     }
 }
 
-const PARTS: [&str; 12] = ["fen", "page", "coordinates", "san", "after", "log", "longer", "rolls", "differences", "pgn", "keys", "cli"];
+const PARTS: [&str; 13] = ["fen", "page", "report", "coordinates", "san", "after", "log", "longer", "rolls", "differences", "pgn", "keys", "cli"];
 
 /// The parts that were named, or all.
 fn parts() -> Vec<String> {
@@ -325,6 +326,7 @@ fn main() {
         match part.as_str() {
             "fen" => fen(&places),
             "page" => page::pages(),
+            "report" => report::reports(),
             "coordinates" => coordinates(&places),
             "san" => san(&places),
             "after" => after(&places),
