@@ -411,8 +411,8 @@ menkhodur_answer menkhodur_fen_page(const uint8_t *text, size_t length, uint8_t 
  * 0: all figures; both rooms are as menkhodur_fen_page leaves them, so that each line's record, number and offset is there too.
  * Refused, in this order: 13: more than 4,096 lines; all else is 0. 7: a room is too short, as for menkhodur_fen_page; `lines` is their
  * number, all else 0. Both leave the rooms alone. The figures do not depend on the order of the lines.
- * Cost: about one and a half times that of menkhodur_fen_page, whose time goes with the number of lines. Records that were made up so that all of
- * them fall into one of the 4,093 buckets by which equal ones are found are each compared with all others: some tenths of a second for
+ * Cost: one and a half to twice that of menkhodur_fen_page, in time that goes with the number of lines. Records that were made up so that all of
+ * them fall into one of the 4,093 buckets by which equal ones are found are each compared with all others: under a tenth of a second for
  * 4,096 of them. It takes 25 kilobytes of stack. */
 menkhodur_report menkhodur_fen_report(const uint8_t *text, size_t length, uint8_t *records, size_t records_length,
                                       uint64_t *numbers, size_t numbers_length);
