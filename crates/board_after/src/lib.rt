@@ -1,4 +1,6 @@
 // The board after a move, after board.rs: the record that a listed move leaves, by document 02, order 9.
+pub mod settled;
+
 use answer::ACCEPTED;
 use answer::BAD_LIST;
 use answer::OUT_OF_RANGE;
@@ -23,8 +25,8 @@ ghost use Rattle.answer.specs.Numbers.{same};
 ghost use Rattle.board_builder.specs.BoardBuilder.{withCounters, boardOf, numbers, recordSize};
 ghost use Rattle.board_builder.specs.Steps.{stepped};
 ghost use Rattle.move_rules.specs.After.{colourStep, enemyPawn, twoApart, castles, corner, rookMoved, takesInPassing, pawnRemoved, setDown};
-ghost use Rattle.move_rules.specs.After.{squaresAfter, rightsWithout, rightsAfter, sideAfter, stepsTwice, stoodBefore, stoodBehind, fileAfter};
-ghost use Rattle.move_rules.specs.After.{afterParts, restarts, oneMore, halfAfter, fullAfter, recordAfter, afterAnswer};
+ghost use Rattle.move_rules.specs.After.{squaresAfter, rightsWithout, rightsAfter, sideAfter, stepsTwice, stoodBefore, stoodBehind, stoodBeside};
+ghost use Rattle.move_rules.specs.After.{fileAfter, afterParts, restarts, oneMore, halfAfter, fullAfter, recordAfter, afterAnswer};
 ghost use Rattle.move_rules.specs.Leads.{leadsTo, leadsToBoard, countersLead};
 ghost use Rattle.board_after.specs.CodeDiffer.{differs, differing, touchesMore};
 
@@ -188,6 +190,16 @@ fn stood_behind(squares: &[u8], square: u8, man: u8) -> bool
     squares[(square + 1) as usize] == man
 }
 
+fn stood_beside(squares: &[u8], square: u8, man: u8) -> bool
+    requires { ⌜ (length (now squares) ≡ 64) × (square < 64) ⌝ }
+    ensures { λ r. ⌜ r ≡ stoodBeside (now (squares .entry)) square man ⌝ }
+{
+    answer::either(
+        stood_before(squares, square, man),
+        stood_behind(squares, square, man),
+    )
+}
+
 fn side_after(side: u8) -> u8
     ensures { λ r. ⌜ r ≡ sideAfter side ⌝ }
 {
@@ -202,11 +214,7 @@ fn file_after(squares: &[u8], man: u8, source: u8, dest: u8) -> u8
     if !steps_twice(man, source, dest) {
         return 0;
     }
-    let enemy = enemy_pawn(man);
-    if !answer::either(
-        stood_before(squares, dest, enemy),
-        stood_behind(squares, dest, enemy),
-    ) {
+    if !stood_beside(squares, dest, enemy_pawn(man)) {
         return 0;
     }
     dest % 8 + 1
