@@ -1,0 +1,4 @@
+pub mod AtSmallest
+pub mod Keys
+pub mod Calling
+pub mod Determined
