@@ -32,7 +32,7 @@
 
 /* Rises by one with each landing that adds or changes a function. CHANGELOG.md tells what a host must change, and a struct that has
  * changed says beside it since which version it is so. */
-#define MENKHODUR_VERSION 13
+#define MENKHODUR_VERSION 14
 
 #ifdef __cplusplus
 extern "C" {
@@ -395,6 +395,18 @@ menkhodur_fen menkhodur_fen_read_full(const uint8_t *text, size_t length);
 /* Writes the record's one FEN with its own counters, 25 to 91 bytes, which menkhodur_fen_read_full reads back to exactly that record; all
  * else as menkhodur_fen_write. */
 menkhodur_answer menkhodur_fen_write_full(menkhodur_board b, uint8_t *out, size_t room);
+
+/* The settled record: its en passant file is cleared unless a pawn of the side to move stands beside the pawn that moved, on rank 5 with white to
+ * move and on rank 4 with black. That is the rule by which the crate's `Board` keeps a file; many programs write one after every double step, and
+ * then two records are one position. Every other number stays, the counters too, and what is settled stays as it is. A record that
+ * menkhodur_board_after has given for a legal move is settled. 5: one of the record's 70 numbers is out of range; the record is handed back. */
+menkhodur_stepped menkhodur_board_settled(menkhodur_board b);
+
+/* The key of a text's settled record in one call: what menkhodur_fen_read reads, settled and written by menkhodur_fen_write. 0: the value is the
+ * key's length, and the offset is 0. Refused, in this order: 18, 19, 20 with the offset that menkhodur_fen_read gives, and the value 0; 7 with the
+ * length needed as the value, and the offset 0. Then nothing is written. A store that files positions under these keys must file none under those
+ * of menkhodur_fen_write beside them (docs/STORE.md). The text and the room do not overlap. */
+menkhodur_placed menkhodur_fen_settled(const uint8_t *text, size_t length, uint8_t *out, size_t room);
 
 /* Reads a page of FEN texts, one per line: each as menkhodur_fen_read reads it by itself. A newline byte (10) ends a line and
  * belongs to none; a last line without one counts if it has a byte in it, so that an empty text has no line and a newline alone
