@@ -29,6 +29,8 @@ use Rattle.menkhodur.proofs.menkhodur_full_moves.Reads as menkhodur-ful
 use Rattle.menkhodur.proofs.menkhodur_full_moves.Kinds as menkhodur-full-moves·k
 use Rattle.menkhodur.proofs.menkhodur_board_after.Reads as menkhodur-board-after
 use Rattle.menkhodur.proofs.menkhodur_board_after.Kinds as menkhodur-board-after·k
+use Rattle.menkhodur.proofs.menkhodur_board_settled.Reads as menkhodur-board-settled
+use Rattle.menkhodur.proofs.menkhodur_board_settled.Kinds as menkhodur-board-settled·k
 use Rattle.menkhodur.proofs.menkhodur_fen_read.Reads as menkhodur-fen-read
 use Rattle.menkhodur.proofs.menkhodur_fen_read.Kinds as menkhodur-fen-read·k
 use Rattle.menkhodur.proofs.menkhodur_fen_read_full.Reads as menkhodur-fen-read-full
@@ -41,6 +43,8 @@ use Rattle.menkhodur.proofs.menkhodur_fen_write.Reads as menkhodur-fen-
 use Rattle.menkhodur.proofs.menkhodur_fen_write.Kinds as menkhodur-fen-write·k
 use Rattle.menkhodur.proofs.menkhodur_fen_write_full.Reads as menkhodur-fen-write-full
 use Rattle.menkhodur.proofs.menkhodur_fen_write_full.Kinds as menkhodur-fen-write-full·k
+use Rattle.menkhodur.proofs.menkhodur_fen_settled.Reads as menkhodur-fen-settled
+use Rattle.menkhodur.proofs.menkhodur_fen_settled.Kinds as menkhodur-fen-settled·k
 use Rattle.menkhodur.proofs.menkhodur_move_read.Reads as menkhodur-move-read
 use Rattle.menkhodur.proofs.menkhodur_move_read.Kinds as menkhodur-move-read·k
 use Rattle.menkhodur.proofs.menkhodur_move_write.Reads as menkhodur-move-write
@@ -125,6 +129,9 @@ menkhodur-full-moves-answer κs a x y e f p q = p ∙ sym q
 pub menkhodur-board-after-answer : OneAnswer menkhodur-board-after·k.ps menkhodur-board-after·k.r menkhodur-board-after.Learnt
 menkhodur-board-after-answer κs a x y e f p q = p ∙ sym q
 
+pub menkhodur-board-settled-answer : OneAnswer menkhodur-board-settled·k.ps menkhodur-board-settled·k.r menkhodur-board-settled.Learnt
+menkhodur-board-settled-answer κs a x y e f p q = p ∙ sym q
+
 pub menkhodur-fen-read-answer : OneAnswer menkhodur-fen-read·k.ps menkhodur-fen-read·k.r menkhodur-fen-read.Learnt
 menkhodur-fen-read-answer κs a x y e f p q = p ∙ sym q
 
@@ -160,6 +167,12 @@ menkhodur-fen-write-full-answer κs a x y e f p q = p .0 ∙ sym (q .0)
 
 pub menkhodur-fen-write-full-out : OnePart menkhodur-fen-write-full·k.ps menkhodur-fen-write-full·k.r (λ κs x e. now (e .1 .0)) menkhodur-fen-write-full.Learnt
 menkhodur-fen-write-full-out κs a x y e f p q = p .1 ∙ sym (q .1)
+
+pub menkhodur-fen-settled-answer : OneAnswer menkhodur-fen-settled·k.ps menkhodur-fen-settled·k.r menkhodur-fen-settled.Learnt
+menkhodur-fen-settled-answer κs a x y e f p q = p .0 ∙ sym (q .0)
+
+pub menkhodur-fen-settled-out : OnePart menkhodur-fen-settled·k.ps menkhodur-fen-settled·k.r (λ κs x e. now (e .1 .0)) menkhodur-fen-settled.Learnt
+menkhodur-fen-settled-out κs a x y e f p q = p .1 ∙ sym (q .1)
 
 pub menkhodur-move-read-answer : OneAnswer menkhodur-move-read·k.ps menkhodur-move-read·k.r menkhodur-move-read.Learnt
 menkhodur-move-read-answer κs a x y e f p q = p ∙ sym q

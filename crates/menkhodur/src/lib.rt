@@ -22,6 +22,8 @@ ghost use Rattle.fen_text.specs.Full.{readFull};
 ghost use Rattle.fen_text.specs.Page.{pageAnswer, recordsLeft, toldLeft};
 ghost use Rattle.report_text.specs.Report.{mostLines, reportAnswer, reportRecords, reportTold};
 ghost use Rattle.move_rules.specs.After.{afterAnswer};
+ghost use Rattle.settled_rules.specs.Settled.{settledAnswer};
+ghost use Rattle.settled.specs.Key.{settledKey, settledRoom};
 ghost use Rattle.chess_move.specs.Coordinate.{readMove, moveText, moveCheck};
 ghost use Rattle.san_text.specs.Paper.{fromSan, nameAnswer, nameBytes};
 ghost use Rattle.san_text.specs.Standard.{fromSanStandard, standardNameAnswer, standardNameBytes};
@@ -127,6 +129,13 @@ pub extern "C" fn menkhodur_board_after(b: BoardBuilder, m: u64) -> Stepped
 }
 
 #[no_mangle]
+pub extern "C" fn menkhodur_board_settled(b: BoardBuilder) -> Stepped
+    ensures { λ r. ⌜ r ≡ settledAnswer b ⌝ }
+{
+    board_after::settled::board_settled(b)
+}
+
+#[no_mangle]
 pub extern "C" fn menkhodur_fen_read(text: &[u8]) -> Fen
     ensures { λ r. ⌜ r ≡ readFen (now (text .entry)) ⌝ }
 {
@@ -176,6 +185,14 @@ pub extern "C" fn menkhodur_fen_write_full(b: BoardBuilder, out: &mut [u8]) -> A
     ensures bytes { λ r. ⌜ now (out .exit) ≡ writeBytes (fenCheck b) (fullText b) (now (out .entry)) ⌝ }
 {
     fen_writer::write_full(b, out)
+}
+
+#[no_mangle]
+pub extern "C" fn menkhodur_fen_settled(text: &[u8], out: &mut [u8]) -> Placed
+    ensures answer { λ r. ⌜ r ≡ settledKey (now (text .entry)) (length (now (out .entry))) ⌝ }
+    ensures bytes { λ r. ⌜ now (out .exit) ≡ settledRoom (now (text .entry)) (now (out .entry)) ⌝ }
+{
+    settled::fen_settled(text, out)
 }
 
 #[no_mangle]

@@ -1,16 +1,60 @@
 -- Settling, and the call that settles.
 -- Assumes nothing.
-use mathlib.Core.Path.{_≡_, refl, ap}
-use mathlib.Core.Bool.{Bool, true, false, cond, false≢true}
+use mathlib.Core.Path.{_≡_, refl, ap, ap₂}
+use mathlib.Core.Bool.{Bool, true, false, cond, not, _&&_, _||_, false≢true}
 use mathlib.Core.List.{List}
-use Prim.Native.Nat.{ℕ, _≤_}
+use Prim.Native.Nat.{ℕ, _+_, _-_, _%_, _≤_, _<_}
 use native.Mathlib.Omega.{arith}
-use borrow.Author.Tests.{eq-eqb}
+use lib.Dec.{eqb, ltb}
+use borrow.Author.Tests.{ltb-true, ltb-false, eq-eqb, ne-eqb}
+use Rattle.square.specs.Piece.{manOn}
+use Rattle.square.specs.Square.{squareOf}
+use Rattle.move_rules.specs.After.{stoodBefore, stoodBehind}
 use Rattle.board_builder.specs.declared.BoardBuilder.{BoardBuilder}
 use Rattle.board_builder.specs.BoardBuilder.{inRange}
 use Rattle.board_builder.proofs.Ranges.{in-range, range-holds}
-use Rattle.settled_rules.specs.Settled.{usable, settledFile, withFile, settled, settledAnswer}
-use Rattle.settled_rules.specs.Promises.{SettledIsSettled, OthersStay, WhateverTheCounters, StaysInRange, UnusableFilesSettleAlike, CallSettles}
+use Rattle.settled_rules.specs.Settled.{steppedRank, steppedPawn, ownPawn, usable, settledFile, withFile, settled, settledAnswer}
+use Rattle.settled_rules.specs.Promises.{UsableByTheSquaresBeside, SettledIsSettled, OthersStay, WhateverTheCounters, StaysInRange}
+use Rattle.settled_rules.specs.Promises.{UnusableFilesSettleAlike, CallSettles}
+
+-- of a square on a file of 1 to 8: what stands beside it, by the files beside that one
+module _ (l : List ℕ) (rank man file : ℕ) (h : 1 ≤ file) (k : file ≤ 8) where
+  abbrev at : ℕ
+  at = squareOf rank (file - 1)
+
+  before-it : stoodBefore l at man ≡ ltb 1 file && eqb (manOn l (squareOf rank (file - 2))) man
+  unfolding stoodBefore
+  before-it = go (ltb 1 file) refl
+    where
+      go : (t : Bool) → ltb 1 file ≡ t → not (eqb (at % 8) 0) && eqb (manOn l (at - 1)) man ≡ t && eqb (manOn l (squareOf rank (file - 2))) man
+      go true e =
+          let more : 1 < file = ltb-true 1 file e in
+          let same : at - 1 ≡ squareOf rank (file - 2) = omega (arith, more) in
+          rw (ne-eqb (at % 8) 0 (λ z. omega (arith, more, k, z)), same)
+      go false e =
+          let first : file ≤ 1 = ltb-false 1 file e in
+          rw (eq-eqb (at % 8) 0 (omega (arith, first, h)))
+
+  behind-it : stoodBehind l at man ≡ ltb file 8 && eqb (manOn l (squareOf rank file)) man
+  unfolding stoodBehind
+  behind-it = go (ltb file 8) refl
+    where
+      go : (t : Bool) → ltb file 8 ≡ t → not (eqb (at % 8) 7) && eqb (manOn l (at + 1)) man ≡ t && eqb (manOn l (squareOf rank file)) man
+      go true e =
+          let fewer : file < 8 = ltb-true file 8 e in
+          let same : at + 1 ≡ squareOf rank file = omega (arith, h) in
+          rw (ne-eqb (at % 8) 7 (λ z. omega (arith, fewer, h, z)), same)
+      go false e =
+          let last : 8 ≤ file = ltb-false file 8 e in
+          rw (eq-eqb (at % 8) 7 (omega (arith, last, k)))
+
+pub usable-by-the-squares-beside : UsableByTheSquaresBeside
+unfolding usable steppedPawn
+usable-by-the-squares-beside l side file h k =
+    let there : eqb file 0 ≡ false = ne-eqb file 0 (λ z. omega (arith, z, h)) in
+    let rank = steppedRank side in
+    let own = ownPawn side in
+    rw there (ap₂ _||_ (before-it l rank own file h k) (behind-it l rank own file h k))
 
 pub none-stays : (l : List ℕ) (side : ℕ) → settledFile l side 0 ≡ 0
 unfolding settledFile usable

@@ -1,17 +1,29 @@
 -- What is promised about settled records, each as a statement that can be read by itself.
 -- Assumes nothing.
 use mathlib.Core.Path.{_≡_}
-use mathlib.Core.Bool.{true, false}
-use Prim.Native.Nat.{ℕ, zero, suc}
+use mathlib.Core.Bool.{Bool, true, false, _&&_, _||_}
+use mathlib.Core.List.{List}
+use Prim.Native.Nat.{ℕ, zero, suc, _-_, _≤_}
+use lib.Dec.{eqb, ltb}
 use Rattle.answer.specs.Answer.{outOfRange}
 use Rattle.square.specs.Piece.{manOn}
+use Rattle.square.specs.Square.{squareOf}
 use Rattle.board_builder.specs.declared.BoardBuilder.{BoardBuilder}
 use Rattle.board_builder.specs.declared.Stepped.{Stepped}
 use Rattle.board_builder.specs.BoardBuilder.{withCounters, inRange}
 use Rattle.board_builder.specs.Steps.{stepped}
 use Rattle.chess_move.specs.Number.{sourceOf, destOf}
 use Rattle.move_rules.specs.After.{rank, stepsTwice, boardAfter, afterAnswer}
-use Rattle.settled_rules.specs.Settled.{ownPawn, usable, withFile, settled, settledAnswer}
+use Rattle.settled_rules.specs.Settled.{steppedRank, ownPawn, usable, withFile, settled, settledAnswer}
+
+-- the rule by the squares looked at: on that rank, on "file f - 1 or f + 1" where there is such a file
+abbrev pub pawnBeside : List ℕ → ℕ → ℕ → Bool
+pawnBeside squares side file =
+    (ltb 1 file && eqb (manOn squares (squareOf (steppedRank side) (file - 2))) (ownPawn side))
+    || (ltb file 8 && eqb (manOn squares (squareOf (steppedRank side) file)) (ownPawn side))
+
+abbrev pub UsableByTheSquaresBeside : Type 0
+UsableByTheSquaresBeside = (squares : List ℕ) (side file : ℕ) → 1 ≤ file → file ≤ 8 → usable squares side file ≡ pawnBeside squares side file
 
 -- settling twice is settling once
 abbrev pub SettledIsSettled : Type 0
