@@ -4,6 +4,7 @@
  *   menkhodur_is_key(text)  1 if the text is its own key, else 0; never an error
  *   menkhodur_fault(text)   NULL, or what is wrong with the text as JSON: number, offset, reason
  *   menkhodur_version()     the version of the archive within
+ *   menkhodur_run(sql)      runs SQL that a query has made, for cure.sql; how many rows its last statement changed
  *
  * A value is read over its whole length in bytes, 0 bytes too. A blob is read by its bytes, but it is never a key: to SQLite a blob and
  * a text with the same bytes are two values, so that a table could hold both. Numbers are read as the text that SQLite makes of them.
@@ -73,20 +74,43 @@ static void sql_version(sqlite3_context *context, int count, sqlite3_value **val
     sqlite3_result_int64(context, (sqlite3_int64)menkhodur_version());
 }
 
+/* The plain shell runs no SQL that a query has made, and a script that asks the catalog which tables refer to `position` needs that. */
+static void sql_run(sqlite3_context *context, int count, sqlite3_value **values)
+{
+    sqlite3 *db = sqlite3_context_db_handle(context);
+    const char *sql = (const char *)sqlite3_value_text(values[0]);
+    char *error = NULL;
+    int status;
+    (void)count;
+    if (!sql) {
+        if (sqlite3_value_type(values[0]) != SQLITE_NULL) sqlite3_result_error_nomem(context);
+        return;
+    }
+    status = sqlite3_exec(db, sql, NULL, NULL, &error);
+    if (status == SQLITE_OK) {
+        sqlite3_result_int64(context, sqlite3_changes(db));
+    } else {
+        sqlite3_result_error(context, error ? error : sqlite3_errstr(status), -1);
+        sqlite3_result_error_code(context, status);
+    }
+    sqlite3_free(error);
+}
+
 int sqlite3_menkhodursqlite_init(sqlite3 *db, char **error, const sqlite3_api_routines *api);
 int sqlite3_menkhodursqlite_init(sqlite3 *db, char **error, const sqlite3_api_routines *api)
 {
+    enum { ANYWHERE = SQLITE_UTF8 | SQLITE_DETERMINISTIC | SQLITE_INNOCUOUS, TYPED = SQLITE_UTF8 | SQLITE_DIRECTONLY };
     static const struct {
         const char *name;
-        int arguments;
+        int arguments, flags;
         void (*call)(sqlite3_context *, int, sqlite3_value **);
     } functions[] = {
-        { "menkhodur_key", 1, sql_key },
-        { "menkhodur_is_key", 1, sql_is_key },
-        { "menkhodur_fault", 1, sql_fault },
-        { "menkhodur_version", 0, sql_version },
+        { "menkhodur_key", 1, ANYWHERE, sql_key },
+        { "menkhodur_is_key", 1, ANYWHERE, sql_is_key },
+        { "menkhodur_fault", 1, ANYWHERE, sql_fault },
+        { "menkhodur_version", 0, ANYWHERE, sql_version },
+        { "menkhodur_run", 1, TYPED, sql_run }, /* in no trigger, view or index: a database file that was sent runs nothing */
     };
-    const int flags = SQLITE_UTF8 | SQLITE_DETERMINISTIC | SQLITE_INNOCUOUS;
     int status = SQLITE_OK;
     char told[STORE_TOLD];
     SQLITE_EXTENSION_INIT2(api);
@@ -95,6 +119,6 @@ int sqlite3_menkhodursqlite_init(sqlite3 *db, char **error, const sqlite3_api_ro
         return SQLITE_ERROR;
     }
     for (unsigned i = 0; i < sizeof functions / sizeof *functions && status == SQLITE_OK; i++)
-        status = sqlite3_create_function_v2(db, functions[i].name, functions[i].arguments, flags, NULL, functions[i].call, NULL, NULL, NULL);
+        status = sqlite3_create_function_v2(db, functions[i].name, functions[i].arguments, functions[i].flags, NULL, functions[i].call, NULL, NULL, NULL);
     return status;
 }

@@ -1,12 +1,18 @@
 -- Shows what a store files under another name than its key, and changes nothing: the name, its right key, whether the key is filed too, how many
 -- places of games refer to the name, and, of a name that is no FEN text, what is wrong with it (such a name has no key).
 --
---     sqlite3 -readonly -cmd '.load menkhodur_sqlite' STORE <host/sqlite/second-names.sql
-SELECT n.fen AS name,
-       CASE WHEN menkhodur_fault(n.fen) IS NULL THEN menkhodur_key(n.fen) END AS key,
-       CASE WHEN menkhodur_fault(n.fen) IS NULL THEN EXISTS (SELECT 1 FROM position p WHERE p.fen = menkhodur_key(n.fen)) ELSE 0 END AS key_is_filed,
+--     sqlite3 -readonly -cmd '.load PREFIX/lib/menkhodur_sqlite' STORE <host/sqlite/second-names.sql
+.bail on
+SELECT 1 WHERE menkhodur_version() IS NULL;
+
+-- The rule, in this one place: the function that gives a text's right key.
+CREATE TEMP VIEW named AS SELECT fen, CASE WHEN menkhodur_fault(fen) IS NULL THEN menkhodur_key(fen) END AS key
+FROM (SELECT fen FROM position UNION SELECT fen FROM game_position);
+
+SELECT n.fen AS name, n.key,
+       n.key IS NOT NULL AND EXISTS (SELECT 1 FROM position p WHERE p.fen = n.key) AS key_is_filed,
        (SELECT count(*) FROM game_position g WHERE g.fen IS n.fen) AS places,
        menkhodur_fault(n.fen) AS fault
-FROM (SELECT fen FROM position UNION SELECT fen FROM game_position) n
-WHERE NOT menkhodur_is_key(n.fen)
-ORDER BY key, name;
+FROM named n
+WHERE n.key IS NULL OR n.key IS NOT n.fen
+ORDER BY n.key, n.fen;
