@@ -47,8 +47,8 @@ servers_begin() {
     # The programs are copies, since a server looks for its files from where its program lies; the files are links.
     cp "$system_bin/postgres" "$system_bin/initdb" "$system_bin/pg_ctl" "$bin" || exit 1
     for folder in "$("$pg_config" --pkglibdir)" "$("$pg_config" --sharedir)" "$("$pg_config" --sharedir)/extension"; do
-        mkdir -p "$work/root$folder" || exit 1
-        for file in "$folder"/*; do [ -e "$work/root$file" ] || [ "${file##*/}" = extension ] || ln -s "$file" "$work/root$file" || exit 1; done
+        # What the extension has put there stays, and ln says so.
+        mkdir -p "$work/root$folder" && { ln -s "$folder"/* "$work/root$folder" 2>/dev/null || :; }
     done
     PGUSER=store PGHOST=$work PGDATABASE=postgres PGPASSWORD=$(od -An -N16 -tx1 /dev/urandom | tr -d ' \n') PGOPTIONS='-c client_min_messages=warning'
     export PGUSER PGHOST PGDATABASE PGPASSWORD PGOPTIONS
@@ -57,10 +57,21 @@ servers_begin() {
     listen=
 }
 
-# Makes and starts server NUMBER; its port is then in port_NUMBER.
+# Makes and starts servers by their numbers; the port of NUMBER is then in port_NUMBER.
 server_make() {
-    as_owner "$bin/initdb" -N -D "$work/data$1" -U "$PGUSER" --pwfile="$work/password" --auth=scram-sha-256 --locale=C --encoding=UTF8 >"$work/log" 2>&1 ||
-        { cat "$work/log" >&2; die "initdb fails"; }
+    for made in "$@"; do
+        as_owner "$bin/initdb" -N -D "$work/data$made" -U "$PGUSER" --pwfile="$work/password" --auth=scram-sha-256 --locale=C --encoding=UTF8 \
+            >"$work/initdb$made" 2>&1 &
+    done
+    wait
+    for made in "$@"; do
+        [ -f "$work/data$made/PG_VERSION" ] || { cat "$work/initdb$made" >&2; die "initdb fails"; }
+        server_start_anywhere "$made"
+    done
+}
+
+# Starts server NUMBER at a port that is free.
+server_start_anywhere() {
     tries=0
     until server_start "$1" $((20000 + ($$ * 13 + $1 * 1009 + tries * 101) % 20000)); do
         grep -q 'in use' "$work/log$1" && [ "$tries" -lt 20 ] || { cat "$work/log$1" >&2; die "server $1 does not start"; }
