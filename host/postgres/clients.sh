@@ -122,3 +122,28 @@ stored_all() {
     for server in 0 1 2; do equal "positions as server $server sees them" "$all" "$(clerk $server -c 'SELECT count(*) FROM position')"; done
 }
 rate() { [ "$1" -lt 100000 ] || printf ', %d a second' $(($1 / $2)); }
+
+# ---- Single positions that no file has: a board with a king alone has one key per square
+
+kings() {
+    seq 0 63 | awk '{ f = $1 % 8; row = (f ? f : "") "K" (f < 7 ? 7 - f : ""); t = ""
+        for (r = 0; r < 8; r++) t = t (r ? "/" : "") (r == int($1 / 8) ? row : 8); print t " w - - 0 1" }' >"$work/kings"
+    on 0 -c 'CREATE TABLE king (fen fen_key)' -c "\\copy king from '$work/kings'" || exit 1
+}
+# The first of them that belongs into the partition and was not taken yet.
+king_in() {
+    on 0 -c "WITH k AS (SELECT fen FROM king WHERE satisfies_hash_partition('position'::regclass, $parts, $1, fen) LIMIT 1)
+        DELETE FROM king USING k WHERE king.fen = k.fen RETURNING king.fen"
+}
+# Keeps the rule, one partition in each transaction, and offers again what was refused.
+file() { # server, keys
+    to=$1
+    shift
+    for key in "$@"; do
+        tries=0
+        until clerk "$to" -c "INSERT INTO position VALUES ('$key') ON CONFLICT DO NOTHING" 2>>"$work/file.refused"; do
+            tries=$((tries + 1))
+            [ $tries -lt 5 ] || die "the key is never accepted: $(cat "$work/file.refused")"
+        done
+    done
+}
