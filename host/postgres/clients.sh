@@ -8,6 +8,7 @@
 
 equal() { [ "$2" = "$3" ] || die "$1: expected '$2', got '$3'"; }
 now() { date +%s; }
+milliseconds() { date +%s%3N; }
 sequence() { seq 0 $((parts - 1)); }
 
 # The positions to file, different keys, one per line: of a file, or some thousand.
@@ -21,15 +22,19 @@ positions_of() {
     [ -r "$positions" ] || die "$positions cannot be read"
 }
 
-store_make() {
-    clerk=$(od -An -N16 -tx1 /dev/urandom | tr -d ' \n')
+store_layout() { # role that is made and given the store
     for server in 0 1 2; do
-        on $server -c 'CREATE DATABASE store' -c "CREATE ROLE clerk LOGIN PASSWORD '$clerk'" || exit 1
+        on $server -c "CREATE ROLE $1 LOGIN PASSWORD '$secret'" || exit 1
         host/postgres/layout $server "$parts" 127.0.0.1:"$port_0" 127.0.0.1:"$port_1" 127.0.0.1:"$port_2" >"$work/layout.sql" || exit 1
-        on $server -d store -v user="$PGUSER" -v password="$PGPASSWORD" -v role=clerk -v role_password="$clerk" -f "$work/layout.sql" ||
+        on $server -v user="$PGUSER" -v password="$PGPASSWORD" -v role="$1" -v role_password="$secret" -f "$work/layout.sql" ||
             die "the layout of server $server is refused"
     done
+}
+store_make() {
+    for server in 0 1 2; do on $server -c 'CREATE DATABASE store' || exit 1; done
     PGDATABASE=store
+    secret=$(od -An -N16 -tx1 /dev/urandom | tr -d ' \n')
+    store_layout clerk
     sort -u "$positions" >"$work/offered"
     all=$(wc -l <"$work/offered")
     equal 'different positions' "$all" "$(wc -l <"$positions")"
@@ -37,11 +42,11 @@ store_make() {
     for client in 0 1 2 3; do : >"$work/accepted$client" && : >"$work/told$client" && : >"$work/errors$client"; done
 }
 
-# psql on server NUMBER as the clerk; with & behind it, $! is psql itself, or what `limit` puts before it.
+# psql on server NUMBER as the clerk, or as `who`; with & behind it, $! is psql itself, or what `limit` puts before it.
 clerk_on() {
     eval "port=\$port_$1"
     shift
-    PGUSER=clerk PGPASSWORD=$clerk PGPORT=$port exec ${limit-} "$system_bin/psql" -XqAt -v VERBOSITY=verbose "$@"
+    PGUSER=${who:-clerk} PGPASSWORD=$secret PGPORT=$port exec ${limit-} "$system_bin/psql" -XqAt -v VERBOSITY=verbose "$@"
 }
 clerk() { (clerk_on "$@"); }
 

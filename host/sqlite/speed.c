@@ -9,10 +9,9 @@
 
 enum { ROOM = 128, TRANSACTION = 10000, SINGLE = 5000 };
 
-static const char *const tables[2] = {
-    "CREATE TABLE position (fen TEXT PRIMARY KEY NOT NULL) WITHOUT ROWID",
-    "CREATE TABLE position (fen TEXT PRIMARY KEY NOT NULL, CONSTRAINT one_name CHECK (menkhodur_is_key(fen))) WITHOUT ROWID",
-};
+/* Without the check, and as host/sqlite/store.sql has it, which is read. */
+static char store[8192];
+static const char *const tables[2] = { "CREATE TABLE position (fen TEXT PRIMARY KEY NOT NULL) WITHOUT ROWID", store };
 static char *lines;
 static unsigned count;
 
@@ -66,7 +65,7 @@ static void file_lines(sqlite3 *db, const char *table, unsigned most, unsigned e
     struct times start;
     must(sqlite3_exec(db, table, NULL, NULL, NULL), db);
     start = begin();
-    must(sqlite3_prepare_v2(db, "INSERT OR IGNORE INTO position VALUES (?)", -1, &insert, NULL), db);
+    must(sqlite3_prepare_v2(db, "INSERT INTO position VALUES (?) ON CONFLICT DO NOTHING", -1, &insert, NULL), db);
     for (unsigned i = 0; i < most; i++) {
         if (i % each == 0) must(sqlite3_exec(db, "BEGIN", NULL, NULL, NULL), db);
         must(sqlite3_bind_text(insert, 1, lines + (size_t)i * ROOM, -1, SQLITE_STATIC), db);
@@ -106,6 +105,14 @@ static void read_lines(const char *file)
     fclose(f);
 }
 
+static void read_store(const char *file)
+{
+    FILE *f = fopen(file, "r");
+    if (!f) exit((perror(file), 1));
+    store[fread(store, 1, sizeof store - 1, f)] = 0;
+    fclose(f);
+}
+
 static void tell(const char *by, double without, double with)
 {
     printf("%u positions filed, %s: %.3f s without the check, %.3f s with it, %.3f times; %.0f and %.0f a second\n", count, by, without, with,
@@ -117,8 +124,9 @@ int main(int arguments, char **argument)
     static const char *const queries[3] = { "SELECT count(length(fen)) FROM position", "SELECT count(menkhodur_key(fen)) FROM position",
                                             "SELECT count(menkhodur_is_key(fen)) FROM position" };
     struct times filed[2] = { 0 }, asked[3] = { 0 }, alone = { 0 };
-    if (arguments != 5) return 2;
+    if (arguments != 6) return 2;
     read_lines(argument[3]);
+    read_store(argument[5]);
     for (int round = 0, rounds = atoi(argument[4]); round < rounds; round++) {
         for (int with = 0; with < 2; with++) {
             sqlite3 *db = open_new(argument[2], argument[1]);
