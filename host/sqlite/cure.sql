@@ -167,16 +167,18 @@ WHERE m.root IS NULL AND NOT c.generated AND c.type NOT LIKE '%INT%' AND c.type 
 INSERT INTO refusal SELECT printf('%s.%s holds %d second names, and no foreign key says that it refers to position: ', tab, name, n) ||
     printf(':also %s.%s moves them, :leave %s.%s keeps them', tab, name, tab, name) FROM counted WHERE what = 'unknown' AND n > 0;
 
--- The triggers of store.sql, on the two tables that have a rule of their own.
-CREATE TEMP TABLE guard AS SELECT g.name, c.tab, r.is_key, printf('CREATE TRIGGER "%w" BEFORE %s ON "%w" WHEN %sNOT %s(NEW.fen)
-BEGIN SELECT RAISE(ABORT, ''one_name: not the key of its position''); END', g.name, g.clause, c.tab,
-    iif(g.tab = 'position' OR c.filled, '', 'NEW.fen IS NOT NULL AND '), r.is_key) AS sql
+-- The triggers of store.sql, on the two tables that have a rule of their own. One that an earlier script has left, with another text, is made anew.
+CREATE TEMP TABLE guard AS SELECT g.name, g.tab, s.type, s.sql AS before, s.tbl_name = g.tab COLLATE NOCASE AS on_it,
+    printf('CREATE TRIGGER %s BEFORE %s ON %s WHEN %sNOT %s(NEW.fen)
+BEGIN SELECT RAISE(ABORT, ''one_name: not the key of its position''); END', g.name, g.clause, g.tab,
+        iif(g.tab = 'position' OR c.filled, '', 'NEW.fen IS NOT NULL AND '), r.is_key) AS sql
 FROM rule r, (SELECT 'position' AS tab, 'one_name_insert' AS name, 'INSERT' AS clause UNION ALL SELECT 'position', 'one_name_update', 'UPDATE OF fen'
     UNION ALL SELECT 'game_position', 'game_position_one_name_insert', 'INSERT'
-    UNION ALL SELECT 'game_position', 'game_position_one_name_update', 'UPDATE OF fen') g JOIN col c ON c.tab = g.tab AND c.name = 'fen';
-INSERT INTO refusal SELECT g.name || ' is there and is no trigger of this store' FROM guard g JOIN main.sqlite_schema s ON s.name = g.name COLLATE NOCASE
-WHERE s.type <> 'trigger' OR s.tbl_name <> g.tab COLLATE NOCASE OR s.sql NOT LIKE '%NOT ' || g.is_key || '(NEW.fen)%RAISE(ABORT%';
-DELETE FROM guard WHERE EXISTS (SELECT 1 FROM main.sqlite_schema s WHERE s.name = guard.name COLLATE NOCASE);
+    UNION ALL SELECT 'game_position', 'game_position_one_name_update', 'UPDATE OF fen') g
+    JOIN col c ON c.tab = g.tab AND c.name = 'fen' LEFT JOIN main.sqlite_schema s ON s.name = g.name COLLATE NOCASE;
+INSERT INTO refusal SELECT name || ' is there and is no trigger of this store' FROM guard
+WHERE type <> 'trigger' OR NOT on_it OR before NOT LIKE '%(NEW.fen)%RAISE(ABORT, ''one_name: %';
+DELETE FROM guard WHERE before = sql;
 
 -- ---- What it comes to
 
@@ -205,15 +207,19 @@ WHERE t.what = 'rows' GROUP BY 1, 2, 3;
 CREATE TEMP TABLE broken_before AS SELECT * FROM broken WHERE :do IS 'it';
 
 CREATE TEMP TABLE step (number INTEGER PRIMARY KEY, sql TEXT);
-INSERT INTO step (sql) SELECT printf('UPDATE OR ABORT main."%w" AS x SET "%w" = %s WHERE %s', tab, name, value, moves) FROM mapped WHERE root IS NOT NULL;
-INSERT INTO step (sql) SELECT 'CREATE TEMP TABLE carried AS SELECT w.kept AS fen' || group_concat(printf(', x."%w" AS f%d', name, n), '') ||
+INSERT INTO step (sql) SELECT 'DROP TRIGGER main.' || name FROM guard WHERE before IS NOT NULL;
+INSERT INTO step (sql) SELECT printf('UPDATE OR ABORT main."%w" AS x SET "%w" = %s WHERE %s', tab, name, value, moves)
+FROM mapped WHERE root IS NOT NULL AND tab <> 'position';
+INSERT INTO step (sql) SELECT 'CREATE TEMP TABLE carried AS SELECT w.key AS fen' || group_concat(printf(', x."%w" AS f%d', name, n), '') ||
     ' FROM temp.winner w JOIN main.position x ON x.fen = w.fen WHERE w.fen IS NOT w.kept' FROM further HAVING count(*) > 0;
 INSERT INTO step (sql) SELECT 'DELETE FROM main.position WHERE fen IN (SELECT fen FROM temp.second WHERE filed AND fen IS NOT kept)';
+INSERT INTO step (sql) SELECT 'UPDATE OR ABORT main.position SET fen = (SELECT s.key FROM temp.second s WHERE s.fen = position.fen)
+    WHERE fen IN (SELECT fen FROM temp.second WHERE filed AND fen IS kept)';
 INSERT INTO step (sql) SELECT printf('UPDATE OR ABORT main.position SET (%s) = (SELECT %s FROM temp.carried c WHERE c.fen = position.fen)
     WHERE fen IN (SELECT fen FROM temp.carried)', group_concat(printf('"%w"', name), ', '), group_concat(printf('f%d', n), ', '))
 FROM further HAVING count(*) > 0;
-INSERT INTO step (sql) SELECT 'UPDATE OR ABORT main.position SET fen = (SELECT s.key FROM temp.second s WHERE s.fen = position.fen)
-    WHERE fen IN (SELECT fen FROM temp.second WHERE filed AND fen IS kept)';
+INSERT INTO step (sql) SELECT printf('UPDATE OR ABORT main.position AS x SET "%w" = %s WHERE %s', name, value, moves)
+FROM mapped WHERE root IS NOT NULL AND tab = 'position';
 INSERT INTO step (sql) SELECT sql FROM guard;
 INSERT INTO ran SELECT menkhodur_run(sql) FROM step WHERE :do IS 'it' ORDER BY number;
 
