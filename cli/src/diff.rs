@@ -94,8 +94,12 @@ fn named(difference: &Difference) -> [String; 3] {
 }
 
 fn man(man: Option<(Piece, Color)>) -> String {
+    man.map_or("nothing".to_string(), |(piece, color)| man_name(piece, color))
+}
+
+pub fn man_name(piece: Piece, color: Color) -> String {
     const NAMES: [&str; 6] = ["pawn", "knight", "bishop", "rook", "queen", "king"];
-    man.map_or("nothing".to_string(), |(piece, color)| format!("{color} {}", NAMES[piece.to_index()]))
+    format!("{color} {}", NAMES[piece.to_index()])
 }
 
 fn rights(rights: CastleRights) -> String {

@@ -1,6 +1,6 @@
 //! `menkhodur explain`: what a FEN text says, why and where it is refused, and what the PGN standard would not have.
 
-use crate::input::{self, LONGEST, Lines, Place};
+use crate::input::{self, Lines, Place};
 use crate::json::{self, Object};
 use crate::options::{Asked, Flag, Status, Stop};
 use crate::output::Output;
@@ -59,7 +59,7 @@ impl Lines for Explain {
         self.found();
         let told = match self.form.json {
             true => Object::new().raw("line", place.line).raw("accepted", false).raw("long", true).end(),
-            false => format!("line {}: refused: the line has more than {LONGEST} bytes", place.line),
+            false => format!("line {}: refused: {}", place.line, input::too_long()),
         };
         self.output.put(told.as_bytes())?;
         self.output.put(b"\n")

@@ -12,7 +12,12 @@ use std::os::unix::ffi::OsStrExt;
 const ROOM: usize = 131_072;
 
 /// The most bytes that a line has.
-pub const LONGEST: usize = ROOM - 1;
+const LONGEST: usize = ROOM - 1;
+
+/// What is wrong with a line that has more.
+pub fn too_long() -> String {
+    format!("the line has more than {LONGEST} bytes")
+}
 
 /// Where lines stand: the input's name, as it was given, and the number of the first of them, from 1.
 #[derive(Clone, Copy)]
@@ -42,12 +47,16 @@ pub trait Lines {
 /// Hands on the lines of the inputs named, or of standard input if none is. `whole` is false from the first input on that was not read to
 /// its end.
 pub fn read(words: &[OsString], lines: &mut impl Lines, whole: &mut bool) -> Result<(), Stop> {
-    let standard = [OsString::from("-")];
     let mut room = vec![0; ROOM];
-    for word in if words.is_empty() { &standard } else { words } {
-        *whole &= read_input(word, &mut room, lines)?;
+    for word in named(words) {
+        *whole &= read_input(&word, &mut room, lines)?;
     }
     Ok(())
+}
+
+/// The inputs that words name: standard input if there is no word.
+pub fn named(words: &[OsString]) -> Vec<OsString> {
+    if words.is_empty() { vec!["-".into()] } else { words.to_vec() }
 }
 
 /// The file that a word names; `-` is standard input.

@@ -1,6 +1,6 @@
 //! `menkhodur keys`: the key of each line, or what is wrong with it; with `--check`, the lines that are not their own keys.
 
-use crate::input::{self, LONGEST, Lines, Place};
+use crate::input::{self, Lines, Place};
 use crate::json::Object;
 use crate::judged::{Judged, Judges};
 use crate::options::{Asked, Flag, Status, Stop};
@@ -70,10 +70,10 @@ impl Tally {
 
     /// The last line of standard error; scripts may read it.
     fn shown(&self, check: bool) -> String {
-        let lines = told::counted(self.lines(), "line");
         match check {
-            false => format!("{lines}, {} accepted, {} refused", self.accepted, self.refused),
+            false => told::tallied(self.accepted, self.refused, "line"),
             true => {
+                let lines = told::counted(self.lines(), "line");
                 let (keys, names) = (told::counted(self.accepted, "key"), told::counted(self.renamed, "second name"));
                 format!("{lines}, {keys}, {names}, {} refused", self.refused)
             }
@@ -270,7 +270,7 @@ fn checked(place: Place<'_>, line: &[u8], said: Said<'_>, made: &mut Vec<u8>) {
         Said::Key(_) => {}
         Said::Refused(refused) => made.extend(format!(" {}", refused.meaning()).bytes()),
         Said::Odd(warning) => made.extend(format!(": {}", warning.oddity).bytes()),
-        Said::Long => made.extend(format!(" the line has more than {LONGEST} bytes").bytes()),
+        Said::Long => made.extend(format!(" {}", input::too_long()).bytes()),
     }
 }
 
@@ -286,7 +286,7 @@ fn object(place: Place<'_>, line: &[u8], said: Said<'_>) -> String {
             let object = object.bytes("text", line).text("strict", warning.oddity.name()).raw("offset", warning.offset);
             object.text("reason", &warning.oddity.to_string())
         }
-        Said::Long => object.raw("long", true).text("reason", &format!("the line has more than {LONGEST} bytes")),
+        Said::Long => object.raw("long", true).text("reason", &input::too_long()),
     }
     .end()
 }

@@ -79,9 +79,8 @@ impl<T: Copy + Default> Output<T> {
             Err(Stop::Closed(status)) => return Ok(if whole { status } else { Status::Trouble }),
         };
         let (words, status) = shown(tally);
-        let incomplete = if whole { "" } else { "; input incomplete" };
         let cut = if failed { format!("; output incomplete: these {what} were written whole") } else { String::new() };
-        told::tell(&[words.as_bytes(), incomplete.as_bytes(), cut.as_bytes()]);
+        told::tell(&[words.as_bytes(), told::incomplete(whole).as_bytes(), cut.as_bytes()]);
         Ok(if whole && !failed { status } else { Status::Trouble })
     }
 

@@ -74,7 +74,7 @@ impl Tally {
     }
 
     fn shown(&self) -> String {
-        format!("{}, {} accepted, {} refused", told::counted(self.games(), "game"), self.accepted, self.refused)
+        told::tallied(self.accepted, self.refused, "game")
     }
 
     fn status(&self) -> Status {

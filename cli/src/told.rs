@@ -20,6 +20,16 @@ pub fn counted(count: u64, what: &str) -> String {
     format!("{count} {what}{}", if count == 1 { "" } else { "s" })
 }
 
+/// "2 lines, 1 accepted, 1 refused": what the last line of standard error begins with, where a command counts.
+pub fn tallied(accepted: u64, refused: u64, what: &str) -> String {
+    format!("{}, {accepted} accepted, {refused} refused", counted(accepted + refused, what))
+}
+
+/// How it goes on.
+pub fn incomplete(whole: bool) -> &'static str {
+    if whole { "" } else { "; input incomplete" }
+}
+
 /// Bytes as a terminal should be given them: control characters, and what is not UTF-8, as `\xNN`.
 pub fn visible(bytes: &[u8]) -> String {
     let hex = |bytes: &[u8]| bytes.iter().map(|byte| format!("\\x{byte:02x}")).collect::<String>();
