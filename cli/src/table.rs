@@ -2,10 +2,10 @@
 //! module of its own.
 
 use crate::options::{Argument, Command, Example, Flag, Takes};
-use crate::{completion, diff, explain, help, keys, man, pgn, roll, ruling, show};
+use crate::{completion, diff, explain, help, keys, man, pgn, report, roll, ruling, show};
 use std::ffi::OsStr;
 
-pub const ABOUT: &str = "FEN keys, explanations, PGN games, rulings, stored logs, rolls, and what differs between games";
+pub const ABOUT: &str = "FEN keys, explanations and reports, PGN games, rulings, stored logs, rolls, and what differs between games";
 
 pub const TEXT: &[&str] = &[
     "A chess archive files each position once, under its FEN text. Every judgement of this program, keys, numbers, offsets, names and \
@@ -117,6 +117,47 @@ pub const COMMANDS: &[Command] = &[
             },
         ],
         run: explain::run,
+    },
+    Command {
+        name: "report",
+        about: "what is counted over FEN texts: accepted and refused lines, men of each kind, repeated positions",
+        forms: &[&[Argument {
+            name: "FILE",
+            takes: Takes::File,
+            least: 0,
+            most: None,
+            about: "FEN texts, one per line; standard input if none is named",
+        }]],
+        flags: &[report::JSON],
+        text: &[
+            "Prints how many lines were accepted and refused; how many repeat an earlier one; and how many men of each kind stand on the boards of \
+             the accepted lines, with their share of all men. Where several files are named, or one was not read to its end, each has a row of its \
+             own too. Nothing is printed before all is read.",
+            "Repeats are counted in two ways. In pages: the archive reports on pages of 4096 lines, each of one file, and an accepted line is counted \
+             if an earlier one of its page has its position. Over all: by their keys, if an earlier one of any page and file has its position. \
+             Counters and spellings do not matter, as in a key; three equal lines are two repeats.",
+            "Then come the refused lines: of each kind its number as `menkhodur keys` has it, or long for lines of more than 131071 bytes, how many \
+             there are, and the first one's file, line and offset, the bytes of the line counted from 0.",
+            "On a terminal there is a bar for each kind of men, made of blocks if the locale (LC_ALL, LC_CTYPE or LANG) has UTF-8, and control \
+             characters in the names of files, and bytes that are not UTF-8, are shown as \\xNN.",
+            "An empty line is a text like any other, and a carriage return is part of its line. A last line without a newline counts if it has a \
+             byte; one cut short by a failed read does not. The last line of standard error counts the lines.",
+            "Every different position is kept until the end, in 40 to 80 bytes: ten million take about 600 MB. If there is no memory for more, \
+             repeats over all are not counted, which is said, and everything else is.",
+            "The object of --json has lines, accepted, refused, repeated_within_pages, repeated (over all; null if it was not counted), men (white_pawn \
+             to black_king), refusals, each with number, or long, then count, file, line, offset and reason, files, each with file, the same five \
+             counts and complete, and complete: whether all files were read to their ends.",
+        ],
+        statuses: &["no line was refused", "some line was"],
+        trouble: "no memory for all positions, or for a page",
+        examples: &[
+            Example { command: "menkhodur report examples/few.fen", about: "five lines, of which one is a repeat and one is refused" },
+            Example {
+                command: "menkhodur report --json evening/*.fen >evening.json",
+                about: "the figures of an evening for another program",
+            },
+        ],
+        run: report::run,
     },
     Command {
         name: "pgn",
