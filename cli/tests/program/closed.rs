@@ -1,6 +1,7 @@
 //! Standard streams that are not open, by the words: trouble where they are written or read, and nowhere else.
 
 use crate::common::{EMPTY, Folder, Ran, empty_position, program};
+use crate::figures::{self, File};
 use crate::games::{Game, old_roll, roll};
 use std::fs;
 use std::process::Command;
@@ -40,6 +41,8 @@ fn standard_output_that_is_not_open_is_trouble_in_every_command_that_writes() {
         &["keys", fens][..],
         &["keys", "--check", fens],
         &["keys", "--json", "--strict", "--crlf", fens],
+        &["report"],
+        &["report", "--json", fens],
         &["explain", EMPTY],
         &["explain", "-"],
         &["pgn", pgn],
@@ -99,9 +102,16 @@ fn standard_input_that_is_not_open_is_trouble_where_it_is_read() {
     }
     assert!(!fs::exists(new).unwrap());
     // Commands that count go on with the next file.
+    let read = figures::keys(EMPTY);
     for (words, out, counted) in [
         (&["keys"][..], "", "0 lines, 0 accepted, 0 refused"),
         (&["keys", "-", fens], EMPTY, "1 line, 1 accepted, 0 refused"),
+        (&["report", "--json"], figures::owed(&[File("-", &[], false)]).trim_end(), "0 lines, 0 accepted, 0 refused"),
+        (
+            &["report", "--json", "-", fens],
+            figures::owed(&[File("-", &[], false), File(fens, &read, true)]).trim_end(),
+            "1 line, 1 accepted, 0 refused",
+        ),
         (&["pgn"], "", "0 games, 0 accepted, 0 refused"),
         (&["pgn", "-", pgn], &format!("{pgn}: 1 1 1 0 *"), "1 game, 1 accepted, 0 refused"),
     ] {
@@ -109,7 +119,7 @@ fn standard_input_that_is_not_open_is_trouble_where_it_is_read() {
         let err = format!("menkhodur: standard input: it is not open\nmenkhodur: {counted}; input incomplete\n");
         assert_eq!((ran.text().trim_end(), ran.err.as_str(), ran.status), (out, err.as_str(), 2), "{words:?}");
     }
-    for words in [&["keys", fens][..], &["explain", EMPTY], &["pgn", pgn], &["show", a, p], &["diff", roll, roll]] {
+    for words in [&["keys", fens][..], &["report", fens], &["explain", EMPTY], &["pgn", pgn], &["show", a, p], &["diff", roll, roll]] {
         assert_eq!(redirected(words, "<&-"), redirected(words, "</dev/null"), "{words:?}");
         assert_eq!(redirected(words, "<&-").status, 0, "{words:?}");
     }

@@ -4,7 +4,8 @@ use crate::common::{Folder, expect, run};
 use menkhodur::lent::{ACTION_BYTES, POSITION_BYTES};
 use std::process::Command;
 
-const COMMANDS: [&str; 11] = ["keys", "explain", "pgn", "ruling", "show", "diff", "roll", "roll upgrade", "completion", "man", "help"];
+const COMMANDS: [&str; 12] =
+    ["keys", "explain", "report", "pgn", "ruling", "show", "diff", "roll", "roll upgrade", "completion", "man", "help"];
 
 /// Words behind those of a command.
 fn words<'a>(command: &'a str, more: &[&'a str]) -> Vec<&'a str> {
@@ -14,13 +15,14 @@ fn words<'a>(command: &'a str, more: &[&'a str]) -> Vec<&'a str> {
 #[test]
 fn what_is_not_known_is_trouble_and_named() {
     for (words, told) in [
-        (vec![], "a command is needed: keys, explain, pgn, ruling, show, diff, roll, completion, man, help; see menkhodur --help"),
+        (vec![], "a command is needed: keys, explain, report, pgn, ruling, show, diff, roll, completion, man, help; see menkhodur --help"),
         (vec!["nope"], "unknown command nope; see menkhodur --help"),
         (vec!["--nope"], "unknown option --nope; see menkhodur --help"),
         (vec!["keys", "--nope"], "unknown option --nope; see menkhodur keys --help"),
         (vec!["keys", "-x"], "unknown option -x; see menkhodur keys --help"),
         (vec!["keys", "--check=1"], "no value is allowed for --check; see menkhodur keys --help"),
         (vec!["keys", "--at", "1"], "unknown option --at; see menkhodur keys --help"),
+        (vec!["report", "--check"], "unknown option --check; see menkhodur report --help"),
         (vec!["explain"], "missing FEN; see menkhodur explain --help"),
         (vec!["ruling"], "missing ACTIONS; see menkhodur ruling --help"),
         (vec!["ruling", "a"], "missing POSITIONS; see menkhodur ruling --help"),
@@ -76,6 +78,7 @@ fn help_says_what_trouble_is() {
         "an option, a file that could not be read to its end, standard input or output that is needed and not open, or a write that failed";
     for (command, here) in [
         ("keys", ""),
+        ("report", "no memory for all positions, or for a page; "),
         ("ruling", "a log that is not good (with --at: up to N), or that has fewer actions than N; "),
         ("show", "a log that is not good; a roll that is refused, 5, 13 or 17 "),
         ("diff", "a roll that is refused; "),
@@ -154,6 +157,9 @@ fn bash_completes_commands_options_and_words() {
     for (words, owed) in [
         (&["menkhodur", "k"][..], &["keys"][..]),
         (&["menkhodur", "keys", "--c"], &["--check", "--crlf"]),
+        (&["menkhodur", "rep"], &["report"]),
+        (&["menkhodur", "report", "--j"], &["--json"]),
+        (&["menkhodur", "report", "g"], &["game.roll"]),
         (&["menkhodur", "ruling", "--a"], &["--at"]),
         (&["menkhodur", "completion", "z"], &["zsh"]),
         (&["menkhodur", "explain", "--j"], &["--json"]),

@@ -1,6 +1,7 @@
 //! Inputs that fail, outputs that fail, pipes that are slow or closed, and a terminal that looks on.
 
 use crate::common::{EMPTY, Folder, Ran, empty_position, program};
+use crate::figures;
 use std::ffi::{CStr, c_char, c_int};
 use std::fs::{self, File};
 use std::io::{BufRead, BufReader, Read, Write};
@@ -36,6 +37,10 @@ fn a_line_that_a_failed_read_cut_is_dropped_and_the_next_file_is_read() {
         assert_eq!((ran.text(), ran.err.as_str(), ran.status), (format!("{EMPTY}\n{other}\n").as_str(), told.as_str(), 2));
         let ran = cut(program().args(["keys", "--check", "-"]), text);
         assert_eq!((ran.text(), ran.status), (format!("-:1:  w - - -> {EMPTY}\n").as_str(), 2));
+        let ran = cut(program().args(["report", "--json", "-", &file]), text);
+        let (standard, other) = (figures::keys(&text[..7]), figures::keys(" w - e3"));
+        let owed = figures::owed(&[figures::File("-", &standard, false), figures::File(&file, &other, true)]);
+        assert_eq!((ran.text(), ran.err.as_str(), ran.status), (owed.as_str(), told.as_str(), 2));
         let ran = cut(program().args(["explain", "-"]), text);
         assert_eq!((ran.text().matches("line ").count(), ran.err, ran.status), (1, format!("{FAILED}{dropped}\n"), 2));
     }
@@ -65,7 +70,16 @@ fn a_full_device_is_trouble_and_nothing_is_counted() {
         "menkhodur: /none: No such file or directory\n{full_device}menkhodur: 0 lines, 0 accepted, 0 refused; input incomplete{incomplete}"
     );
     assert_eq!((ran.err, ran.status), (told, 2));
-    for words in [&["explain", " w - -"][..], &["--help"], &["keys", "--help"], &["--version"], &["man"], &["completion", "fish"]] {
+    for words in [
+        &["explain", " w - -"][..],
+        &["report"],
+        &["report", "--json", "/dev/null"],
+        &["--help"],
+        &["keys", "--help"],
+        &["--version"],
+        &["man"],
+        &["completion", "fish"],
+    ] {
         assert_eq!(full(words, ""), Ran { out: vec![], err: full_device.to_string(), status: 2 }, "{words:?}");
     }
     let folder = Folder::new();
@@ -75,7 +89,6 @@ fn a_full_device_is_trouble_and_nothing_is_counted() {
     }
 }
 
-// 5,000 lines, every third refused, and room for some of them.
 #[test]
 fn a_game_that_was_not_read_or_written_whole_is_not_counted() {
     let ran = cut(program().args(["pgn"]), "1. e4 *\n1. d4 d5\n");
@@ -88,6 +101,7 @@ fn a_game_that_was_not_read_or_written_whole_is_not_counted() {
     assert_eq!((ran.err.as_str(), ran.status), (told, 2));
 }
 
+// 5,000 lines, every third refused, and room for some of them.
 #[test]
 fn of_a_file_that_may_not_grow_only_whole_lines_are_counted() {
     let folder = Folder::new();
@@ -106,11 +120,11 @@ fn of_a_file_that_may_not_grow_only_whole_lines_are_counted() {
 }
 
 /// Reads one line of output, or fails when it takes too long.
-fn next_line(from: &mpsc::Receiver<String>) -> String {
+pub fn next_line(from: &mpsc::Receiver<String>) -> String {
     from.recv_timeout(PATIENCE).expect("an answer before the next line is sent")
 }
 
-fn lines_of(from: impl Read + Send + 'static) -> mpsc::Receiver<String> {
+pub fn lines_of(from: impl Read + Send + 'static) -> mpsc::Receiver<String> {
     let (to, lines) = mpsc::channel();
     thread::spawn(move || {
         for line in BufReader::new(from).lines() {
@@ -189,7 +203,7 @@ unsafe extern "C" {
 }
 
 /// A terminal: its own side, and the one that a program is given.
-fn terminal() -> (File, File) {
+pub fn terminal() -> (File, File) {
     const READ_WRITE: c_int = 2;
     let fd = posix_openpt(READ_WRITE);
     assert!(fd >= 0 && grantpt(fd) == 0 && unlockpt(fd) == 0);
@@ -226,13 +240,18 @@ fn progress_is_told_on_a_terminal_and_only_there() {
 }
 
 /// What a command writes to a terminal, line by line.
-fn seen(words: &[&str]) -> Vec<String> {
+pub fn seen_by(command: &mut Command) -> Vec<String> {
     let (own, given) = terminal();
-    let mut child = program().args(words).stdin(Stdio::null()).stdout(given).stderr(Stdio::null()).spawn().unwrap();
+    let mut child = command.stdin(Stdio::null()).stdout(given).stderr(Stdio::null()).spawn().unwrap();
+    // The terminal gives an error, no end, once nobody has it any more, and a command keeps what it was given.
+    command.stdout(Stdio::null());
     let from = lines_of(own);
     child.wait().unwrap();
-    // The terminal gives an error, no end, once nobody has it any more.
     from.iter().map(|line| line.trim_end_matches('\r').to_string()).collect()
+}
+
+fn seen(words: &[&str]) -> Vec<String> {
+    seen_by(program().args(words))
 }
 
 #[test]
