@@ -194,7 +194,9 @@ fn a_refused_report_has_its_lines_alone_or_nothing() {
     assert_eq!((judged, figures), ([0, 3], [2, 1, 4, 0, 0, 0, 0, 0, 0, 0, 0, 0, 0, 2, 1]));
     assert_eq!((numbers, records[56..59].to_vec(), records[204]), (vec![0, 0, 19, 0, 0, 0, 9], vec![1, 1, 12], 0xA5));
     for (bytes, told) in [(203, 6), (204, 5), (0, 0)] {
-        assert_eq!(report(text, bytes, told), ([7, 3], [0; 15], vec![0xA5; bytes], vec![9; told]));
+        for text in [&text[..], b"\n\n\n"] {
+            assert_eq!(report(text, bytes, told), ([7, 3], [0; 15], vec![0xA5; bytes], vec![9; told]));
+        }
     }
     // More than 4,096 lines: not even their number, in rooms that fit and in none.
     for (bytes, told) in [(68 * 4_097, 2 * 4_097), (0, 0)] {

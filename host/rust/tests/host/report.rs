@@ -175,7 +175,10 @@ fn the_most_lines() {
     let equal = vec![different[0].clone(); REPORT_LINES];
     let twice = different.iter().chain(&different).take(REPORT_LINES + REPORT_LINES / 2).skip(REPORT_LINES / 2).cloned().collect();
     let empty = vec![Line { text: b"\n".to_vec(), record: [0; 68], told: [18, 0] }; REPORT_LINES];
-    for mut lines in [different, equal, twice, empty] {
+    // 262,144 of one kind, the most that there can be.
+    let kings = std::array::from_fn(|at| if at < 64 { 12 } else { 0 });
+    let full = (0..REPORT_LINES).map(|_| spelt(kings, &mut numbers)).collect();
+    for mut lines in [different, equal, twice, empty, full] {
         let rooms = [PAGE_RECORD, PAGE_NUMBERS].map(|size| size * lines.len());
         is_answered(&lines, rooms);
         is_answered(&lines, [rooms[0], rooms[1] - 1]);
