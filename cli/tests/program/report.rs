@@ -113,6 +113,44 @@ fn positions_of_games_by_the_letters_of_their_texts() {
     is_reported(&[&first[..], &second, &first].concat());
 }
 
+/// What `menkhodur keys` says of a line.
+fn as_key(told: &str) -> Line {
+    let refused = |kind, offset: &str| line("", Refused(kind, offset.parse().unwrap()));
+    match told.split(' ').collect::<Vec<_>>()[..] {
+        ["!", "18", offset] => refused(Kind::TooFew, offset),
+        ["!", "19", offset] => refused(Kind::BadPlacement, offset),
+        ["!", "20", offset] => refused(Kind::BadSide, offset),
+        _ => keys(told).remove(0),
+    }
+}
+
+// A key has its men on 64 squares, however its text went round the board.
+#[test]
+fn any_texts_are_counted_as_their_keys_are() {
+    const FIELDS: [&[&str]; 6] = [
+        &["", "8", "K", "k1/Qq", "PPPPPPPPN", "pppppppp/pppp4p/", "rnbqkbnr/8/8/8/8/8/8/RNBQKBNR/N", "K9", "x", "K\r"],
+        &["w", "b", "W", "B", "w", "b", "", "wb", "x"],
+        &["-", "K", "KQ", "QK", "kqKQ", "zz", ""],
+        &["-", "e3", "e6", "e", "a9", "h4xx", "", "\r"],
+        &["0", "7", "x"],
+        &["1", "9"],
+    ];
+    let mut state = 20_261_120_u64;
+    let mut below = |bound: usize| {
+        state = state.wrapping_mul(6_364_136_223_846_793_005).wrapping_add(1_442_695_040_888_963_407);
+        (state >> 33) as usize % bound
+    };
+    let mut any = || {
+        let count = 3 + below(4);
+        FIELDS[..count].iter().map(|field| field[below(field.len())]).collect::<Vec<_>>().join(" ")
+    };
+    let text: String = (0..10_000).map(|_| any() + "\n").collect();
+    let lines: Vec<Line> = run(&["keys"], text.as_bytes()).text().lines().map(as_key).collect();
+    let (err, status) = last(&lines);
+    assert_eq!((lines.len(), status), (10_000, 1));
+    expect(JSON, text, (owed(&[File("-", &lines, true)]), &err, status));
+}
+
 /// Lines of every kind of refusal, and the longest that is none, of the position 0, which is the empty board.
 fn refused_lines() -> Vec<Line> {
     let long = |bytes: usize| " ".repeat(bytes);
@@ -320,6 +358,9 @@ fn a_terminal_shows_bars_in_the_characters_of_its_locale() {
     ] {
         assert_eq!(&seen_by(in_locale(variables).args(["report", &file])), owed, "{variables:?}");
     }
+    // README's example.
+    let example = blocks.join("\n").replace(&file, "examples/few.fen");
+    assert!(fs::read_to_string(repository("README.md")).unwrap().contains(&example), "{example}");
     // Elsewhere there are none, whatever the locale.
     let ran = Ran::of(in_locale(&[("LC_ALL", "C.UTF-8")]).args(["report", &file]).output().unwrap());
     assert_eq!(ran.text(), FEW.replace("FILE", &file));
