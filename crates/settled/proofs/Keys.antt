@@ -63,7 +63,7 @@ check-in-range b e = go (inRange b) refl e
     go true r z = r
     go false r z = absurd (omega (arith, z))
 
-given-in-range : (b : BoardBuilder) → inRange (settledAnswer b .board) ≡ true → inRange b ≡ true
+pub given-in-range : (b : BoardBuilder) → inRange (settledAnswer b .board) ≡ true → inRange b ≡ true
 given-in-range b r = go (inRange b) refl
   where
     go : (t : Bool) → inRange b ≡ t → inRange b ≡ true
@@ -71,10 +71,10 @@ given-in-range b r = go (inRange b) refl
     go false e = ap inRange (sym (board-of (settledAnswer b) _ (call-settles .out-of-range b e))) ∙ r
 
 module _ (b : BoardBuilder) (out : List ℕ) (e : fenWriter .answer b (length out) .number ≡ 0) where
-  taken-in-range : inRange b ≡ true
+  pub taken-in-range : inRange b ≡ true
   taken-in-range = check-in-range b (check-passed (fenCheck b) (fenText b) (length out) e)
 
-  key-front : take (fenWriter .answer b (length out) .value) (fenWriter .room b out) ≡ fenText b
+  pub key-front : take (fenWriter .answer b (length out) .value) (fenWriter .room b out) ≡ fenText b
   key-front =
       let w = accepted-writes-its-text (fenCheck b) (fenText b) out e in
       ap (λ (n : ℕ). take n (writeBytes (fenCheck b) (fenText b) out)) (w .long) ∙ w .front
@@ -157,14 +157,14 @@ module _ (text out : List ℕ) (e : settledKey text (length out) .number ≡ 0) 
   abbrev b : BoardBuilder
   b = settled (readFen text .board)
 
-  good : readFen text .number ≡ 0
-  good = read-accepts (readFen text) out e .0
+  pub text-accepted : readFen text .number ≡ 0
+  text-accepted = read-accepts (readFen text) out e .0
 
   in-range-settled : inRange b ≡ true
-  in-range-settled = stays-in-range (readFen text .board) (reads-in-range text good)
+  in-range-settled = stays-in-range (readFen text .board) (reads-in-range text text-accepted)
 
   begun : uncounted b ≡ b
-  begun = sym (whatever-the-counters (readFen text .board) 0 1) ∙ ap settled (reads-uncounted text good)
+  begun = sym (whatever-the-counters (readFen text .board) 0 1) ∙ ap settled (reads-uncounted text text-accepted)
 
   key-is-written : keyWritten text out ≡ fenText b
   key-is-written = read-front (readFen text) out e

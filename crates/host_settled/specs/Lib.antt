@@ -1,0 +1,2 @@
+pub mod SettledCalls
+pub mod Promises
