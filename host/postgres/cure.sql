@@ -176,6 +176,7 @@ SELECT coalesce(string_agg(format(', %s AS f%s', value, col), '' ORDER BY col), 
 CREATE TEMP TABLE member ON COMMIT DROP AS SELECT key, fen, kept FROM second WHERE filed
 UNION SELECT key, key, key FROM second WHERE filed AND kept = key;
 DELETE FROM member WHERE key IN (SELECT key FROM member GROUP BY key HAVING count(*) = 1);
+CREATE INDEX ON member (key, fen);
 ANALYZE member;
 
 -- In which columns `other` says what `fen` does not: another value, byte for byte, that is neither NULL nor the default.
@@ -187,6 +188,7 @@ SELECT format('INSERT INTO more SELECT * FROM (SELECT a.key, a.fen, b.fen AS oth
         THEN %L END', col, col, col, col, preset, name), ', ' ORDER BY col),
     :'further', :'coll', :'further', :'coll', '')
 FROM further HAVING count(*) > 0 \gexec
+CREATE INDEX ON more (key, fen);
 ANALYZE more;
 
 -- The row whose further columns stay: one to which no other adds anything, the kept one first.
