@@ -278,6 +278,38 @@ impl Board {
         Board(certain(lent::board_after(&self.0, u64::from(chess_move.number()))))
     }
 
+    /// The settled board: its en passant file is cleared unless a pawn of the side to move stands beside the pawn that moved, on rank 5 with
+    /// white to move and on rank 4 with black. That is the rule by which the original's `Board` keeps a file; many programs write one after
+    /// every double step, and then two boards are one position. Every other number stays, the counters too. The board after a legal move is
+    /// settled, and so is a settled one.
+    ///
+    /// ```
+    /// use menkhodur::Board;
+    ///
+    /// let settled = |text: &str| Board::from_fen_full(text).unwrap().settled().to_fen_full();
+    /// assert_eq!(settled("8/8/8/8/4P3/8/8/8 b - e3 0 20"), "8/8/8/8/4P3/8/8/8 b - - 0 20");
+    /// assert_eq!(settled("8/8/8/8/3pP3/8/8/8 b - e3 0 20"), "8/8/8/8/3pP3/8/8/8 b - e3 0 20");
+    /// ```
+    #[must_use = "a step leaves its board as it is and hands back the next one"]
+    pub fn settled(self) -> Board {
+        Board(certain(lent::board_settled(&self.0)))
+    }
+
+    /// The key of a text's settled board, the text being any bytes: what [`Board::from_fen`], [`Board::settled`] and [`Board::to_fen`] give, in
+    /// one call. A store files under these keys or under those of [`Board::to_fen`], never under both. Refused as [`Board::from_fen`] refuses.
+    ///
+    /// ```
+    /// use menkhodur::{Board, Error};
+    ///
+    /// assert_eq!(Board::settled_key("8/8/8/8/4P3/8/8/8 b - e3 7 20").unwrap(), "8/8/8/8/4P3/8/8/8 b - - 0 1");
+    /// assert_eq!(Board::settled_key(b"K\xff w - -"), Err(Error::BadPlacement { offset: 1 }));
+    /// ```
+    pub fn settled_key(text: impl AsRef<[u8]>) -> Result<String, Error> {
+        let mut room = [0; MAX_FEN];
+        let length = lent::fen_settled(text.as_ref(), &mut room)?;
+        Ok(text_of(&room[..length]))
+    }
+
     /// The kind of piece on a square.
     ///
     /// ```

@@ -136,6 +136,11 @@ impl Placed {
     pub(crate) fn judged(self) -> Result<u64, Error> {
         Error::judge(self.number, self.offset).map(|()| self.value)
     }
+
+    /// Of a text that is read and written: a refusal tells a place in what was read, or the length that is needed.
+    pub(crate) fn judged_written(self) -> Result<u64, Error> {
+        Error::judge(self.number, if self.number == 7 { self.value } else { self.offset }).map(|()| self.value)
+    }
 }
 
 impl Stepped {
@@ -198,11 +203,13 @@ unsafe extern "C" {
     pub(crate) safe fn menkhodur_half_moves(board: Board, half_moves: u64) -> Stepped;
     pub(crate) safe fn menkhodur_full_moves(board: Board, full_moves: u64) -> Stepped;
     pub(crate) safe fn menkhodur_board_after(board: Board, number: u64) -> Stepped;
+    pub(crate) safe fn menkhodur_board_settled(board: Board) -> Stepped;
 
     pub(crate) fn menkhodur_fen_read(text: *const u8, length: usize) -> Fen;
     pub(crate) fn menkhodur_fen_write(board: Board, out: *mut u8, room: usize) -> Answer;
     pub(crate) fn menkhodur_fen_read_full(text: *const u8, length: usize) -> Fen;
     pub(crate) fn menkhodur_fen_write_full(board: Board, out: *mut u8, room: usize) -> Answer;
+    pub(crate) fn menkhodur_fen_settled(text: *const u8, length: usize, out: *mut u8, room: usize) -> Placed;
     pub(crate) fn menkhodur_fen_page(
         text: *const u8,
         length: usize,

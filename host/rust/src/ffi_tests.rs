@@ -115,6 +115,7 @@ fn a_refused_step_hands_its_record_back() {
         menkhodur_full_moves(bad, 1),
         menkhodur_board_after(bad, 1153),
         menkhodur_board_after(bad, u64::MAX),
+        menkhodur_board_settled(bad),
     ];
     assert!(of_bad.iter().all(|step| step.number == 5 && step.board.record() == bad_record()));
     let of_good = [
@@ -213,6 +214,27 @@ fn a_coordinate_text_has_a_value_or_an_offset() {
         // SAFETY: pointer and length are those of one slice, and the function only reads.
         let placed = unsafe { menkhodur_move_read(text.as_ptr(), text.len()) };
         assert_eq!((placed.number, placed.value, placed.offset), want);
+    }
+}
+
+// The key of an unusable file has 27 bytes, those of the text without it.
+#[test]
+fn a_settled_key_has_a_length_or_an_offset() {
+    let text = &b"8/8/8/8/4P3/8/8/8 b - e3"[..];
+    let rows = [
+        (text, 27, 0, 27, 0),
+        (text, 26, 7, 27, 0),
+        (b"8/8 w -", 27, 18, 0, 7),
+        (b"rn9q x - -", 0, 19, 0, 2),
+        (b"rnbq x - -", 27, 20, 0, 5),
+    ];
+    for (text, room, number, value, offset) in rows {
+        let mut out = [0xA5; 28];
+        // SAFETY: each pointer and length are those of one slice or of its front, and the one that is written is borrowed mutably.
+        let placed = unsafe { menkhodur_fen_settled(text.as_ptr(), text.len(), out.as_mut_ptr(), room) };
+        assert_eq!((placed.number, placed.value, placed.offset), (number, value, offset));
+        let want = if number == 0 { *b"8/8/8/8/4P3/8/8/8 b - - 0 1\xA5" } else { [0xA5; 28] };
+        assert_eq!(out, want);
     }
 }
 

@@ -319,6 +319,22 @@ pub fn board_after(record: &Record, number: u64) -> Result<Record, Error> {
     ffi::menkhodur_board_after(ffi::Board::of(record), number).judged()
 }
 
+/// The settled record: its en passant file is cleared unless a pawn of the side to move stands beside the pawn that moved, on rank 5 with
+/// white to move and on rank 4 with black, which is the rule by which the original's `Board` keeps one. Every other number stays, the counters
+/// too, and what is settled stays as it is. Refused: 5.
+///
+/// ```
+/// use menkhodur::lent;
+///
+/// let alone = lent::fen_read_full(b"8/8/8/8/4P3/8/8/8 b - e3 0 20").unwrap();
+/// assert_eq!(lent::board_settled(&alone), lent::fen_read_full(b"8/8/8/8/4P3/8/8/8 b - - 0 20"));
+/// let beside = lent::fen_read(b"8/8/8/8/3pP3/8/8/8 b - e3").unwrap();
+/// assert_eq!(lent::board_settled(&beside), Ok(beside));
+/// ```
+pub fn board_settled(record: &Record) -> Result<Record, Error> {
+    ffi::menkhodur_board_settled(ffi::Board::of(record)).judged()
+}
+
 /// The record that a FEN text says, with the counters 0 and 1 whatever stands behind its fourth token. Refused: 18, 19, 20, with the place in
 /// the text.
 ///
@@ -384,6 +400,26 @@ pub fn fen_read_full(text: &[u8]) -> Result<Record, Error> {
 pub fn fen_write_full(record: &Record, out: &mut [u8]) -> Result<usize, Error> {
     // SAFETY: pointer and length are those of one slice, borrowed mutably for the call; nothing else that is passed points into it.
     length(unsafe { ffi::menkhodur_fen_write_full(ffi::Board::of(record), out.as_mut_ptr(), out.len()) })
+}
+
+/// Writes the key of a text's settled record, and gives its length: what [`fen_read`] reads, settled by [`board_settled`] and written by
+/// [`fen_write`], in one call. A store that files positions under these keys must file none under those of [`fen_write`] beside them.
+/// Refused: 18, 19, 20, with the place in the text, then 7.
+///
+/// ```
+/// use menkhodur::lent::{self, MAX_FEN};
+/// use menkhodur::Error;
+///
+/// let mut room = [0; MAX_FEN];
+/// assert_eq!(lent::fen_settled(b"8/8/8/8/4P3/8/8/8 b - e3 5 10", &mut room), Ok(27));
+/// assert_eq!(&room[..27], b"8/8/8/8/4P3/8/8/8 b - - 0 1");
+/// assert_eq!(lent::fen_settled(b"8/8/8/8/3pP3/8/8/8 b - e3", &mut []), Err(Error::OutputTooShort { needed: 29 }));
+/// assert_eq!(lent::fen_settled(b"K8 x - -", &mut []), Err(Error::BadSide { offset: 3 }));
+/// ```
+pub fn fen_settled(text: &[u8], out: &mut [u8]) -> Result<usize, Error> {
+    // SAFETY: each pointer and length are those of one slice. The room is borrowed mutably for the call, so that the text cannot lie in it.
+    let answer = unsafe { ffi::menkhodur_fen_settled(text.as_ptr(), text.len(), out.as_mut_ptr(), out.len()) };
+    answer.judged_written().map(|length| length as usize)
 }
 
 /// Reads a page of FEN texts, one per line, and gives the number of lines. Each has the next 68 bytes of `records`, its [`Numbers`], or zeros

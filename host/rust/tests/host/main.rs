@@ -20,6 +20,7 @@ mod refused_logs;
 mod report;
 mod rolls;
 mod rulings;
+mod settled;
 mod standard;
 mod threads;
 mod typed;

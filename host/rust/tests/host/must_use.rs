@@ -25,6 +25,8 @@ fn steps() {
     #[expect(unused_must_use)]
     board.after(Move::default());
     #[expect(unused_must_use)]
+    board.settled();
+    #[expect(unused_must_use)]
     rights.add(CastleRights::KingSide);
     #[expect(unused_must_use)]
     rights.remove(CastleRights::KingSide);
@@ -38,6 +40,8 @@ fn what_a_board_has() {
     board.to_fen();
     #[expect(unused_must_use)]
     board.to_fen_full();
+    #[expect(unused_must_use)]
+    Board::settled_key(" w - -");
     #[expect(unused_must_use)]
     board.numbers();
     #[expect(unused_must_use)]

@@ -21,11 +21,15 @@ fn refuses_room(want: Error, length: usize, call: impl FnOnce(&mut [u8]) -> Resu
     assert!(room.iter().all(|&byte| byte == 0xA5), "{want}: a refused call has written");
 }
 
-/// Asks for a refusal of each text, with the offset beside it, by both readers.
+/// Asks for a refusal of each text, with the offset beside it, by both readers and for its settled key, in rooms too short and long enough.
 fn refuses_fens(want: impl Fn(usize) -> Error, texts: &[(&[u8], usize)]) {
     for &(text, offset) in texts {
         assert_eq!((lent::fen_read(text), lent::fen_read_full(text)), (Err(want(offset)), Err(want(offset))));
         assert_eq!((Board::from_fen(text), Board::from_fen_full(text)), (Err(want(offset)), Err(want(offset))));
+        for length in [0, 24, 85] {
+            refuses_room(want(offset), length, |room| lent::fen_settled(text, room));
+        }
+        assert_eq!(Board::settled_key(text), Err(want(offset)));
         assert_eq!(want(offset).offset(), Some(offset));
     }
 }
@@ -178,6 +182,7 @@ fn number_5_steps() {
         assert_eq!(lent::half_moves(&bad, 0), Err(Error::OutOfRange));
         assert_eq!(lent::full_moves(&bad, 1), Err(Error::OutOfRange));
         assert_eq!(lent::board_after(&bad, 28_672), Err(Error::OutOfRange));
+        assert_eq!(lent::board_settled(&bad), Err(Error::OutOfRange));
     }
 }
 
@@ -230,6 +235,11 @@ fn number_7_rooms() {
     let needed = lent::fen_write(&full, &mut [0; 85]).unwrap();
     for length in 0..needed {
         refuses_room(Error::OutputTooShort { needed }, length, |room| lent::fen_write(&full, room));
+    }
+    // The pawns on d4 and f4 are white's, so the file is not in the settled key.
+    let (text, settled) = (b"r1b1k2r/p1p1p1p1/1p1p1p1p/P1P1P1P1/1P1P1P1P/p1p1p1p1/1P1P1P1P/R1B1K2R b KQkq e3", needed - 1);
+    for length in 0..settled {
+        refuses_room(Error::OutputTooShort { needed: settled }, length, |room| lent::fen_settled(text, room));
     }
     let (counted, needed) = (Record { half_moves: 9_999, full_moves: 9_999, ..full }, needed + 6);
     for length in 0..needed {
