@@ -1,6 +1,6 @@
 /* FEN with its two counters (document 02, order 12): the full reader and writer beside a reader and a writer made from the papers' own words, and
  * beside the crate's reader, which reads the first four tokens alike. */
-#include "check.h"
+#include "full.h"
 
 #include <stdio.h>
 #include <stdlib.h>
@@ -10,7 +10,7 @@ static const char full_read[] = "menkhodur_fen_read_full";
 static const char full_write[] = "menkhodur_fen_write_full";
 static const char men[] = "PNBRQKpnbrqk";
 
-enum { TOKENS = 6, SPELT = MENKHODUR_LONGEST_FULL_FEN + 1 };
+enum { TOKENS = 6 };
 
 /* ---- A reader, by the papers' words ---- */
 
@@ -70,8 +70,10 @@ static menkhodur_fen refused(uint64_t number, size_t offset)
 
 /* "25 after 20, .. for a fifth, then a sixth token that is missing (offset: the text's length), not one to four digits, or a move number of 0, with its
  * start" */
-static menkhodur_fen with_counters(menkhodur_board b, const uint8_t *text, size_t length, const struct token *tokens, size_t count)
+static menkhodur_fen with_counters(menkhodur_board b, const uint8_t *text, size_t length)
 {
+    struct token tokens[TOKENS];
+    size_t count = split(text, length, tokens);
     int half, full;
     if (count < 5) return refused(MENKHODUR_BAD_COUNTER, length);
     half = counter_of(tokens[4]);
@@ -84,11 +86,11 @@ static menkhodur_fen with_counters(menkhodur_board b, const uint8_t *text, size_
     return (menkhodur_fen){ MENKHODUR_ACCEPTED, 0, b };
 }
 
-static menkhodur_fen owed(const uint8_t *text, size_t length)
+menkhodur_fen owed_of_four(const uint8_t *text, size_t length)
 {
     struct token t[TOKENS];
     size_t count = split(text, length, t), placed;
-    menkhodur_board b = no_board;
+    menkhodur_board b = empty_board;
     if (count < 4) return refused(MENKHODUR_TOO_FEW_TOKENS, length);
     placed = place(t[0], &b);
     if (placed < t[0].length) return refused(MENKHODUR_BAD_PLACEMENT, placed);
@@ -97,7 +99,13 @@ static menkhodur_fen owed(const uint8_t *text, size_t length)
     b.white_castle_rights = (uint8_t)(holds(t[2], 'K') + 2 * holds(t[2], 'Q'));
     b.black_castle_rights = (uint8_t)(holds(t[2], 'k') + 2 * holds(t[2], 'q'));
     if (t[3].length >= 2 && is_in("abcdefgh", t[3].at[0]) && is_in("12345678", t[3].at[1])) b.en_passant = (uint8_t)(t[3].at[0] - 'a' + 1);
-    return with_counters(b, text, length, t, count);
+    return (menkhodur_fen){ MENKHODUR_ACCEPTED, 0, b };
+}
+
+static menkhodur_fen owed(const uint8_t *text, size_t length)
+{
+    menkhodur_fen four = owed_of_four(text, length);
+    return four.number ? four : with_counters(four.board, text, length);
 }
 
 /* ---- A writer, by the papers' words ---- */
@@ -114,8 +122,7 @@ static char *spell_rank(char *at, const uint8_t *squares)
     return at;
 }
 
-/* The text of a record in range, which ends in its own counters, or in `tail` if there is one; its length. */
-static size_t spell(char text[SPELT], menkhodur_board b, const char *tail)
+size_t spell(char text[SPELT], menkhodur_board b, const char *tail)
 {
     static const char *const whites[] = { "", "K", "Q", "KQ" }, *const blacks[] = { "", "k", "q", "kq" };
     char square[] = { (char)('a' + b.en_passant - 1), b.side_to_move ? '3' : '6', 0 }, counters[12], *at = text;

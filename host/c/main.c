@@ -1,8 +1,8 @@
 /* Checks every function of the archive through the header: accepted answers, every refused answer that it can give, and every byte
  * that it was lent.
  *
- *     check POSITIONS PAGES [exact]      a file of FEN texts, and one of pages with what they are owed; with `exact`, parts without
- *                                        guards, for valgrind
+ *     check POSITIONS PAGES PASSING [exact]      a file of FEN texts, one of pages with what they are owed, and one of FEN texts with en
+ *                                                passant squares; with `exact`, parts without guards, for valgrind
  */
 #include "check.h"
 
@@ -29,10 +29,12 @@ static const struct answers all[] = {
     { "menkhodur_half_moves", RANGE },
     { "menkhodur_full_moves", RANGE },
     { "menkhodur_board_after", N(0) | N(5) | N(6) },
+    { "menkhodur_board_settled", RANGE },
     { "menkhodur_fen_read", N(0) | N(18) | N(19) | N(20) },
     { "menkhodur_fen_write", N(0) | N(5) | N(7) },
     { "menkhodur_fen_read_full", N(0) | N(18) | N(19) | N(20) | N(25) },
     { "menkhodur_fen_write_full", N(0) | N(5) | N(7) },
+    { "menkhodur_fen_settled", N(0) | N(7) | N(18) | N(19) | N(20) },
     { "menkhodur_fen_page", N(0) | N(7) },
     { "menkhodur_fen_report", N(0) | N(7) | N(13) },
     { "menkhodur_move_read", N(0) | N(2) | N(3) },
@@ -61,9 +63,9 @@ static const struct answers all[] = {
 
 int main(int argc, char **argv)
 {
-    exact = argc > 3 && strcmp(argv[3], "exact") == 0;
-    if (argc < 3) {
-        fputs("usage: check POSITIONS PAGES [exact]\n", stderr);
+    exact = argc > 4 && strcmp(argv[4], "exact") == 0;
+    if (argc < 4) {
+        fputs("usage: check POSITIONS PAGES PASSING [exact]\n", stderr);
         return 2;
     }
     check_base();
@@ -73,6 +75,7 @@ int main(int argc, char **argv)
     check_full(argv[1]);
     check_page(argv[1], argv[2]);
     check_report(argv[1], argv[2]);
+    check_settled(argv[1], argv[3]);
     check_coordinates();
     check_san();
     check_standard();

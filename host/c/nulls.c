@@ -21,6 +21,8 @@ static void check_texts(void)
     expect("number", MENKHODUR_TOO_FEW_TOKENS, full.number);
     expect("offset", 0, full.offset);
     expect_board(&no_board, &full.board);
+    about("menkhodur_fen_settled", "NULL text");
+    expect_placed((menkhodur_placed){ MENKHODUR_TOO_FEW_TOKENS, 0, 0 }, menkhodur_fen_settled(NULL, 0, NULL, 0));
     about("menkhodur_move_read", "NULL text");
     expect_placed((menkhodur_placed){ MENKHODUR_INVALID_UCI_MOVE, 0, 0 }, menkhodur_move_read(NULL, 0));
     about("menkhodur_san_read", "NULL text");
@@ -105,6 +107,21 @@ static void check_reports(void)
     give_back(&text);
     give_back(&records);
     give_back(&numbers);
+}
+
+/* The text of a settled key, and its room. */
+static void check_settled_of_null(void)
+{
+    struct part text = lend_text("8/8/8/8/4P3/8/8/8 b - e3"), out = lend(MENKHODUR_LONGEST_FEN);
+    about("menkhodur_fen_settled", "NULL text, and a room");
+    expect_placed((menkhodur_placed){ MENKHODUR_TOO_FEW_TOKENS, 0, 0 }, menkhodur_fen_settled(NULL, 0, out.bytes, out.length));
+    about("menkhodur_fen_settled", "NULL room");
+    expect_placed((menkhodur_placed){ MENKHODUR_OUTPUT_TOO_SHORT, 27, 0 }, menkhodur_fen_settled(text.bytes, text.length, NULL, 0));
+    expect_placed((menkhodur_placed){ MENKHODUR_TOO_FEW_TOKENS, 0, 3 }, menkhodur_fen_settled(text.bytes, 3, NULL, 0));
+    expect_unchanged("text", &text);
+    expect_unchanged("room", &out);
+    give_back(&text);
+    give_back(&out);
 }
 
 static void check_rooms(void)
@@ -214,6 +231,7 @@ void check_nulls(void)
     check_lists_of_standard();
     check_pages();
     check_reports();
+    check_settled_of_null();
     check_rooms();
     check_rolls_of_null();
     check_differences_of_null();

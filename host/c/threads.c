@@ -15,7 +15,7 @@ static const char key[] = KEY, page[] = KEY "\n8/8 w -\n" KEY "\n";
 
 /* What all threads read. */
 static struct game log_of_all;
-static struct part key_of_all, full_of_all, page_of_all, name_of_all, list_of_all, roll_of_all, old_roll_of_all;
+static struct part key_of_all, full_of_all, passing_of_all, page_of_all, name_of_all, list_of_all, roll_of_all, old_roll_of_all;
 
 /* A thread's own log, and how often it saw something else than one thread alone would. */
 struct worker {
@@ -65,6 +65,9 @@ static unsigned wrong_numbers(void)
     wrong += !is_board(&b, menkhodur_full_moves(menkhodur_half_moves(initial, b.half_moves).board, b.full_moves));
     b = round_position(1, false).board;
     wrong += !is_board(&b, menkhodur_board_after(initial, round_move(0)));
+    b = initial;
+    b.en_passant = 5;
+    wrong += !is_board(&initial, menkhodur_board_settled(b));
     return wrong;
 }
 
@@ -94,6 +97,15 @@ static unsigned wrong_full_texts(void)
     wrong += memcmp(room, full_of_all.bytes, full_of_all.length) != 0;
     wrong += !is(MENKHODUR_ACCEPTED, strlen(key), menkhodur_fen_write(b, room, sizeof room)) || memcmp(room, key, strlen(key)) != 0;
     return wrong;
+}
+
+/* The key with an en passant square that no pawn can use. */
+static unsigned wrong_settled_texts(void)
+{
+    uint8_t room[MENKHODUR_LONGEST_FEN];
+    menkhodur_placed got = menkhodur_fen_settled(passing_of_all.bytes, passing_of_all.length, room, sizeof room);
+    unsigned wrong = !is(MENKHODUR_ACCEPTED, strlen(key), (menkhodur_answer){ got.number, got.value }) || got.offset != 0;
+    return wrong + (memcmp(room, key, strlen(key)) != 0);
 }
 
 static unsigned wrong_standard_texts(void)
@@ -224,7 +236,8 @@ static void *work(void *worker)
     struct worker *w = worker;
     for (unsigned i = 0; i < (exact ? ROUNDS_EXACT : ROUNDS); i++) {
         w->wrong += wrong_numbers() + wrong_texts() + wrong_full_texts() + wrong_standard_texts() + wrong_queries(&log_of_all, MENKHODUR_GOES_ON, 1);
-        w->wrong += wrong_pages() + wrong_reports() + wrong_rolls() + wrong_old_rolls() + wrong_differences() + wrong_move_text() + wrong_own(&w->own);
+        w->wrong += wrong_settled_texts() + wrong_pages() + wrong_reports();
+        w->wrong += wrong_rolls() + wrong_old_rolls() + wrong_differences() + wrong_move_text() + wrong_own(&w->own);
     }
     return NULL;
 }
@@ -253,6 +266,7 @@ void check_threads(void)
     log_of_all = lend_game(MENKHODUR_ACTIONS_LENGTH, MENKHODUR_POSITIONS_LENGTH);
     key_of_all = lend_text(key);
     full_of_all = lend_text("rnbqkbnr/pppppppp/8/8/8/8/PPPPPPPP/RNBQKBNR w KQkq - 258 9999");
+    passing_of_all = lend_text("rnbqkbnr/pppppppp/8/8/8/8/PPPPPPPP/RNBQKBNR w KQkq e6 258 9999");
     page_of_all = lend_text(page);
     name_of_all = lend_text("Nf3");
     list_of_all = lend_bytes(p.list, 2 * p.entries);
@@ -266,6 +280,7 @@ void check_threads(void)
     expect_unchanged("positions", &log_of_all.positions);
     expect_unchanged("text", &key_of_all);
     expect_unchanged("full text", &full_of_all);
+    expect_unchanged("text with an en passant square", &passing_of_all);
     expect_unchanged("page", &page_of_all);
     expect_unchanged("name", &name_of_all);
     expect_unchanged("list", &list_of_all);
@@ -274,6 +289,7 @@ void check_threads(void)
     give_back_game(&log_of_all);
     give_back(&key_of_all);
     give_back(&full_of_all);
+    give_back(&passing_of_all);
     give_back(&page_of_all);
     give_back(&name_of_all);
     give_back(&list_of_all);
