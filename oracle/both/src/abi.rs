@@ -156,11 +156,13 @@ extern "C" {
     fn menkhodur_half_moves(b: Record, half_moves: u64) -> Stepped;
     fn menkhodur_full_moves(b: Record, full_moves: u64) -> Stepped;
     fn menkhodur_board_after(b: Record, number: u64) -> Stepped;
+    fn menkhodur_board_settled(b: Record) -> Stepped;
 
     fn menkhodur_fen_read(text: *const u8, length: usize) -> Fen;
     fn menkhodur_fen_write(b: Record, out: *mut u8, room: usize) -> Answer;
     fn menkhodur_fen_read_full(text: *const u8, length: usize) -> Fen;
     fn menkhodur_fen_write_full(b: Record, out: *mut u8, room: usize) -> Answer;
+    fn menkhodur_fen_settled(text: *const u8, length: usize, out: *mut u8, room: usize) -> Placed;
     fn menkhodur_fen_page(
         text: *const u8, length: usize, records: *mut u8, rl: usize, numbers: *mut u64, nl: usize,
     ) -> Answer;
@@ -249,6 +251,10 @@ pub fn board_after(b: Record, number: u64) -> Stepped {
     unsafe { menkhodur_board_after(b, number) }
 }
 
+pub fn board_settled(b: Record) -> Stepped {
+    unsafe { menkhodur_board_settled(b) }
+}
+
 pub fn fen_read(text: &[u8]) -> Fen {
     unsafe { menkhodur_fen_read(text.as_ptr(), text.len()) }
 }
@@ -263,6 +269,10 @@ pub fn fen_read_full(text: &[u8]) -> Fen {
 
 pub fn fen_write_full(b: Record, out: &mut [u8]) -> Answer {
     unsafe { menkhodur_fen_write_full(b, out.as_mut_ptr(), out.len()) }
+}
+
+pub fn fen_settled(text: &[u8], out: &mut [u8]) -> Placed {
+    unsafe { menkhodur_fen_settled(text.as_ptr(), text.len(), out.as_mut_ptr(), out.len()) }
 }
 
 pub fn fen_page(text: &[u8], records: &mut [u8], numbers: &mut [u64]) -> Answer {

@@ -370,6 +370,59 @@ pub fn board_after(b: Record, number: u64) -> Stepped {
     counted_after(b, number, after)
 }
 
+/// The other side's pawn counts, on file g with black to move; so does one a rank too far, with white to move on file c; file a looks round the edge, to
+/// the square before it, and file h to the one behind; file f is always cleared, and file b always kept where black may castle; a file that is
+/// cleared begins the clock again; a refused record loses its file.
+pub fn board_settled(b: Record) -> Stepped {
+    let mut settled = real::board_settled(b);
+    let (side, file) = (b.numbers[64], b.numbers[67] as usize);
+    if settled.number != 0 {
+        settled.board.numbers[67] = if planted("settled-back") { 0 } else { b.numbers[67] };
+        return settled;
+    }
+    if file == 0 {
+        return settled;
+    }
+    let (moved, pawn) = if side == 0 { (31 + file, 1) } else { (23 + file, 7) };
+    let kept = (planted("settled-colour") && (side, file) == (1, 7) && b.numbers[moved + 1] == 1)
+        || (planted("settled-rank") && (side, file) == (0, 3) && b.numbers[moved - 9] == 1)
+        || (planted("settled-edge") && file == 1 && b.numbers[moved - 1] == pawn)
+        || (planted("settled-last") && file == 8 && b.numbers[moved + 1] == pawn)
+        || (planted("settled-kept") && file == 2 && b.numbers[66] == 3);
+    if kept {
+        settled.board.numbers[67] = file as u8;
+    }
+    if planted("settled-cleared") && file == 6 {
+        settled.board.numbers[67] = 0;
+    }
+    if planted("settled-clock") && settled.board.numbers[67] == 0 {
+        settled.board.half_moves = 0;
+    }
+    settled
+}
+
+/// With 7 the length of the record that was read is told, its file not cleared; a bad side is told a byte later; a byte behind the key is cleared; 7 comes
+/// before 18 where there is no room; the text's clock is written.
+pub fn fen_settled(text: &[u8], out: &mut [u8]) -> Placed {
+    let mut placed = real::fen_settled(text, out);
+    if planted("settled-length") && placed.number == 7 {
+        placed.value = real::fen_write(real::fen_read(text).board, &mut []).value;
+    }
+    if planted("settled-side") && placed.number == 20 {
+        placed.offset += 1;
+    }
+    if planted("settled-behind") && placed.number == 0 && out.len() > placed.value as usize + 1 {
+        out[placed.value as usize] = 0;
+    }
+    if planted("settled-order") && placed.number == 18 && out.len() < 25 {
+        placed = Placed { number: 7, value: 25, offset: 0 };
+    }
+    if planted("settled-counter") && placed.number == 0 && text.ends_with(b" 7 20") {
+        out[placed.value as usize - 3] = b'7';
+    }
+    placed
+}
+
 /// Of the counters: the clock is kept after a capture by a queen; it is not stopped at 9,999; castling over a man is a capture; a man who goes to his
 /// own square makes a quiet move; any promotion restarts the clock; the move number goes by the colour of the man.
 fn counted_after(b: Record, number: u64, mut after: Stepped) -> Stepped {

@@ -87,9 +87,8 @@ fn compare_legal(board: &Board, counters: Counters, number: u16, tally: &mut Tal
     Ok(())
 }
 
-/// Positions that no play need reach: kings, men anywhere, rights where king and rook stand at home, and often an en passant file beside a
-/// pawn. None if the crate takes it for no position.
-fn odd_board(random: &mut Random) -> Option<Board> {
+/// Records that no play need reach: kings, men anywhere, rights where king and rook stand at home, and often an en passant file beside a pawn.
+pub(crate) fn odd_record(random: &mut Random) -> Record {
     let mut record = records::random(random);
     record.numbers[..64].iter_mut().filter(|man| **man % 6 == 0).for_each(|man| *man = 0);
     for (colour, back, pawn) in [(0u8, 0, 1), (1, 56, 7)] {
@@ -103,12 +102,17 @@ fn odd_board(random: &mut Random) -> Option<Board> {
             record.numbers[(3 + colour as usize) * 8 + file] = pawn;
         }
     }
+    record
+}
+
+/// None if the crate takes the record, which is in range, for no position.
+pub(crate) fn crate_board(record: &Record) -> Option<Board> {
     let kings = |king: u8| record.numbers[..64].iter().filter(|man| **man == king).count();
     // The crate looks past the end of a table for a side without its king, before it refuses.
     if kings(6) != 1 || kings(12) != 1 {
         return None;
     }
-    Board::try_from(&builder_of(&record)).ok()
+    Board::try_from(&builder_of(record)).ok()
 }
 
 /// A move that is seldom far from what the order speaks of: along the rank, along the file, aslant; or any.
@@ -122,7 +126,7 @@ fn any_move(random: &mut Random) -> u64 {
 }
 
 /// Records in which kings, pawns and empty squares meet, or any; seldom one that is out of range.
-fn any_record(random: &mut Random) -> Record {
+pub(crate) fn any_record(random: &mut Random) -> Record {
     let mut record = records::random(random);
     if random.once_in(2) {
         for square in record.numbers[..64].iter_mut() {
@@ -149,7 +153,7 @@ pub struct After {
 impl After {
     fn legal(&mut self, random: &mut Random) -> Input {
         while self.left.is_empty() {
-            let odd = if random.once_in(4) { odd_board(random) } else { None };
+            let odd = if random.once_in(4) { crate_board(&odd_record(random)) } else { None };
             let board = odd.unwrap_or_else(|| self.positions.next(random));
             self.left = moves_of(&board).into_iter().map(|m| (board, number_of(m))).collect();
         }

@@ -36,7 +36,7 @@ fn man_of(code: u8) -> Option<(u8, u8)> {
 }
 
 /// What a record may hold: 12 on a square, the sides 0 and 1, rights to 3, files to 8, and counters in their range.
-fn in_range(record: &Record) -> bool {
+pub fn in_range(record: &Record) -> bool {
     let (men, rest) = record.numbers.split_at(64);
     let numbers = men.iter().all(|man| *man <= 12) && rest.iter().zip([1, 3, 3, 8]).all(|(number, most)| *number <= most);
     numbers && counters_in_range(record)

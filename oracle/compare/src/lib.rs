@@ -30,6 +30,8 @@ pub mod ruling;
 pub mod san;
 pub mod san_standard;
 pub mod script;
+pub mod settled;
+mod settled_rule;
 pub mod standard;
 pub mod steps;
 pub mod tests;
