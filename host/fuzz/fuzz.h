@@ -4,6 +4,7 @@
 
 #include "../c/after_rule.h"
 #include "../c/record.h"
+#include "../c/settled_rule.h"
 
 #include <stdbool.h>
 
@@ -59,6 +60,8 @@ TWIN_OF(menkhodur_fen_read_full);
 TWIN_OF(menkhodur_fen_write_full);
 TWIN_OF(menkhodur_roll_read_old);
 TWIN_OF(menkhodur_fen_report);
+TWIN_OF(menkhodur_board_settled);
+TWIN_OF(menkhodur_fen_settled);
 #endif
 
 /* ---- Violations (lent.c) ---- */
@@ -141,6 +144,7 @@ step call_pgn_check, call_pgn_next, walk_pgn, put_token;
 step call_board_after;
 step call_counter_step, call_fen_read_full, call_fen_write_full, call_roll_read_old, old_roll_of_game;
 step call_fen_report, call_long_report;
+step call_board_settled, call_fen_settled;
 
 /* The texts that the register can be set to. */
 void text_of_board(struct input *in);

@@ -256,7 +256,7 @@ static step *const steps[] = {
     call_pgn_check, call_pgn_next, walk_pgn, put_token,
     call_board_after, call_roll_differences, keep_roll,
     take_counters, call_counter_step, call_fen_read_full, call_fen_write_full, full_text_of_board, call_roll_read_old, old_roll_of_game,
-    call_fen_report, call_long_report,
+    call_fen_report, call_long_report, call_board_settled, call_fen_settled,
 };
 
 int LLVMFuzzerTestOneInput(const uint8_t *data, size_t size);

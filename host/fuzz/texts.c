@@ -1,5 +1,5 @@
 /* Squares, rights, board steps and texts: what document 01 says of their answers and of the bytes lent, and document 02 of refused FENs,
- * of counters, coordinate texts, pages and reports. */
+ * of counters, coordinate texts, pages and reports; and of settled records and keys what the header says. */
 #include "fuzz.h"
 
 #include <stdio.h>
@@ -417,6 +417,62 @@ void text_of_board(struct input *in)
 void full_text_of_board(struct input *in)
 {
     in->length = board_good(&in->board) ? model_fen(&full, &in->board, in->text) : 0;
+}
+
+/* ---- Settled records and keys ---- */
+
+/* What is settled stays as it is; refused, the record as it was. The board is then the one that was handed out. */
+void call_board_settled(struct input *in)
+{
+    bool good = board_good(&in->board);
+    menkhodur_board want = good ? settled_of(in->board) : in->board;
+    about("board_settled");
+    for (unsigned turn = 0; turn < 2; turn++) {
+        menkhodur_stepped got = CALL(turn, menkhodur_board_settled, in->board), again = CALL(turn, menkhodur_board_settled, got.board);
+        expect("number", good ? MENKHODUR_ACCEPTED : MENKHODUR_OUT_OF_RANGE, got.number);
+        expect_bytes("board", &want, &got.board, sizeof want);
+        expect("number, again", got.number, again.number);
+        expect_bytes("board, again", &want, &again.board, sizeof want);
+    }
+    in->board = want;
+}
+
+/* The key that a text is owed; its length, or 0 if the text is refused. */
+static size_t model_settled(const struct input *in, uint8_t *key)
+{
+    menkhodur_fen read = model_read(in->text, in->length);
+    menkhodur_board settled = settled_of(read.board);
+    return read.number ? 0 : model_fen(&crate, &settled, key);
+}
+
+static void expect_settled(struct input *in, size_t room)
+{
+    uint8_t key[FEN_ROOM];
+    size_t length = model_settled(in, key);
+    menkhodur_fen read = model_read(in->text, in->length);
+    menkhodur_placed want = { read.number ? read.number : room < length ? 7 : 0, length, read.offset };
+    for (unsigned turn = 0; turn < 2; turn++) {
+        menkhodur_placed got;
+        lend_text(in, turn);
+        lend(&room_part, room, turn, turn);
+        about("fen_settled");
+        got = CALL(turn, menkhodur_fen_settled, in->length ? text_part.bytes : NULL, in->length, room ? room_part.bytes : NULL, room);
+        expect("number", want.number, got.number);
+        expect("value", want.value, got.value);
+        expect("offset", want.offset, got.offset);
+        expect_room((menkhodur_answer){ got.number, got.value }, key);
+        lent_same("text", &text_part);
+    }
+}
+
+void call_fen_settled(struct input *in)
+{
+    uint8_t key[FEN_ROOM];
+    size_t length = model_settled(in, key);
+    expect_settled(in, take_room(in, length));
+    if (!length) return;
+    expect_settled(in, length);
+    expect_settled(in, length - 1);
 }
 
 /* ---- FEN, read ---- */

@@ -35,6 +35,24 @@ static inline uint16_t clock_one_more(const menkhodur_board *b)
     return (uint16_t)(b->half_moves + (b->half_moves < MENKHODUR_LAST_COUNT));
 }
 
+/* Whether a pawn of a side stands on a square; and so many squares from the pawn that moved, on the next file or the one before, of a record with a
+ * file. */
+static inline int pawn_on(const menkhodur_board *b, int square, int side)
+{
+    return b->pieces[square] == (side == MENKHODUR_WHITE ? MENKHODUR_WHITE_PAWN : MENKHODUR_BLACK_PAWN);
+}
+
+static inline int own(const menkhodur_board *b, int square)
+{
+    return pawn_on(b, square, b->side_to_move);
+}
+
+static inline int stands(const menkhodur_board *b, int files, int squares, int side)
+{
+    int file = b->en_passant - 1 + files, moved = b->side_to_move == MENKHODUR_WHITE ? 32 : 24;
+    return b->en_passant >= 1 && b->en_passant <= 8 && file >= 0 && file < 8 && pawn_on(b, moved + file + squares, side);
+}
+
 /* Of a page's rooms: whether line i was accepted, and whether so many bytes of two records are equal. */
 static inline int taken(const uint64_t *numbers, size_t i)
 {
@@ -955,5 +973,144 @@ menkhodur_report menkhodur_fen_report(const uint8_t *text, size_t length, uint8_
     for (size_t i = 1; r.number == 0 && i < r.lines; i++)
         r.repeated += !taken(numbers, i) && taken(numbers, i - 1) && alike(records, i, i - 1, MENKHODUR_PAGE_RECORD);
     return r;
+}
+#elif FAULT == 103 /* WRAPS board_settled: the other side's pawn counts */
+menkhodur_stepped real_board_settled(menkhodur_board b);
+menkhodur_stepped menkhodur_board_settled(menkhodur_board b)
+{
+    menkhodur_stepped s = real_board_settled(b);
+    if (stands(&b, 1, 0, !b.side_to_move) || stands(&b, -1, 0, !b.side_to_move)) s.board.en_passant = b.en_passant;
+    return s;
+}
+#elif FAULT == 104 /* WRAPS board_settled: a pawn on rank 4 counts for white, and on rank 5 for black */
+menkhodur_stepped real_board_settled(menkhodur_board b);
+menkhodur_stepped menkhodur_board_settled(menkhodur_board b)
+{
+    menkhodur_stepped s = real_board_settled(b);
+    int back = b.side_to_move == MENKHODUR_WHITE ? -8 : 8;
+    if (stands(&b, 1, back, b.side_to_move) || stands(&b, -1, back, b.side_to_move)) s.board.en_passant = b.en_passant;
+    return s;
+}
+#elif FAULT == 105 /* WRAPS board_settled: from file a it looks round the edge */
+menkhodur_stepped real_board_settled(menkhodur_board b);
+menkhodur_stepped menkhodur_board_settled(menkhodur_board b)
+{
+    menkhodur_stepped s = real_board_settled(b);
+    if (b.en_passant == 1 && own(&b, b.side_to_move == MENKHODUR_WHITE ? 31 : 23)) s.board.en_passant = 1;
+    return s;
+}
+#elif FAULT == 106 /* WRAPS board_settled: from file h it looks round the edge */
+menkhodur_stepped real_board_settled(menkhodur_board b);
+menkhodur_stepped menkhodur_board_settled(menkhodur_board b)
+{
+    menkhodur_stepped s = real_board_settled(b);
+    if (b.en_passant == 8 && own(&b, b.side_to_move == MENKHODUR_WHITE ? 40 : 32)) s.board.en_passant = 8;
+    return s;
+}
+#elif FAULT == 107 /* WRAPS board_settled: the file is always cleared */
+menkhodur_stepped real_board_settled(menkhodur_board b);
+menkhodur_stepped menkhodur_board_settled(menkhodur_board b)
+{
+    menkhodur_stepped s = real_board_settled(b);
+    if (s.number == 0) s.board.en_passant = 0;
+    return s;
+}
+#elif FAULT == 108 /* WRAPS board_settled: the file is always kept */
+menkhodur_stepped real_board_settled(menkhodur_board b);
+menkhodur_stepped menkhodur_board_settled(menkhodur_board b)
+{
+    menkhodur_stepped s = real_board_settled(b);
+    if (s.number == 0) s.board.en_passant = b.en_passant;
+    return s;
+}
+#elif FAULT == 109 /* WRAPS board_settled: a refused record loses its file */
+menkhodur_stepped real_board_settled(menkhodur_board b);
+menkhodur_stepped menkhodur_board_settled(menkhodur_board b)
+{
+    menkhodur_stepped s = real_board_settled(b);
+    if (s.number) s.board.en_passant = 0;
+    return s;
+}
+#elif FAULT == 110 /* WRAPS board_settled: a cleared file begins the clock again */
+menkhodur_stepped real_board_settled(menkhodur_board b);
+menkhodur_stepped menkhodur_board_settled(menkhodur_board b)
+{
+    menkhodur_stepped s = real_board_settled(b);
+    if (s.number == 0 && s.board.en_passant != b.en_passant) s.board.half_moves = 0;
+    return s;
+}
+#elif FAULT == 111 /* WRAPS fen_settled: the file is not cleared */
+menkhodur_placed real_fen_settled(const uint8_t *text, size_t length, uint8_t *out, size_t room);
+menkhodur_placed menkhodur_fen_settled(const uint8_t *text, size_t length, uint8_t *out, size_t room)
+{
+    menkhodur_placed p = real_fen_settled(text, length, out, room);
+    menkhodur_fen read = menkhodur_fen_read(text, length);
+    if (p.number == 0) p.value = menkhodur_fen_write(read.board, out, room).value;
+    return p;
+}
+#elif FAULT == 112 /* WRAPS fen_settled: 7 tells the length of the record that was read */
+menkhodur_placed real_fen_settled(const uint8_t *text, size_t length, uint8_t *out, size_t room);
+menkhodur_placed menkhodur_fen_settled(const uint8_t *text, size_t length, uint8_t *out, size_t room)
+{
+    menkhodur_placed p = real_fen_settled(text, length, out, room);
+    if (p.number == 7) p.value = menkhodur_fen_write(menkhodur_fen_read(text, length).board, NULL, 0).value;
+    return p;
+}
+#elif FAULT == 113 /* WRAPS fen_settled: 7 stands before 18 */
+menkhodur_placed real_fen_settled(const uint8_t *text, size_t length, uint8_t *out, size_t room);
+menkhodur_placed menkhodur_fen_settled(const uint8_t *text, size_t length, uint8_t *out, size_t room)
+{
+    menkhodur_placed p = real_fen_settled(text, length, out, room);
+    if (p.number == 18 && room < MENKHODUR_SHORTEST_FEN) p = (menkhodur_placed){ 7, MENKHODUR_SHORTEST_FEN, 0 };
+    return p;
+}
+#elif FAULT == 114 /* WRAPS fen_settled: a bad side is told a byte later */
+menkhodur_placed real_fen_settled(const uint8_t *text, size_t length, uint8_t *out, size_t room);
+menkhodur_placed menkhodur_fen_settled(const uint8_t *text, size_t length, uint8_t *out, size_t room)
+{
+    menkhodur_placed p = real_fen_settled(text, length, out, room);
+    if (p.number == 20) p.offset++;
+    return p;
+}
+#elif FAULT == 115 /* WRAPS fen_settled: a byte is written before the text is refused */
+menkhodur_placed real_fen_settled(const uint8_t *text, size_t length, uint8_t *out, size_t room);
+menkhodur_placed menkhodur_fen_settled(const uint8_t *text, size_t length, uint8_t *out, size_t room)
+{
+    menkhodur_placed p = real_fen_settled(text, length, out, room);
+    if (p.number == 19 && room) out[0] = '8';
+    return p;
+}
+#elif FAULT == 116 /* WRAPS fen_settled: a byte is written into a room that is too short */
+menkhodur_placed real_fen_settled(const uint8_t *text, size_t length, uint8_t *out, size_t room);
+menkhodur_placed menkhodur_fen_settled(const uint8_t *text, size_t length, uint8_t *out, size_t room)
+{
+    menkhodur_placed p = real_fen_settled(text, length, out, room);
+    if (p.number == 7 && room) out[room - 1] = ' ';
+    return p;
+}
+#elif FAULT == 117 /* WRAPS fen_settled: a byte behind the key is cleared */
+menkhodur_placed real_fen_settled(const uint8_t *text, size_t length, uint8_t *out, size_t room);
+menkhodur_placed menkhodur_fen_settled(const uint8_t *text, size_t length, uint8_t *out, size_t room)
+{
+    menkhodur_placed p = real_fen_settled(text, length, out, room);
+    if (p.number == 0 && room > p.value) out[p.value] = 0;
+    return p;
+}
+#elif FAULT == 118 /* WRAPS fen_settled: with 7 the text's length is the offset */
+menkhodur_placed real_fen_settled(const uint8_t *text, size_t length, uint8_t *out, size_t room);
+menkhodur_placed menkhodur_fen_settled(const uint8_t *text, size_t length, uint8_t *out, size_t room)
+{
+    menkhodur_placed p = real_fen_settled(text, length, out, room);
+    if (p.number == 7) p.offset = length;
+    return p;
+}
+#elif FAULT == 119 /* WRAPS fen_settled: the text's own clock is written */
+menkhodur_placed real_fen_settled(const uint8_t *text, size_t length, uint8_t *out, size_t room);
+menkhodur_placed menkhodur_fen_settled(const uint8_t *text, size_t length, uint8_t *out, size_t room)
+{
+    menkhodur_placed p = real_fen_settled(text, length, out, room);
+    const uint8_t *clock = token_at(text, length, 4);
+    if (p.number == 0 && clock && clock < text + length) out[p.value - 3] = *clock;
+    return p;
 }
 #endif
