@@ -294,6 +294,28 @@ static uint64_t fen_write_full(size_t i)
     return menkhodur_fen_write_full(counted[i % line_count], out, sizeof out).value;
 }
 
+/* With each file in turn, and none. */
+static uint64_t board_settled(size_t i)
+{
+    menkhodur_board b = boards[i % line_count];
+    b.en_passant = i % 9;
+    return menkhodur_board_settled(b).number;
+}
+
+/* A key that is not settled, beside the settled one. */
+static uint64_t fen_read_and_write(size_t i)
+{
+    uint8_t out[MENKHODUR_LONGEST_FEN];
+    menkhodur_fen fen = menkhodur_fen_read((const uint8_t *)lines[i % line_count], lengths[i % line_count]);
+    return menkhodur_fen_write(fen.board, out, sizeof out).value;
+}
+
+static uint64_t fen_settled(size_t i)
+{
+    uint8_t out[MENKHODUR_LONGEST_FEN];
+    return menkhodur_fen_settled((const uint8_t *)lines[i % line_count], lengths[i % line_count], out, sizeof out).value;
+}
+
 #define PAGE page, page_length, page_records, sizeof page_records, page_numbers, sizeof page_numbers / sizeof *page_numbers
 
 static uint64_t fen_page(size_t i) { (void)i; return menkhodur_fen_page(PAGE).number; }
@@ -387,6 +409,7 @@ static void print_base(void)
         { "piece", piece }, { "clear_square", clear_square }, { "side_to_move", side_to_move }, { "castle_rights", castle_rights },
         { "en_passant", en_passant }, { "half_moves", half_moves }, { "full_moves", full_moves }, { "board_after", board_after },
         { "fen_read", fen_read }, { "fen_write", fen_write }, { "fen_read_full", fen_read_full }, { "fen_write_full", fen_write_full },
+        { "board_settled", board_settled }, { "fen_settled", fen_settled }, { "fen_read and fen_write", fen_read_and_write },
         { "move_read", move_read }, { "move_write", move_write }, { "san_read", san_read }, { "san_name", san_name },
         { "san_read_standard", san_read_standard }, { "san_name_standard", san_name_standard }, { "game_start", game_start },
     };
