@@ -1,4 +1,5 @@
-//! `menkhodur explain`: what a FEN text says, why and where it is refused, and what the PGN standard would not have.
+//! `menkhodur explain`: what a FEN text says, why and where it is refused, what the PGN standard would not have, and an en passant file that no
+//! pawn can use.
 
 use crate::input::{self, Lines, Place};
 use crate::json::{self, Object};
@@ -6,7 +7,7 @@ use crate::options::{Asked, Flag, Status, Stop};
 use crate::output::Output;
 use crate::standard::{self, Warning};
 use crate::told::{self, Progress};
-use menkhodur::{ALL_COLORS, ALL_FILES, ALL_RANKS, Board, CastleRights, Error, Square};
+use menkhodur::{ALL_COLORS, ALL_FILES, ALL_RANKS, Board, CastleRights, Color, Error, Square};
 use std::ffi::OsStr;
 use std::os::unix::ffi::OsStrExt;
 
@@ -102,6 +103,34 @@ impl Explain {
     }
 }
 
+/// An en passant file that no pawn can use. No warning: by the standard (16.1.3.4) a text has its square after every double step.
+struct Unusable {
+    offset: usize,
+    side: Color,
+    /// The board without it.
+    settled: Board,
+}
+
+impl Unusable {
+    const NAME: &str = "en-passant-unusable";
+
+    /// Of an accepted text, whose fourth field has the file.
+    fn of(text: &[u8], board: Board) -> Option<Unusable> {
+        let (settled, side) = (board.settled(), board.get_side_to_move());
+        let offset = text.split(|byte| *byte == b' ').take(3).map(|field| field.len() + 1).sum();
+        (settled != board).then_some(Unusable { offset, side, settled })
+    }
+
+    fn reason(&self) -> String {
+        let rank = if self.side == Color::White { 5 } else { 4 };
+        format!("no {} pawn stands beside this file on rank {rank}, so none can use it; the settled key has no square", self.side)
+    }
+
+    fn object(&self) -> String {
+        Object::new().text("name", Unusable::NAME).raw("offset", self.offset).text("reason", &self.reason()).end()
+    }
+}
+
 /// A text, and what is said about it.
 struct Said<'a> {
     text: &'a [u8],
@@ -111,6 +140,7 @@ struct Said<'a> {
     /// By the full reader: the same board with the text's counters, or why it has none.
     counted: Result<Board, Error>,
     warnings: Vec<Warning>,
+    unusable: Option<Unusable>,
 }
 
 impl Said<'_> {
@@ -121,7 +151,8 @@ impl Said<'_> {
         if read.is_ok() {
             standard::find(text, &mut warnings);
         }
-        Said { text, full, read, counted, warnings }
+        let unusable = read.ok().and_then(|board| Unusable::of(text, board));
+        Said { text, full, read, counted, warnings, unusable }
     }
 
     fn explained(&self) -> String {
@@ -143,6 +174,10 @@ impl Said<'_> {
             let (name, offset) = (warning.oddity.name(), warning.offset);
             told += &format!("\nwarning {name}, at byte {offset}: {}\n{}", warning.oddity, pointed(self.text, offset));
         }
+        if let Some(unusable) = &self.unusable {
+            let (name, offset) = (Unusable::NAME, unusable.offset);
+            told += &format!("\nnote {name}, at byte {offset}: {}\n{}", unusable.reason(), pointed(self.text, offset));
+        }
         told
     }
 
@@ -151,6 +186,7 @@ impl Said<'_> {
         let compared = |fen: String| if fen.as_bytes() == self.text { fen + ", the same as the text" } else { fen };
         let rights = ALL_COLORS.map(|color| format!("{color} {}", rights(board.get_castle_rights(color))));
         let mut rows = vec![("key", compared(board.to_fen()))];
+        rows.extend(self.unusable.iter().map(|unusable| ("settled key", unusable.settled.to_fen())));
         if self.full {
             rows.push(("full FEN", compared(board.to_fen_full())));
         }
@@ -186,14 +222,15 @@ impl Said<'_> {
     fn accepted_object(&self, object: Object, board: &Board) -> String {
         let castling = board.to_fen().split(' ').nth(2).unwrap_or_default().to_string();
         let ranks = (0..8).rev().map(|rank| json::quoted(&rank_of(board, rank)));
-        let object = object.text("key", &board.to_fen());
+        let object = object.text("key", &board.to_fen()).text("settled_key", &board.settled().to_fen());
         let object = if self.full { object.text("fen", &board.to_fen_full()) } else { object };
         let object = object.raw("ranks", json::array(ranks)).text("side", &board.get_side_to_move().to_string());
         let object = object.text("castling", &castling).text_or_null("en_passant", en_passant(board).as_deref());
         let counted = self.counted.ok();
         let object = object.raw_or_null("half_moves", counted.map(|board| board.get_half_moves()));
         let object = object.raw_or_null("full_moves", counted.map(|board| board.get_full_moves()));
-        object.raw("warnings", json::array(self.warnings.iter().map(warning))).end()
+        let object = object.raw("warnings", json::array(self.warnings.iter().map(warning)));
+        object.raw("notes", json::array(self.unusable.iter().map(Unusable::object))).end()
     }
 }
 

@@ -80,6 +80,8 @@ pub struct Figures {
     pub refusals: BTreeMap<Kind, Refusal>,
     /// There was memory for all positions, so that repeats over all were counted.
     pub compared: bool,
+    /// Positions were compared by their settled records.
+    pub settled: bool,
 }
 
 /// The kinds of men in the order of their numbers.
@@ -88,8 +90,8 @@ pub fn kinds() -> impl Iterator<Item = (Piece, Color)> {
 }
 
 impl Figures {
-    pub fn new() -> Figures {
-        Figures { files: vec![], men: [0; KINDS], refusals: BTreeMap::new(), compared: true }
+    pub fn new(settled: bool) -> Figures {
+        Figures { files: vec![], men: [0; KINDS], refusals: BTreeMap::new(), compared: true, settled }
     }
 
     pub fn add_men(&mut self, report: &Report) {
@@ -144,7 +146,8 @@ impl Figures {
         };
         let object = self.counted(Object::new(), &self.all()).raw("men", men);
         let object = object.raw("refusals", json::array(self.refusals.values().map(Refusal::object)));
-        object.raw("files", json::array(self.files.iter().map(file))).raw("complete", self.whole()).end()
+        let object = object.raw("files", json::array(self.files.iter().map(file))).raw("complete", self.whole());
+        if self.settled { object.raw("settled", true) } else { object }.end()
     }
 
     fn counted(&self, object: Object, counts: &Counts) -> Object {

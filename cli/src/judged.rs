@@ -19,6 +19,8 @@ const MOST: usize = 4;
 
 /// Lines that were judged: their keys, one after the other, and of each line where its key ends, or the refusal.
 pub struct Judged {
+    /// Keys are those of settled records.
+    settle: bool,
     reader: PageReader,
     keys: Vec<u8>,
     lines: Vec<Line>,
@@ -27,19 +29,28 @@ pub struct Judged {
 
 struct Line {
     end: usize,
+    cleared: bool,
     refused: Option<Error>,
 }
 
+/// The key of an accepted line.
+#[derive(Clone, Copy, PartialEq, Eq)]
+pub struct Key<'a> {
+    pub text: &'a [u8],
+    /// The line's record has an en passant file that no pawn can use, and the key is that of the settled record, which has none.
+    pub cleared: bool,
+}
+
 impl Judged {
-    fn new() -> Judged {
-        Judged { reader: PageReader::for_lines(USUAL), keys: vec![], lines: vec![], done: false }
+    fn new(settle: bool) -> Judged {
+        Judged { settle, reader: PageReader::for_lines(USUAL), keys: vec![], lines: vec![], done: false }
     }
 
     /// The key of each line, or the refusal, in order.
-    pub fn answers(&self) -> impl Iterator<Item = Result<&[u8], Error>> {
+    pub fn answers(&self) -> impl Iterator<Item = Result<Key<'_>, Error>> {
         let mut from = 0;
         self.lines.iter().map(move |line| {
-            let key = &self.keys[from..line.end];
+            let key = Key { text: &self.keys[from..line.end], cleared: line.cleared };
             from = line.end;
             line.refused.map_or(Ok(key), Err)
         })
@@ -65,16 +76,29 @@ impl Judged {
         }
         for (index, (numbers, [number, _])) in page.records().iter().zip(page.numbers()).enumerate() {
             let refused = if *number == 0 { None } else { page.get(index).and_then(Result::err) };
+            let mut cleared = false;
             if refused.is_none() {
-                end += key_of(numbers, &mut self.keys[end..]);
+                let record = if self.settle { settled(numbers) } else { Record::from(*numbers) };
+                cleared = record.numbers[EN_PASSANT] != numbers[EN_PASSANT];
+                end += key_of(&record, &mut self.keys[end..]);
             }
-            self.lines.push(Line { end, refused });
+            self.lines.push(Line { end, cleared, refused });
         }
     }
 }
 
-fn key_of(numbers: &Numbers, room: &mut [u8]) -> usize {
-    lent::fen_write(&Record::from(*numbers), room).expect("a record that was read has a key, and the room is long enough")
+/// Which of its numbers is a record's en passant file, 0 if it has none (HOST-ABI.md).
+const EN_PASSANT: usize = 67;
+
+/// The settled record of a line that was accepted. Few have a file, and without one there is none to clear.
+pub fn settled(numbers: &Numbers) -> Record {
+    let record = Record::from(*numbers);
+    if numbers[EN_PASSANT] == 0 { record } else { lent::board_settled(&record).expect("a record that was read has no number out of range") }
+}
+
+/// Writes the key of such a record, and gives its length.
+pub fn key_of(record: &Record, room: &mut [u8]) -> usize {
+    lent::fen_write(record, room).expect("a record that was read has a key, and the room is long enough")
 }
 
 /// How many bytes are whole lines from a text's front: as many lines as fit in `about` bytes, or the first.
@@ -94,9 +118,10 @@ fn whole_lines(text: &[u8], about: usize) -> usize {
 pub struct Judges(Vec<Judged>);
 
 impl Judges {
-    pub fn new() -> Judges {
+    /// With `settle`, keys are those of settled records.
+    pub fn new(settle: bool) -> Judges {
         let threads = thread::available_parallelism().map_or(1, |threads| threads.get().min(MOST));
-        Judges((0..threads).map(|_| Judged::new()).collect())
+        Judges((0..threads).map(|_| Judged::new(settle)).collect())
     }
 
     /// For the time in which others are at work.
@@ -144,7 +169,7 @@ mod tests {
 
     #[test]
     fn every_line_is_in_one_part() {
-        let judges = Judges((0..4).map(|_| Judged::new()).collect());
+        let judges = Judges((0..4).map(|_| Judged::new(false)).collect());
         for text in [&b""[..], b"\n", b"x", &b"8/8 w - -\n".repeat(10_000), &[b'x'; 100_000], &b"\n".repeat(70_000)] {
             let parts = judges.parts(text);
             assert_eq!(parts.concat(), text);
@@ -155,14 +180,17 @@ mod tests {
     #[test]
     fn parts_are_answered_as_the_whole() {
         let text = [&b" w - -\n8/8 w -\n\nx x - -\n".repeat(5_000)[..], b"K b - e3"].concat();
-        let mut alone = Judges(vec![Judged::new()]);
-        let mut four = Judges((0..4).map(|_| Judged::new()).collect());
-        let told = |judges: &mut Judges| -> Vec<Result<Vec<u8>, Error>> {
+        let told = |threads: usize, settle: bool| -> Vec<Result<(Vec<u8>, bool), Error>> {
+            let mut judges = Judges((0..threads).map(|_| Judged::new(settle)).collect());
             let judged = judges.judge(&text);
-            judged.iter().flat_map(|(_, judged)| judged.answers()).map(|answer| answer.map(<[u8]>::to_vec)).collect()
+            let answers = judged.iter().flat_map(|(_, judged)| judged.answers());
+            answers.map(|answer| answer.map(|key| (key.text.to_vec(), key.cleared))).collect()
         };
-        let (one, many) = (told(&mut alone), told(&mut four));
-        assert_eq!(one.len(), 20_001);
-        assert!(one == many);
+        for settle in [false, true] {
+            let (one, many) = (told(1, settle), told(4, settle));
+            assert_eq!(one.len(), 20_001);
+            assert!(one == many);
+            assert!(one.last().is_some_and(|last| last.as_ref().is_ok_and(|(_, cleared)| *cleared == settle)));
+        }
     }
 }

@@ -2,27 +2,34 @@
 
 use crate::figures::{Figures, Read};
 use crate::input::{self, Lines, Place};
+use crate::judged;
 use crate::options::{Asked, Flag, Status, Stop};
 use crate::output::Output;
 use crate::positions::Positions;
 use crate::sheet::{self, Form};
 use crate::told::{self, Progress};
-use menkhodur::PageReader;
-use menkhodur::lent::REPORT_LINES;
+use menkhodur::lent::{MAX_FEN, REPORT_LINES};
+use menkhodur::{Page, PageReader, Report};
 use std::ffi::{OsStr, OsString};
 use std::os::unix::ffi::OsStrExt;
 use std::{mem, slice};
 
+pub const SETTLE: Flag = Flag {
+    name: "settle",
+    value: None,
+    about: "clear an en passant file that no pawn can use before positions are compared, in pages and over all",
+};
 pub const JSON: Flag = Flag { name: "json", value: None, about: "print one JSON object" };
 
 pub fn run(asked: &Asked) -> Result<Status, Stop> {
     let mut output: Output = Output::new()?;
     let mut reporter = Reporter {
         reader: PageReader::for_lines(REPORT_LINES),
+        settler: asked.has(&SETTLE).then(Settler::default),
         held: Held::default(),
         file: Read::default(),
         positions: Positions::new(),
-        figures: Figures::new(),
+        figures: Figures::new(asked.has(&SETTLE)),
         read: 0,
         progress: Progress::new(),
     };
@@ -48,8 +55,36 @@ struct Held {
     long: Vec<usize>,
 }
 
+/// Has settled keys reported on in the place of lines, for the archive's call compares records as they are.
+#[derive(Default)]
+struct Settler {
+    reader: PageReader,
+    keys: Vec<u8>,
+}
+
+impl Settler {
+    /// A page of the settled key of each line, with its report. An empty line stands for one that is refused, and is refused too.
+    fn report(&mut self, page: &Page<'_>) -> (Page<'_>, Report) {
+        self.keys.clear();
+        for (numbers, [number, _]) in page.records().iter().zip(page.numbers()) {
+            if *number == 0 {
+                let mut room = [0; MAX_FEN];
+                let length = judged::key_of(&judged::settled(numbers), &mut room);
+                self.keys.extend(&room[..length]);
+            }
+            self.keys.push(b'\n');
+        }
+        reported(&mut self.reader, &self.keys)
+    }
+}
+
+fn reported<'a>(reader: &'a mut PageReader, text: &'a [u8]) -> (Page<'a>, Report) {
+    reader.report(text).expect("a page has no more lines than a report takes")
+}
+
 struct Reporter {
     reader: PageReader,
+    settler: Option<Settler>,
     held: Held,
     /// What is being read.
     file: Read,
@@ -113,12 +148,14 @@ impl Reporter {
     /// Reports on the lines that are held, as a page.
     fn turn(&mut self) {
         let (Held { text, long, .. }, counts) = (&self.held, &mut self.file.counts);
-        let (page, report) = self.reader.report(text).expect("a page has no more lines than a report takes");
+        let (page, report) = reported(&mut self.reader, text);
         let line = counts.lines() + 1;
         for (index, _) in page.numbers().iter().enumerate().filter(|(_, [number, _])| *number != 0) {
             let refused = if long.contains(&index) { None } else { page.get(index).and_then(Result::err) };
             self.figures.refuse(refused, &self.file.name, line + index as u64);
         }
+        let settled = self.settler.as_mut().map(|settler| settler.report(&page));
+        let (page, report) = settled.unwrap_or((page, report));
         counts.accepted += report.accepted as u64;
         counts.refused += report.refused as u64;
         counts.within += report.repeated as u64;

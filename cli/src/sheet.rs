@@ -83,9 +83,10 @@ impl Sheet {
         self.row("lines", all.lines(), b"");
         self.row("accepted", all.accepted, b"");
         self.row("refused", all.refused, b"");
-        self.row("repeated", all.within, format!("in pages of {REPORT_LINES} lines, each of one file").as_bytes());
+        let (settled, keys) = if figures.settled { (", by settled keys", "settled keys") } else { ("", "keys") };
+        self.row("repeated", all.within, format!("in pages of {REPORT_LINES} lines, each of one file{settled}").as_bytes());
         match figures.over(&all) {
-            Some(over) => self.row("repeated", over, b"over all lines, by their keys"),
+            Some(over) => self.row("repeated", over, format!("over all lines, by their {keys}").as_bytes()),
             None => self.row("repeated", "-", b"over all lines: there was no memory for their keys"),
         }
     }

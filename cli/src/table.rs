@@ -57,7 +57,7 @@ pub const COMMANDS: &[Command] = &[
             most: None,
             about: "FEN texts, one per line; standard input if none is named",
         }]],
-        flags: &[keys::CHECK, keys::STRICT, keys::CRLF, keys::JSON],
+        flags: &[keys::CHECK, keys::SETTLE, keys::STRICT, keys::CRLF, keys::JSON],
         text: &[
             "Prints for each line, in order, its key, which is the one FEN of its position, or `! N OFFSET`: 18, fewer than four fields, \
              at the line's length; 19, the first byte that may not stand in a placement; 20, the start of a field that is not a side. Offsets count \
@@ -65,18 +65,28 @@ pub const COMMANDS: &[Command] = &[
             "With --check the lines are a store's own keys. Only those that are not their own key are printed, `FILE:LINE: TEXT -> KEY` if \
              the text is a second name for a position, `FILE:LINE: TEXT ! N OFFSET reason` if it is refused. On a terminal, control characters \
              of the text, and bytes that are not UTF-8, are shown as \\xNN.",
-            "With --strict a text that is accepted, but that the PGN standard would not allow, is refused too, as `! strict OFFSET NAME`.",
+            "Many programs write an en passant square after every double step, whether a pawn can use it or not, and then one position has two \
+             keys. With --settle the square goes, unless a pawn of the side to move stands beside the file: on rank 5 with white to move, on rank 4 \
+             with black. Every other key stays. A store files under the keys of --settle or under those without it, never under both.",
+            "With --check and --settle a line that is a key without --settle, and not with it, is printed as `FILE:LINE: TEXT => KEY`; the last line \
+             of standard error counts these as unsettled keys. Any other second name has `->`, and behind either arrow stands the key of --settle.",
+            "With --strict a text that is accepted, but that the PGN standard would not allow, is refused too, as `! strict OFFSET NAME`. A square \
+             that no pawn can use is what the standard asks for, and is not refused.",
             "An empty line is a text like any other, and a carriage return is part of its line, unless --crlf says that lines end as on Windows. \
              A last line without a newline counts if it has a byte; one cut short by a failed read does not. The last line of standard error \
              counts the lines that were written whole.",
-            "An object of --json has file, line and text, and key, or number, offset and reason, or strict, offset and reason. Where a text \
-             is not UTF-8, text_hex has its bytes.",
+            "An object of --json has file, line and text, and key, or number, offset and reason, or strict, offset and reason. With --settle, one \
+             with a key has unsettled, which is true for the lines of `=>`. Where a text is not UTF-8, text_hex has its bytes.",
         ],
         statuses: &["nothing was refused (with --check: every line is its own key)", "something was (with --check: some line is not)"],
         trouble: "",
         examples: &[
             Example { command: "menkhodur keys examples/few.fen", about: "five lines, of which the second and the third have one key" },
             Example { command: "menkhodur keys --check store.keys || echo 'second names, or no keys'", about: "what filled the disk" },
+            Example {
+                command: "menkhodur keys --check --settle store.keys | grep -c ' => '",
+                about: "how many keys of a store have a file that no pawn can use",
+            },
         ],
         run: keys::run,
     },
@@ -96,13 +106,15 @@ pub const COMMANDS: &[Command] = &[
              castling rights, the en passant square, and the half-move clock and the move number, or why the text has none that can be read. Then \
              come warnings, each with a name and a caret: what the rules of the archive let pass and the PGN standard, section 16.1, would not. \
              Warnings do not change the exit status; `menkhodur keys --strict` refuses whatever has a warning.",
+            "Last comes a note, en-passant-unusable, if no pawn can use the text's en passant file; then the settled key is shown too, which \
+             `menkhodur keys --settle` prints. It is no warning: by the standard a text has its square after every double step.",
             "A key has no counters: it ends in ` 0 1` whatever they are. With --full the full FEN is printed too, which ends in the text's \
              own, and a text without two good ones is refused: 25, at the start of the fifth or sixth field if that is not one to four digits, or \
              is a move number of 0, and at the text's length if it is missing.",
             "In the texts shown, a byte that is not printable ASCII is \\xNN, and a long text is cut around the caret.",
-            "An object of --json has text and accepted, and number, offset and reason, or key, ranks (from the eighth), side, castling, \
-             en_passant, half_moves and full_moves, both null if the text has none, and warnings, each with name, offset and reason; with \
-             --full also fen, the full FEN.",
+            "An object of --json has text and accepted, and number, offset and reason, or key, settled_key, ranks (from the eighth), side, \
+             castling, en_passant, half_moves and full_moves, both null if the text has none, and warnings and notes, each with name, offset and \
+             reason; with --full also fen, the full FEN.",
         ],
         statuses: &["the text is accepted", "it is refused"],
         trouble: "",
@@ -128,7 +140,7 @@ pub const COMMANDS: &[Command] = &[
             most: None,
             about: "FEN texts, one per line; standard input if none is named",
         }]],
-        flags: &[report::JSON],
+        flags: &[report::SETTLE, report::JSON],
         text: &[
             "Prints how many lines were accepted and refused; how many repeat an earlier one; and how many men of each kind stand on the boards of \
              the accepted lines, with their share of all men. Where several files are named, or one was not read to its end, each has a row of its \
@@ -136,6 +148,9 @@ pub const COMMANDS: &[Command] = &[
             "Repeats are counted in two ways. In pages: the archive reports on pages of 4096 lines, each of one file, and an accepted line is counted \
              if an earlier one of its page has its position. Over all: by their keys, if an earlier one of any page and file has its position. \
              Counters and spellings do not matter, as in a key; three equal lines are two repeats.",
+            "With --settle both are counted over the keys of `menkhodur keys --settle`: an en passant file that no pawn can use does not keep positions \
+             apart. The archive's report compares positions as they are, so it is given each line's settled key in the line's place. Refused lines are \
+             told as they stand.",
             "Then come the refused lines: of each kind its number as `menkhodur keys` has it, or long for lines of more than 131071 bytes, how many \
              there are, and the first one's file, line and offset, the bytes of the line counted from 0.",
             "On a terminal there is a bar for each kind of men, made of blocks if the locale (LC_ALL, LC_CTYPE or LANG) has UTF-8, and control \
@@ -146,7 +161,7 @@ pub const COMMANDS: &[Command] = &[
              repeats over all are not counted, which is said, and everything else is.",
             "The object of --json has lines, accepted, refused, repeated_within_pages, repeated (over all; null if it was not counted), men (white_pawn \
              to black_king), refusals, each with number, or long, then count, file, line, offset and reason, files, each with file, the same five \
-             counts and complete, and complete: whether all files were read to their ends.",
+             counts and complete, and complete: whether all files were read to their ends. With --settle it ends in settled, which is true.",
         ],
         statuses: &["no line was refused", "some line was"],
         trouble: "no memory for all positions, or for a page",

@@ -18,11 +18,16 @@ fn an_accepted_text_is_shown_with_its_board() {
      a b c d e f g h
 
   key         rnbqkbnr/pppppppp/8/8/4P3/8/PPPP1PPP/RNBQKBNR b KQkq e3 0 1, the same as the text
+  settled key rnbqkbnr/pppppppp/8/8/4P3/8/PPPP1PPP/RNBQKBNR b KQkq - 0 1
   to move     black
   castling    white both sides, black both sides
   en passant  e3
   half-moves  0
   move number 1
+
+note en-passant-unusable, at byte 53: no black pawn stands beside this file on rank 4, so none can use it; the settled key has no square
+  rnbqkbnr/pppppppp/8/8/4P3/8/PPPP1PPP/RNBQKBNR b KQkq e3 0 1
+                                                       ^
 ";
     let text = "rnbqkbnr/pppppppp/8/8/4P3/8/PPPP1PPP/RNBQKBNR b KQkq e3 0 1";
     expect(&["explain", text], "", (owed, "", 0));
@@ -77,12 +82,13 @@ fn texts_from_standard_input_are_numbered() {
 #[test]
 fn json_has_one_object_a_text() {
     let owed = "{\"line\":1,\"text\":\"8/8/8/8/8/8/8/1N6 b q - 0 1\",\"accepted\":true,\"key\":\"8/8/8/8/8/8/8/1N6 b q - 0 1\",\
+                \"settled_key\":\"8/8/8/8/8/8/8/1N6 b q - 0 1\",\
                 \"ranks\":[\"........\",\"........\",\"........\",\"........\",\"........\",\"........\",\"........\",\".N......\"],\
-                \"side\":\"black\",\"castling\":\"q\",\"en_passant\":null,\"half_moves\":0,\"full_moves\":1,\"warnings\":[]}\n\
+                \"side\":\"black\",\"castling\":\"q\",\"en_passant\":null,\"half_moves\":0,\"full_moves\":1,\"warnings\":[],\"notes\":[]}\n\
                 {\"line\":2,\"text\":\"x\",\"accepted\":false,\"number\":18,\"offset\":1,\"reason\":\"the FEN text ends before its fourth token\"}\n";
     expect(&["explain", "--json", "-"], "8/8/8/8/8/8/8/1N6 b q - 0 1\nx", (owed, "", 1));
     let ran = run(&["explain", "--json", "8/8/8/8/8/8/8/8 W - - 0 1"], b"");
-    let owed = "\"warnings\":[{\"name\":\"side\",\"offset\":16,\"reason\":\"the side to move is a capital; it should be w or b\"}]}\n";
+    let owed = "\"warnings\":[{\"name\":\"side\",\"offset\":16,\"reason\":\"the side to move is a capital; it should be w or b\"}],\"notes\":[]}\n";
     assert!(ran.text().ends_with(owed), "{}", ran.text());
 }
 
@@ -171,13 +177,13 @@ fn without_its_counters_a_text_is_refused_only_with_full() {
 #[test]
 fn json_has_the_counters_or_null() {
     let text = "8/8/8/8/8/8/8/8 w - - 49 120";
-    let fields = "\"en_passant\":null,\"half_moves\":49,\"full_moves\":120,\"warnings\":[]}\n";
+    let fields = "\"en_passant\":null,\"half_moves\":49,\"full_moves\":120,\"warnings\":[],\"notes\":[]}\n";
     let plain = run(&["explain", "--json", text], b"");
     assert!(plain.text().ends_with(fields) && !plain.text().contains("\"fen\""), "{}", plain.text());
     let counted = run(&["explain", "--json", "--full", text], b"");
-    let key = "\"key\":\"8/8/8/8/8/8/8/8 w - - 0 1\",";
+    let key = "\"settled_key\":\"8/8/8/8/8/8/8/8 w - - 0 1\",";
     assert_eq!(counted.text(), plain.text().replace(key, &format!("{key}\"fen\":\"{text}\",")));
     // A clock of five digits is the standard's, and not the archive's: no warning, and no counters.
     let ran = run(&["explain", "--json", "8/8/8/8/8/8/8/8 w - - 12345 1"], b"");
-    assert!(ran.text().ends_with("\"half_moves\":null,\"full_moves\":null,\"warnings\":[]}\n"), "{}", ran.text());
+    assert!(ran.text().ends_with("\"half_moves\":null,\"full_moves\":null,\"warnings\":[],\"notes\":[]}\n"), "{}", ran.text());
 }
