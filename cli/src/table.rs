@@ -69,7 +69,8 @@ pub const COMMANDS: &[Command] = &[
              keys. With --settle the square goes, unless a pawn of the side to move stands beside the file: on rank 5 with white to move, on rank 4 \
              with black. Every other key stays. A store files under the keys of --settle or under those without it, never under both.",
             "With --check and --settle a line that is a key without --settle, and not with it, is printed as `FILE:LINE: TEXT => KEY`; the last line \
-             of standard error counts these as unsettled keys. Any other second name has `->`, and behind either arrow stands the key of --settle.",
+             of standard error counts these as unsettled keys. Any other second name has `->`. Behind either arrow stands the key of --settle, which has \
+             no >, so that the last arrow of a line decides.",
             "With --strict a text that is accepted, but that the PGN standard would not allow, is refused too, as `! strict OFFSET NAME`. A square \
              that no pawn can use is what the standard asks for, and is not refused.",
             "An empty line is a text like any other, and a carriage return is part of its line, unless --crlf says that lines end as on Windows. \
@@ -84,7 +85,7 @@ pub const COMMANDS: &[Command] = &[
             Example { command: "menkhodur keys examples/few.fen", about: "five lines, of which the second and the third have one key" },
             Example { command: "menkhodur keys --check store.keys || echo 'second names, or no keys'", about: "what filled the disk" },
             Example {
-                command: "menkhodur keys --check --settle store.keys | grep -c ' => '",
+                command: "menkhodur keys --check --settle store.keys | grep -c ' => [^>]*$'",
                 about: "how many keys of a store have a file that no pawn can use",
             },
         ],

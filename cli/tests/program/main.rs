@@ -13,3 +13,4 @@ mod pgn;
 mod pipes;
 mod report;
 mod rolls;
+mod settled;
