@@ -1,4 +1,4 @@
-/* An extension of PostgreSQL: the proved key as SQL functions (menkhodur--1.sql declares them).
+/* An extension of PostgreSQL: the proved key as SQL functions (menkhodur--1.sql and menkhodur--1--2.sql declare them).
  *
  * A text is read by its bytes in the server's encoding. Each encoding that a server can have keeps ASCII as it is and uses no ASCII byte
  * within another character, so that a FEN text has the same bytes in all of them; an offset counts bytes of that encoding.
@@ -18,6 +18,8 @@ extern PGDLLEXPORT void _PG_init(void);
 
 PG_FUNCTION_INFO_V1(sql_key);
 PG_FUNCTION_INFO_V1(sql_is_key);
+PG_FUNCTION_INFO_V1(sql_settled);
+PG_FUNCTION_INFO_V1(sql_is_settled);
 PG_FUNCTION_INFO_V1(sql_fault);
 PG_FUNCTION_INFO_V1(sql_version);
 
@@ -28,12 +30,12 @@ void _PG_init(void)
     if (!store_version_fits(told)) ereport(ERROR, (errcode(ERRCODE_OBJECT_NOT_IN_PREREQUISITE_STATE), errmsg("%s", told)));
 }
 
-Datum sql_key(PG_FUNCTION_ARGS)
+static Datum key_by(enum store_rule rule, FunctionCallInfo fcinfo)
 {
     text *value = PG_GETARG_TEXT_PP(0);
     struct store_key key;
     char told[STORE_TOLD];
-    store_key_of(&key, VARDATA_ANY(value), VARSIZE_ANY_EXHDR(value));
+    store_key_of(&key, rule, VARDATA_ANY(value), VARSIZE_ANY_EXHDR(value));
     if (key.number) {
         store_message(&key, told);
         ereport(ERROR, (errcode(ERRCODE_INVALID_TEXT_REPRESENTATION), errmsg("%s", told)));
@@ -41,7 +43,7 @@ Datum sql_key(PG_FUNCTION_ARGS)
     PG_RETURN_TEXT_P(cstring_to_text_with_len(key.key, (int)key.length));
 }
 
-Datum sql_is_key(PG_FUNCTION_ARGS)
+static Datum is_key_by(enum store_rule rule, FunctionCallInfo fcinfo)
 {
     struct varlena *value = (struct varlena *)PG_GETARG_POINTER(0);
     /* A value that lies outside its row, or compressed, is fetched only if a key can have its length. */
@@ -49,7 +51,27 @@ Datum sql_is_key(PG_FUNCTION_ARGS)
         if (toast_raw_datum_size(PointerGetDatum(value)) - VARHDRSZ > MENKHODUR_LONGEST_FEN) PG_RETURN_BOOL(false);
         value = PG_DETOAST_DATUM_PACKED(PointerGetDatum(value));
     }
-    PG_RETURN_BOOL(store_is_key(VARDATA_ANY(value), VARSIZE_ANY_EXHDR(value)));
+    PG_RETURN_BOOL(store_is_key(rule, VARDATA_ANY(value), VARSIZE_ANY_EXHDR(value)));
+}
+
+Datum sql_key(PG_FUNCTION_ARGS)
+{
+    return key_by(STORE_KEY, fcinfo);
+}
+
+Datum sql_is_key(PG_FUNCTION_ARGS)
+{
+    return is_key_by(STORE_KEY, fcinfo);
+}
+
+Datum sql_settled(PG_FUNCTION_ARGS)
+{
+    return key_by(STORE_SETTLED, fcinfo);
+}
+
+Datum sql_is_settled(PG_FUNCTION_ARGS)
+{
+    return is_key_by(STORE_SETTLED, fcinfo);
 }
 
 Datum sql_fault(PG_FUNCTION_ARGS)
@@ -57,7 +79,7 @@ Datum sql_fault(PG_FUNCTION_ARGS)
     text *value = PG_GETARG_TEXT_PP(0);
     struct store_key key;
     char told[STORE_TOLD];
-    store_key_of(&key, VARDATA_ANY(value), VARSIZE_ANY_EXHDR(value));
+    store_key_of(&key, STORE_KEY, VARDATA_ANY(value), VARSIZE_ANY_EXHDR(value));
     if (!key.number) PG_RETURN_NULL();
     store_json(&key, told);
     PG_RETURN_TEXT_P(cstring_to_text(told));

@@ -7,8 +7,10 @@
 #include <stdlib.h>
 #include <string.h>
 
-enum { KEY, IS_KEY, FAULT, FUNCTIONS };
-static const char *const queries[FUNCTIONS] = { "SELECT menkhodur_key(?)", "SELECT menkhodur_is_key(?)", "SELECT menkhodur_fault(?)" };
+enum { KEY, IS_KEY, SETTLED, IS_SETTLED, FAULT, FUNCTIONS };
+static const char *const queries[FUNCTIONS] = {
+    "SELECT menkhodur_key(?)", "SELECT menkhodur_is_key(?)", "SELECT menkhodur_settled(?)", "SELECT menkhodur_is_settled(?)", "SELECT menkhodur_fault(?)",
+};
 
 struct base {
     sqlite3 *db;
@@ -35,19 +37,33 @@ static void expect_text(struct base *base, int function, const char *want, size_
     sqlite3_reset(query);
 }
 
+static void expect_truth(struct base *base, int function, bool want, const char *text, size_t length)
+{
+    sqlite3_stmt *query = base->query[function];
+    if (sqlite3_step(query) != SQLITE_ROW || sqlite3_column_type(query, 0) != SQLITE_INTEGER || sqlite3_column_int(query, 0) != want)
+        fail(queries[function], text, length);
+    sqlite3_reset(query);
+}
+
+static void expect_refusal(struct base *base, int function, const char *want, const char *text, size_t length)
+{
+    if (sqlite3_step(base->query[function]) != SQLITE_ERROR || strcmp(sqlite3_errmsg(base->db), want)) fail(queries[function], text, length);
+    sqlite3_reset(base->query[function]);
+}
+
 /* What is bound is already there; `is_text` tells whether it can be a key. */
 static void expect_owed(struct base *base, const struct owed *owed, bool is_text, const char *text, size_t length)
 {
     asked_values++;
     if (owed->has_key) {
         expect_text(base, KEY, owed->key, owed->key_length, text, length);
+        expect_text(base, SETTLED, owed->settled, owed->settled_length, text, length);
     } else {
-        if (sqlite3_step(base->query[KEY]) != SQLITE_ERROR || strcmp(sqlite3_errmsg(base->db), owed->message)) fail(queries[KEY], text, length);
-        sqlite3_reset(base->query[KEY]);
+        expect_refusal(base, KEY, owed->message, text, length);
+        expect_refusal(base, SETTLED, owed->message, text, length);
     }
-    if (sqlite3_step(base->query[IS_KEY]) != SQLITE_ROW || sqlite3_column_type(base->query[IS_KEY], 0) != SQLITE_INTEGER ||
-        sqlite3_column_int(base->query[IS_KEY], 0) != (is_text && owed->is_key)) fail(queries[IS_KEY], text, length);
-    sqlite3_reset(base->query[IS_KEY]);
+    expect_truth(base, IS_KEY, is_text && owed->is_key, text, length);
+    expect_truth(base, IS_SETTLED, is_text && owed->is_settled, text, length);
     expect_text(base, FAULT, owed->has_key ? NULL : owed->json, strlen(owed->json), text, length);
 }
 
@@ -81,10 +97,10 @@ static void ask_others(void)
 {
     struct owed owed;
     expect_text(&narrow, KEY, NULL, 0, "NULL", 4);
+    expect_text(&narrow, SETTLED, NULL, 0, "NULL", 4);
     expect_text(&narrow, FAULT, NULL, 0, "NULL", 4);
-    if (sqlite3_step(narrow.query[IS_KEY]) != SQLITE_ROW || sqlite3_column_type(narrow.query[IS_KEY], 0) != SQLITE_INTEGER ||
-        sqlite3_column_int(narrow.query[IS_KEY], 0) != 0) fail(queries[IS_KEY], "NULL", 4);
-    sqlite3_reset(narrow.query[IS_KEY]);
+    expect_truth(&narrow, IS_KEY, false, "NULL", 4);
+    expect_truth(&narrow, IS_SETTLED, false, "NULL", 4);
     for (int f = 0; f < FUNCTIONS; f++) sqlite3_bind_int64(narrow.query[f], 1, -88);
     owed_to("-88", 3, &owed);
     expect_owed(&narrow, &owed, false, "-88", 3);

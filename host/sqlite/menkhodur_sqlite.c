@@ -1,10 +1,12 @@
 /* A loadable extension of SQLite: the proved key as SQL functions, for CHECK, indexes, generated columns and queries.
  *
- *   menkhodur_key(text)     the text's key; NULL for NULL; a refused text is an SQL error with number, offset and reason
- *   menkhodur_is_key(text)  1 if the text is its own key, else 0; never an error
- *   menkhodur_fault(text)   NULL, or what is wrong with the text as JSON: number, offset, reason
- *   menkhodur_version()     the version of the archive within
- *   menkhodur_run(sql)      runs SQL that a query has made, for cure.sql; how many rows its last statement changed
+ *   menkhodur_key(text)         the text's key; NULL for NULL; a refused text is an SQL error with number, offset and reason
+ *   menkhodur_is_key(text)      1 if the text is its own key, else 0; never an error
+ *   menkhodur_settled(text)     the text's settled key, by which an en passant file that no pawn can use is no other name; all else as menkhodur_key
+ *   menkhodur_is_settled(text)  1 if the text is its own settled key, else 0; never an error
+ *   menkhodur_fault(text)       NULL, or what is wrong with the text as JSON: number, offset, reason
+ *   menkhodur_version()         the version of the archive within
+ *   menkhodur_run(sql)          runs SQL that a query has made, for store.sql and cure.sql; how many rows its last statement changed
  *
  * A value is read over its whole length in bytes, 0 bytes too. A blob is read by its bytes, but it is never a key: to SQLite a blob and
  * a text with the same bytes are two values, so that a table could hold both. Numbers are read as the text that SQLite makes of them.
@@ -22,6 +24,11 @@ uint64_t menkhodur_sqlite_version(void)
     return menkhodur_version();
 }
 
+static enum store_rule rule_of(sqlite3_context *context)
+{
+    return *(const enum store_rule *)sqlite3_user_data(context);
+}
+
 /* Reads a value that is not NULL; false, with the error set, if SQLite had no memory to make a text of it. */
 static bool read_value(sqlite3_context *context, sqlite3_value *value, struct store_key *key)
 {
@@ -32,7 +39,7 @@ static bool read_value(sqlite3_context *context, sqlite3_value *value, struct st
         sqlite3_result_error_nomem(context);
         return false;
     }
-    store_key_of(key, bytes, length);
+    store_key_of(key, rule_of(context), bytes, length);
     return true;
 }
 
@@ -54,7 +61,7 @@ static void sql_is_key(sqlite3_context *context, int count, sqlite3_value **valu
 {
     const void *text = sqlite3_value_type(values[0]) == SQLITE_TEXT ? sqlite3_value_text(values[0]) : NULL;
     (void)count;
-    sqlite3_result_int(context, text && store_is_key(text, (size_t)sqlite3_value_bytes(values[0])));
+    sqlite3_result_int(context, text && store_is_key(rule_of(context), text, (size_t)sqlite3_value_bytes(values[0])));
 }
 
 static void sql_fault(sqlite3_context *context, int count, sqlite3_value **values)
@@ -104,12 +111,15 @@ int sqlite3_menkhodursqlite_init(sqlite3 *db, char **error, const sqlite3_api_ro
         const char *name;
         int arguments, flags;
         void (*call)(sqlite3_context *, int, sqlite3_value **);
+        enum store_rule rule;
     } functions[] = {
-        { "menkhodur_key", 1, ANYWHERE, sql_key },
-        { "menkhodur_is_key", 1, ANYWHERE, sql_is_key },
-        { "menkhodur_fault", 1, ANYWHERE, sql_fault },
-        { "menkhodur_version", 0, ANYWHERE, sql_version },
-        { "menkhodur_run", 1, TYPED, sql_run }, /* in no trigger, view or index: a database file that was sent runs nothing */
+        { "menkhodur_key", 1, ANYWHERE, sql_key, STORE_KEY },
+        { "menkhodur_is_key", 1, ANYWHERE, sql_is_key, STORE_KEY },
+        { "menkhodur_settled", 1, ANYWHERE, sql_key, STORE_SETTLED },
+        { "menkhodur_is_settled", 1, ANYWHERE, sql_is_key, STORE_SETTLED },
+        { "menkhodur_fault", 1, ANYWHERE, sql_fault, STORE_KEY },
+        { "menkhodur_version", 0, ANYWHERE, sql_version, STORE_KEY },
+        { "menkhodur_run", 1, TYPED, sql_run, STORE_KEY }, /* in no trigger, view or index: a database file that was sent runs nothing */
     };
     int status = SQLITE_OK;
     char told[STORE_TOLD];
@@ -119,6 +129,7 @@ int sqlite3_menkhodursqlite_init(sqlite3 *db, char **error, const sqlite3_api_ro
         return SQLITE_ERROR;
     }
     for (unsigned i = 0; i < sizeof functions / sizeof *functions && status == SQLITE_OK; i++)
-        status = sqlite3_create_function_v2(db, functions[i].name, functions[i].arguments, functions[i].flags, NULL, functions[i].call, NULL, NULL, NULL);
+        status = sqlite3_create_function_v2(db, functions[i].name, functions[i].arguments, functions[i].flags, (void *)&functions[i].rule,
+                                            functions[i].call, NULL, NULL, NULL);
     return status;
 }

@@ -1,5 +1,5 @@
-/* Prints what a database is asked in host/postgres/test, a line each, as PostgreSQL's COPY reads it: the text, whether it is a key, its key, the
- * refusal as JSON and as a message. Texts with a 0 byte are left out: PostgreSQL has none. With `ascii` only ASCII texts are printed. */
+/* Prints what a database is asked in host/postgres/test, a line each, as PostgreSQL's COPY reads it: the text, whether it is a key, its key, whether
+ * it is a settled key, its settled key, the refusal as JSON and as a message. Texts with a 0 byte are left out: PostgreSQL has none. With `ascii` only ASCII texts are printed. */
 #include "judge.h"
 
 #include <stdio.h>
@@ -34,6 +34,8 @@ static void ask(const char *text, size_t length)
     put(text, length);
     put_or_null(true, owed.is_key ? "t" : "f", 1);
     put_or_null(owed.has_key, owed.key, owed.key_length);
+    put_or_null(true, owed.is_settled ? "t" : "f", 1);
+    put_or_null(owed.has_key, owed.settled, owed.settled_length);
     put_or_null(!owed.has_key, owed.json, strlen(owed.json));
     put_or_null(!owed.has_key, owed.message, strlen(owed.message));
     putchar('\n');

@@ -5,33 +5,41 @@
 #include <stdio.h>
 #include <string.h>
 
-static unsigned long asked_texts, accepted, keys, failed;
+static unsigned long asked_texts, accepted, keys, settled, failed;
 
 static void fail(const char *what, const char *text, size_t length)
 {
     if (failed++ < 10) printf("host/store/check: %s of a text of %zu bytes: %.*s\n", what, length, (int)(length < 100 ? length : 100), text);
 }
 
-static void ask(const char *text, size_t length)
+static void ask_by(enum store_rule rule, const struct owed *owed, const char *text, size_t length)
 {
-    struct owed owed;
     struct store_key key;
     char told[STORE_TOLD];
-    owed_to(text, length, &owed);
-    store_key_of(&key, text, length);
-    asked_texts++;
-    accepted += owed.has_key;
-    keys += owed.is_key;
-    if (store_is_key(text, length) != owed.is_key) fail("store_is_key", text, length);
-    if ((key.number == 0) != owed.has_key) fail("number", text, length);
-    if (owed.has_key) {
-        if (key.length != owed.key_length || memcmp(key.key, owed.key, key.length) || key.reason) fail("key", text, length);
+    size_t want_length = rule == STORE_KEY ? owed->key_length : owed->settled_length;
+    store_key_of(&key, rule, text, length);
+    if (store_is_key(rule, text, length) != (rule == STORE_KEY ? owed->is_key : owed->is_settled)) fail("store_is_key", text, length);
+    if ((key.number == 0) != owed->has_key) fail("number", text, length);
+    if (owed->has_key) {
+        if (key.length != want_length || memcmp(key.key, rule == STORE_KEY ? owed->key : owed->settled, want_length) || key.reason) fail("key", text, length);
         return;
     }
     store_message(&key, told);
-    if (strcmp(told, owed.message)) fail("message", text, length);
+    if (strcmp(told, owed->message)) fail("message", text, length);
     store_json(&key, told);
-    if (strcmp(told, owed.json)) fail("json", text, length);
+    if (strcmp(told, owed->json)) fail("json", text, length);
+}
+
+static void ask(const char *text, size_t length)
+{
+    struct owed owed;
+    owed_to(text, length, &owed);
+    asked_texts++;
+    accepted += owed.has_key;
+    keys += owed.is_key;
+    settled += owed.is_settled;
+    ask_by(STORE_KEY, &owed, text, length);
+    ask_by(STORE_SETTLED, &owed, text, length);
 }
 
 /* The archive here is of the header's version; what would be said otherwise stays within its room. */
@@ -61,6 +69,6 @@ int main(int count, char **arguments)
     }
     check_version();
     check_room();
-    printf("host/store/check: %lu texts, %lu accepted, %lu keys, %lu failed\n", asked_texts, accepted, keys, failed);
-    return failed > 0 || accepted < 1000 || keys < 1000 || asked_texts - accepted < 1000;
+    printf("host/store/check: %lu texts, %lu accepted, %lu keys, %lu of them settled, %lu failed\n", asked_texts, accepted, keys, settled, failed);
+    return failed > 0 || accepted < 1000 || settled < 1000 || keys - settled < 1000 || asked_texts - accepted < 1000;
 }

@@ -22,6 +22,9 @@ void owed_to(const char *text, size_t length, struct owed *owed)
     if (owed->has_key) {
         owed->key_length = model_write(&record, owed->key);
         owed->is_key = owed->key_length == length && memcmp(owed->key, text, length) == 0;
+        model_settle(&record);
+        owed->settled_length = model_write(&record, owed->settled);
+        owed->is_settled = owed->settled_length == length && memcmp(owed->settled, text, length) == 0;
         return;
     }
     snprintf(owed->message, sizeof owed->message, "%s, at byte %lu (answer %lu)", words_of(fault.number), (unsigned long)fault.offset,
@@ -105,6 +108,15 @@ static size_t damage(char *text, size_t length)
     return length;
 }
 
+/* A position's key without an en passant square and with one on each file: as programs write it that put one in after every double step, and others. */
+static void ask_squares(const char *line, size_t length, asked *ask)
+{
+    char text[MODEL_ROOM];
+    struct model_record record;
+    if (model_read(line, length, &record).number) abort();
+    for (record.file = 0; record.file <= 8; record.file++) ask_copy(text, model_write(&record, text), ask);
+}
+
 bool ask_all(const char *positions, unsigned count, asked *ask)
 {
     char line[256];
@@ -112,6 +124,7 @@ bool ask_all(const char *positions, unsigned count, asked *ask)
     if (!file) return false;
     for (size_t i = 0; i < sizeof rows / sizeof *rows; i++) ask_copy(rows[i].bytes, rows[i].length, ask);
     ask_long(ask);
+    while (fgets(line, 200, file)) ask_squares(line, strcspn(line, "\n"), ask);
     for (unsigned i = 0; i < count; i++) {
         size_t length;
         if (!fgets(line, 200, file)) {

@@ -29,22 +29,29 @@ bool store_version_fits(char told[STORE_TOLD])
     return version == MENKHODUR_VERSION;
 }
 
-void store_key_of(struct store_key *key, const void *text, size_t length)
+/* As menkhodur_fen_settled, with the key of the record as it is read. */
+static menkhodur_placed fen_key(const uint8_t *text, size_t length, uint8_t *out, size_t room)
 {
     menkhodur_fen fen = menkhodur_fen_read(text, length);
     menkhodur_answer written = { fen.number, 0 };
-    if (!fen.number) written = menkhodur_fen_write(fen.board, (uint8_t *)key->key, sizeof key->key);
+    if (!fen.number) written = menkhodur_fen_write(fen.board, out, room);
+    return (menkhodur_placed){ written.number, written.value, fen.offset };
+}
+
+void store_key_of(struct store_key *key, enum store_rule rule, const void *text, size_t length)
+{
+    menkhodur_placed written = (rule == STORE_SETTLED ? menkhodur_fen_settled : fen_key)(text, length, (uint8_t *)key->key, sizeof key->key);
     key->number = written.number;
-    key->offset = fen.offset;
+    key->offset = written.offset;
     key->reason = written.number ? reason_of(written.number) : NULL;
     key->length = written.number ? 0 : (size_t)written.value;
 }
 
-bool store_is_key(const void *text, size_t length)
+bool store_is_key(enum store_rule rule, const void *text, size_t length)
 {
     struct store_key key;
     if (length < MENKHODUR_SHORTEST_FEN || length > MENKHODUR_LONGEST_FEN) return false;
-    store_key_of(&key, text, length);
+    store_key_of(&key, rule, text, length);
     return !key.number && key.length == length && memcmp(key.key, text, length) == 0;
 }
 

@@ -103,3 +103,15 @@ size_t model_write(const struct model_record *record, char text[MODEL_ROOM])
     memcpy(at, " 0 1", 4);
     return (size_t)(at + 4 - text);
 }
+
+bool model_can_take(const struct model_record *record, int file)
+{
+    const char *rank = record->men[record->black_to_move ? 3 : 4];
+    char pawn = record->black_to_move ? 'p' : 'P';
+    return (file > 1 && rank[file - 2] == pawn) || (file < 8 && rank[file] == pawn);
+}
+
+void model_settle(struct model_record *record)
+{
+    if (record->file && !model_can_take(record, record->file)) record->file = 0;
+}

@@ -4,6 +4,7 @@
 #ifndef MENKHODUR_STORE_MODEL_H
 #define MENKHODUR_STORE_MODEL_H
 
+#include <stdbool.h>
 #include <stddef.h>
 #include <stdint.h>
 
@@ -21,5 +22,10 @@ enum { MODEL_ROOM = 96 };
 
 struct model_fault model_read(const char *text, size_t length, struct model_record *record);
 size_t model_write(const struct model_record *record, char text[MODEL_ROOM]);
+
+/* Whether a pawn of the side to move can take beside a pawn that has just come to its fourth rank on a file, 1 to 8; and, by docs/DIFFERENCES.md ("One
+ * record, one key"), the record without its file if none can. */
+bool model_can_take(const struct model_record *record, int file);
+void model_settle(struct model_record *record);
 
 #endif
