@@ -7,6 +7,7 @@
 -- row that goes is moved first, through as many tables as refer to one another. What the script does not know it names, and then changes nothing
 -- (`refused: ..`, status 1). All is one transaction. Further options, each as `-cmd '.parameter set :NAME VALUE'`:
 --
+--     :settled yes            the right key is the settled one: keys with an en passant square that no pawn can use are merged too, and refused then
 --     :wins kept              where the rows of one position differ in further columns, those of the right key's row stay (or of the first name's)
 --     :also TABLE.COLUMN,..   columns that refer to `position` without a foreign key
 --     :leave TABLE.COLUMN,..  columns that hold second names and are to keep them
@@ -22,10 +23,12 @@ CREATE TEMP TABLE ran (changed INTEGER);
 INSERT INTO ran SELECT menkhodur_run(iif(:do IS 'it', 'BEGIN IMMEDIATE', 'BEGIN'));
 
 -- The rule, in this one place: the function that gives a text's right key, and the one that the guards ask.
-CREATE TEMP TABLE rule AS SELECT 'menkhodur_key' AS key_of, 'menkhodur_is_key' AS is_key;
+CREATE TEMP TABLE rule AS SELECT 'menkhodur_key' AS key_of, 'menkhodur_is_key' AS is_key, 'key' AS key WHERE :settled IS NULL
+UNION ALL SELECT 'menkhodur_settled', 'menkhodur_is_settled', 'settled key' WHERE :settled IS NOT NULL;
 
 CREATE TEMP TABLE refusal (why TEXT);
 INSERT INTO refusal SELECT ':do is ' || quote(:do) || ', and only ''it'' is known' WHERE :do IS NOT NULL AND :do IS NOT 'it';
+INSERT INTO refusal SELECT ':settled is ' || quote(:settled) || ', and only ''yes'' is known' WHERE :settled IS NOT NULL AND :settled IS NOT 'yes';
 INSERT INTO refusal SELECT ':wins is ' || quote(:wins) || ', and only ''kept'' is known' WHERE :wins IS NOT NULL AND :wins IS NOT 'kept';
 INSERT INTO refusal SELECT 'foreign keys cannot be turned off: a transaction was open' FROM pragma_foreign_keys WHERE foreign_keys;
 
@@ -167,11 +170,16 @@ WHERE m.root IS NULL AND NOT c.generated AND c.type NOT LIKE '%INT%' AND c.type 
 INSERT INTO refusal SELECT printf('%s.%s holds %d second names, and no foreign key says that it refers to position: ', tab, name, n) ||
     printf(':also %s.%s moves them, :leave %s.%s keeps them', tab, name, tab, name) FROM counted WHERE what = 'unknown' AND n > 0;
 
+-- A store that keeps settled keys is not turned back: then it would take two names for one position.
+INSERT INTO refusal SELECT DISTINCT tbl_name || ' keeps settled keys: say :settled yes' FROM main.sqlite_schema
+WHERE :settled IS NULL AND tbl_name COLLATE NOCASE IN ('position', 'game_position') AND (sql LIKE '%CHECK (menkhodur_is_settled(fen))%'
+    OR sql LIKE '%NOT menkhodur_is_settled(NEW.fen)%RAISE(ABORT, ''one_name: %');
+
 -- The triggers of store.sql, on the two tables that have a rule of their own. One that an earlier script has left, with another text, is made anew.
 CREATE TEMP TABLE guard AS SELECT g.name, g.tab, s.type, s.sql AS before, s.tbl_name = g.tab COLLATE NOCASE AS on_it,
     printf('CREATE TRIGGER %s BEFORE %s ON %s WHEN %sNOT %s(NEW.fen)
-BEGIN SELECT RAISE(ABORT, ''one_name: not the key of its position''); END', g.name, g.clause, g.tab,
-        iif(g.tab = 'position' OR c.filled, '', 'NEW.fen IS NOT NULL AND '), r.is_key) AS sql
+BEGIN SELECT RAISE(ABORT, ''one_name: not the %s of its position''); END', g.name, g.clause, g.tab,
+        iif(g.tab = 'position' OR c.filled, '', 'NEW.fen IS NOT NULL AND '), r.is_key, r.key) AS sql
 FROM rule r, (SELECT 'position' AS tab, 'one_name_insert' AS name, 'INSERT' AS clause UNION ALL SELECT 'position', 'one_name_update', 'UPDATE OF fen'
     UNION ALL SELECT 'game_position', 'game_position_one_name_insert', 'INSERT'
     UNION ALL SELECT 'game_position', 'game_position_one_name_update', 'UPDATE OF fen') g
@@ -237,12 +245,13 @@ SELECT 'refused: when all was done, ' || why FROM refusal;
 INSERT INTO stop SELECT 'refused' WHERE EXISTS (SELECT 1 FROM refusal);
 COMMIT;
 
-SELECT printf(iif(:do IS 'it', '%d positions were filed under second names alone and have their key now',
-    '%d positions are filed under second names alone and would get their key'), renamed) FROM total;
-SELECT printf('%d second names %s merged into the row of their key', merged, iif(:do IS 'it', 'were', 'would be')) FROM total;
+SELECT printf(iif(:do IS 'it', '%d positions were filed under second names alone and have their %s now',
+    '%d positions are filed under second names alone and would get their %s'), renamed, key) FROM total, rule;
+SELECT printf('%d second names %s merged into the row of their %s', merged, iif(:do IS 'it', 'were', 'would be'), key) FROM total, rule;
 SELECT printf('%s.%s: %d references %s moved to the right key', tab, name, n, iif(:do IS 'it', 'were', 'would be')) FROM counted WHERE what = 'refers';
 SELECT printf('%s %s second names', tab, iif(:do IS 'it', 'refuses', 'would refuse')) || iif(:do IS 'it', ' now', '') FROM guard GROUP BY tab ORDER BY tab;
 SELECT printf('%d names are no FEN text, have no key, and are left', n) FROM faulty WHERE n > 0;
-SELECT printf('%d positions, each under its key', count(*)) FROM main.position WHERE :do IS 'it' AND menkhodur_fault(fen) IS NULL HAVING :do IS 'it';
+SELECT printf('%d positions, each under its %s', count(*), (SELECT key FROM rule)) FROM main.position
+WHERE :do IS 'it' AND menkhodur_fault(fen) IS NULL HAVING :do IS 'it';
 SELECT 'nothing was changed: :do it changes' WHERE :do IS NULL;
 INSERT INTO stop SELECT 'faulty' FROM faulty WHERE n > 0 AND :do IS 'it';
