@@ -7,6 +7,7 @@
 -- moved with it, through as many tables as refer to one another. What the script does not know it names, and then changes nothing (`refused: ..`,
 -- status 3). All is one transaction, in which others can read; at its end comes the check on new rows, and behind it that on all rows. More options:
 --
+--     -v settled=yes            the right key is the settled one: keys with an en passant square that no pawn can use are merged too, and refused then
 --     -v wins=kept              where the rows of one position differ in further columns, those of the right key's row stay (or of the first name's)
 --     -v also=TABLE.COLUMN,..   columns that refer to `position` without a foreign key
 --     -v leave=TABLE.COLUMN,..  columns that hold second names and are to keep them
@@ -20,9 +21,23 @@
 \pset format unaligned
 SELECT menkhodur_version() AS version \gset
 
--- The rule, in this one place: the function that gives a text's right key, and the one that the check asks.
+-- The rule, in this one place: the function that gives a text's right key, the one that the check asks, and the domain of such keys.
+\if :{?settled}
+\else
+\set settled ''
+\endif
+SELECT :'settled' <> '' AS by_settled \gset
+\if :by_settled
+\set key_of menkhodur_settled
+\set is_key menkhodur_is_settled
+\set domain fen_position
+\set key 'settled key'
+\else
 \set key_of menkhodur_key
 \set is_key menkhodur_is_key
+\set domain fen_key
+\set key key
+\endif
 
 \if :{?do}
 \else
@@ -59,6 +74,8 @@ BEGIN
     END IF;
 END $$;
 INSERT INTO refusal (why) SELECT format('do is %L, and only ''it'' is known', :'do') WHERE :'do' NOT IN ('', 'it')
+UNION ALL SELECT format('settled is %L, and only ''yes'' is known', :'settled') WHERE :'settled' NOT IN ('', 'yes')
+UNION ALL SELECT format('the extension here has no %s: ALTER EXTENSION menkhodur UPDATE', :'key_of') WHERE to_regprocedure(:'key_of' || '(text)') IS NULL
 UNION ALL SELECT format('wins is %L, and only ''kept'' is known', :'wins') WHERE :'wins' NOT IN ('', 'kept');
 
 -- ---- What the catalog says: columns, foreign keys by pairs of columns, and what is unique
@@ -96,6 +113,10 @@ UNION ALL SELECT format('%s is a part of position on another server', relid) FRO
 UNION ALL SELECT format('%s inherits from position', i.inhrelid::regclass) FROM pg_inherits i JOIN pg_class c ON c.oid = i.inhrelid
 WHERE i.inhparent = :pos AND NOT c.relispartition
 UNION ALL SELECT format('%s refers to %s, a part of position', f.tab::regclass, f.parent::regclass) FROM foreign_key f JOIN part ON part.relid = f.parent
+-- A store that keeps settled keys is not turned back: then it would take two names for one position.
+UNION ALL SELECT DISTINCT format('%s keeps settled keys: say settled=yes', shown) FROM col c LEFT JOIN pg_constraint k ON k.conrelid = c.tab AND k.contype = 'c'
+WHERE :'settled' = '' AND c.name = 'fen' AND c.tab IN (:pos, to_regclass('game_position'))
+    AND (c.atttypid = to_regtype('fen_position') OR pg_get_constraintdef(k.oid) LIKE 'CHECK (menkhodur_is_settled(%')
 UNION ALL SELECT format('%s belongs to %s, who alone can put the check on', shown, relowner::regrole) FROM col
 WHERE name = 'fen' AND tab IN (:pos, to_regclass('game_position')) AND NOT pg_has_role(relowner, 'USAGE');
 
@@ -226,7 +247,8 @@ WHERE r.col IS NULL AND c.is_text AND NOT c.generated AND c.relkind <> 'f' AND N
 INSERT INTO refusal (why) SELECT format('%s.%s holds %s second names, and no foreign key says that it refers to position: ', shown, name, n) ||
     format('also=%s.%s moves them, leave=%s.%s keeps them', shown, name, shown, name) FROM counted WHERE what = 'unknown' AND n > 0
 UNION ALL SELECT format('%s has a constraint one_name that is not this store''s', conrelid::regclass) FROM pg_constraint
-WHERE conname = 'one_name' AND conrelid IN (:pos, to_regclass('game_position')) AND pg_get_constraintdef(oid) NOT LIKE 'CHECK (' || :'is_key' || '(%';
+WHERE conname = 'one_name' AND conrelid IN (:pos, to_regclass('game_position')) AND pg_get_constraintdef(oid) NOT LIKE 'CHECK (' || :'is_key' || '(%'
+    AND pg_get_constraintdef(oid) NOT LIKE 'CHECK (menkhodur_is_key(%';
 
 -- ---- What it comes to
 
@@ -245,10 +267,12 @@ SELECT 'quicker with an index on ' || string_agg(shown || '.' || name, ', ' ORDE
 WHERE :renamed + :merged > 0 AND NOT EXISTS (SELECT 1 FROM pg_index i WHERE i.indrelid = r.tab AND i.indkey[0] = r.col AND i.indisvalid) HAVING count(*) > 0;
 SELECT pg_temp.stop_if_refused() \g /dev/null
 
-CREATE TEMP TABLE guard ON COMMIT DROP AS SELECT c.shown, format('ALTER TABLE %s ADD CONSTRAINT one_name CHECK (%s(fen)) NOT VALID', c.tab_name, :'is_key')
-    AS sql
-FROM col c WHERE c.tab IN (:pos, to_regclass('game_position')) AND c.name = 'fen' AND c.atttypid <> coalesce(to_regtype('fen_key'), 0)
-    AND NOT EXISTS (SELECT 1 FROM pg_constraint k WHERE k.conrelid = c.tab AND k.conname = 'one_name');
+-- A check of keys gives way to that of settled keys; a column of the domain of keys gets it too.
+CREATE TEMP TABLE guard ON COMMIT DROP AS SELECT c.shown, format('ALTER TABLE %s %sADD CONSTRAINT one_name CHECK (%s(fen)) NOT VALID', c.tab_name,
+    CASE WHEN k.oid IS NULL THEN '' ELSE 'DROP CONSTRAINT one_name, ' END, :'is_key') AS sql
+FROM col c LEFT JOIN pg_constraint k ON k.conrelid = c.tab AND k.conname = 'one_name'
+WHERE c.tab IN (:pos, to_regclass('game_position')) AND c.name = 'fen' AND c.atttypid <> coalesce(to_regtype(:'domain'), 0)
+    AND (k.oid IS NULL OR pg_get_constraintdef(k.oid) NOT LIKE 'CHECK (' || :'is_key' || '(%');
 SELECT coalesce(string_agg(format(E'%s.%s: %s references %s moved to the right key\n', shown, name, n, :'were'), '' ORDER BY shown, name), '') AS moved_told
 FROM counted WHERE what = 'refers' \gset
 SELECT coalesce(string_agg(shown || CASE WHEN :'doing' THEN E' refuses second names now\n' ELSE E' would refuse second names\n' END, '' ORDER BY shown), '')
@@ -286,17 +310,17 @@ SELECT pg_temp.stop_if_refused() \g /dev/null
 SELECT sql FROM guard \gexec
 SELECT count(*) AS keys FROM position WHERE menkhodur_fault(fen) IS NULL \gset
 COMMIT;
-\echo :renamed positions were filed under second names alone and have their key now
+\echo :renamed positions were filed under second names alone and have their :key now
 \else
 ROLLBACK;
-\echo :renamed positions are filed under second names alone and would get their key
+\echo :renamed positions are filed under second names alone and would get their :key
 \endif
-\echo :merged second names :were merged into the row of their key
+\echo :merged second names :were merged into the row of their :key
 \echo -n :moved_told
 \echo -n :guards_told
 SELECT :faulty || ' names are no FEN text, have no key, and are left' WHERE :faulty > 0;
 \if :doing
-\echo :keys positions, each under its key
+\echo :keys positions, each under its :key
 -- Looks at every row once; others may read and write meanwhile.
 SELECT format('ALTER TABLE %s VALIDATE CONSTRAINT one_name', conrelid::regclass) FROM pg_constraint
 WHERE conname = 'one_name' AND NOT convalidated AND conrelid IN (to_regclass('position'), to_regclass('game_position')) ORDER BY conrelid \gexec

@@ -2,11 +2,20 @@
 -- places of games refer to the name, and, of a name that is no FEN text, what is wrong with it (such a name has no key).
 --
 --     psql -f host/postgres/second-names.sql STORE
+--
+-- With `-v settled=yes` the right key is the settled one: then a key with an en passant square that no pawn can use is shown too.
 \set ON_ERROR_STOP on
 SELECT menkhodur_version() AS version \gset
 
 -- The rule, in this one place: the function that gives a text's right key.
 \set key_of menkhodur_key
+\if :{?settled}
+\set key_of menkhodur_settled
+SELECT :'settled' <> 'yes' AS unknown \gset
+\if :unknown
+DO $$ BEGIN RAISE EXCEPTION 'settled is known as yes alone'; END $$;
+\endif
+\endif
 
 SELECT n.fen AS name, n.key,
        EXISTS (SELECT 1 FROM position p WHERE p.fen = n.key) AS key_is_filed,
