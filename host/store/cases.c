@@ -1,5 +1,6 @@
 /* Prints what a database is asked in host/postgres/test, a line each, as PostgreSQL's COPY reads it: the text, whether it is a key, its key, whether
- * it is a settled key, its settled key, the refusal as JSON and as a message. Texts with a 0 byte are left out: PostgreSQL has none. With `ascii` only ASCII texts are printed. */
+ * it is a settled key, its settled key, the refusal as JSON and as a message. Texts with a 0 byte are left out: PostgreSQL has none. With `ascii` only
+ * ASCII texts are printed. */
 #include "judge.h"
 
 #include <stdio.h>
