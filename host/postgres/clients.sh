@@ -1,5 +1,5 @@
 # For host/postgres/three and six, behind servers.sh: a store over the servers 0 to 2, four clients who file into it at once, and what must be there then.
-# A script sets `parts` and `batch`, calls `positions_of [FILE]`, makes the servers, and then calls `store_make`.
+# A script sets `parts`, `batch` and, for settled keys, `rule`, calls `positions_of [FILE]`, makes the servers, and then calls `store_make`.
 #
 # A client files in transactions of one partition, in the order of keys: so a transaction is one server's, accepted whole or not at all, and no two
 # clients wait for each other in a circle. Accepted means that the client was told so. What was not accepted, for whatever reason, is offered again in the
@@ -26,7 +26,7 @@ store_layout() { # role that is made and given the store
     for server in 0 1 2; do
         on $server -c "CREATE ROLE $1 LOGIN PASSWORD '$secret'" || exit 1
         host/postgres/layout $server "$parts" 127.0.0.1:"$port_0" 127.0.0.1:"$port_1" 127.0.0.1:"$port_2" >"$work/layout.sql" || exit 1
-        on $server -v user="$PGUSER" -v password="$PGPASSWORD" -v role="$1" -v role_password="$secret" -f "$work/layout.sql" ||
+        on $server ${rule-} -v user="$PGUSER" -v password="$PGPASSWORD" -v role="$1" -v role_password="$secret" -f "$work/layout.sql" ||
             die "the layout of server $server is refused"
     done
 }
@@ -133,7 +133,7 @@ rate() { [ "$1" -lt 100000 ] || printf ', %d a second' $(($1 / $2)); }
 kings() {
     seq 0 63 | awk '{ f = $1 % 8; row = (f ? f : "") "K" (f < 7 ? 7 - f : ""); t = ""
         for (r = 0; r < 8; r++) t = t (r ? "/" : "") (r == int($1 / 8) ? row : 8); print t " w - - 0 1" }' >"$work/kings"
-    on 0 -c 'CREATE TABLE king (fen fen_key)' -c "\\copy king from '$work/kings'" || exit 1
+    on 0 -c 'CREATE TABLE king (LIKE position)' -c "\\copy king from '$work/kings'" || exit 1
 }
 # The first of them that belongs into the partition and was not taken yet.
 king_in() {
