@@ -5,6 +5,7 @@ use native.Mathlib.Omega.{arith}
 use Prim.Native.Nat.{_≤_}
 use lib.ListN.{length, take}
 use lib.Seq.{length-take-le}
+use Rattle.fen_text.specs.Lines.{lineFeed}
 use Rattle.fen_reader.proofs.Blocks.{end-within}
 use Rattle.keys.proofs.line.newline_at.Statement.{statement}
 use Rattle.keys.proofs.line.newline_at.Tie as tie
@@ -21,7 +22,7 @@ returns c =
     let at-pre = c .before .before .before .pre in
     let long : length (take (a .to) (a .text .now)) ≡ a .to = length-take-le (a .to) (a .text .now) (at-pre .1) in
     let within : a .from ≤ length (take (a .to) (a .text .now)) = omega (arith, at-pre .0) in
-    (omega (arith, c .line-end .ensures), omega (arith, c .line-end .ensures, end-within (take (a .to) (a .text .now)) (a .from) within))
+    (omega (arith, c .line-end .ensures), omega (arith, c .line-end .ensures, end-within lineFeed (take (a .to) (a .text .now)) (a .from) within))
 
 pub newline-at-spec : {M : Type 1} → statement M
 newline-at-spec = tie.close (tie.spec slice-aggregate-line-end line-end-requires returns)
