@@ -92,7 +92,7 @@ void check_fen(const char *positions);
 void check_full(const char *positions);
 void check_page(const char *positions, const char *pages);
 void check_report(const char *positions, const char *pages);
-void check_settled(const char *positions, const char *passing);
+void check_settled(const char *positions, const char *passing, const char *keys);
 void check_coordinates(void);
 void check_san(void);
 void check_standard(void);

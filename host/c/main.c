@@ -63,9 +63,9 @@ static const struct answers all[] = {
 
 int main(int argc, char **argv)
 {
-    exact = argc > 4 && strcmp(argv[4], "exact") == 0;
-    if (argc < 4) {
-        fputs("usage: check POSITIONS PAGES PASSING [exact]\n", stderr);
+    exact = argc > 5 && strcmp(argv[5], "exact") == 0;
+    if (argc < 5) {
+        fputs("usage: check POSITIONS PAGES PASSING SETTLED [exact]\n", stderr);
         return 2;
     }
     check_base();
@@ -75,7 +75,7 @@ int main(int argc, char **argv)
     check_full(argv[1]);
     check_page(argv[1], argv[2]);
     check_report(argv[1], argv[2]);
-    check_settled(argv[1], argv[3]);
+    check_settled(argv[1], argv[3], argv[4]);
     check_coordinates();
     check_san();
     check_standard();

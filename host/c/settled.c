@@ -213,7 +213,24 @@ static void check_file(const char *path)
     if (f) fclose(f);
 }
 
-void check_settled(const char *positions, const char *passing)
+/* Rows `TEXT -> KEY`, of which the crate's `Board` was asked before. */
+static void check_crate(const char *path)
+{
+    char row[256];
+    unsigned count = 0;
+    FILE *f = fopen(path, "r");
+    about(fen_settled, "file %s", path);
+    expect("can be opened", 1, f != NULL);
+    while (f && fgets(row, sizeof row, f)) {
+        char *arrow = strstr(row, " -> ");
+        if (row[0] == '#' || !arrow || (exact && count++ % 64)) continue;
+        arrow[strcspn(arrow, "\n")] = 0;
+        check_key(row, (size_t)(arrow - row), arrow + 4);
+    }
+    if (f) fclose(f);
+}
+
+void check_settled(const char *positions, const char *passing, const char *keys)
 {
     check_kept();
     check_cleared();
@@ -224,4 +241,5 @@ void check_settled(const char *positions, const char *passing)
     check_short_texts();
     check_file(positions);
     check_file(passing);
+    check_crate(keys);
 }

@@ -22,15 +22,25 @@ pub enum Input {
     Key(String, i64),
 }
 
+/// What the crate's `Board` keeps of a record, if it takes it. It has no counters: they are the record's.
+fn kept_by_crate(record: &Record) -> Option<Record> {
+    let board = in_range(record).then(|| crate_board(record)).flatten()?;
+    let kept = record_of(&BoardBuilder::from(&board));
+    Some(Record { half_moves: record.half_moves, full_moves: record.full_moves, ..kept })
+}
+
+/// The crate's text of a record, and the text of what its `Board` keeps of it, if it takes it.
+pub fn told_by_crate(record: &Record) -> Option<(String, String)> {
+    kept_by_crate(record).map(|kept| (owed_text(record).0, owed_text(&kept).0))
+}
+
 /// What is owed for a record, and whether the crate said so.
 fn owed(record: &Record) -> Result<(Stepped, bool), String> {
     let by_rule = settled_rule::owed(record);
-    let Some(board) = in_range(record).then(|| crate_board(record)).flatten() else {
+    let Some(board) = kept_by_crate(record) else {
         return Ok((by_rule, false));
     };
-    // The crate's board has no counters: they are the record's.
-    let kept = record_of(&BoardBuilder::from(&board));
-    let kept = Stepped { number: 0, board: Record { half_moves: record.half_moves, full_moves: record.full_moves, ..kept } };
+    let kept = Stepped { number: 0, board };
     match kept == by_rule {
         true => Ok((kept, true)),
         false => Err(format!("crate {}, by the words {}", shown(&kept), shown(&by_rule))),

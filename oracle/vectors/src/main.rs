@@ -1,11 +1,12 @@
 //! Writes the crate's answers down: a script for the proved program `replay` and what that must print, a sample; and what the
-//! proved program `leaves` must print, everything in range; and pages of FENs for the tests of the host's side. Every answer is the
-//! crate's, by the rules of `compare`; nothing here asks the archive.
+//! proved program `leaves` must print, everything in range; and pages of FENs and settled keys for the tests of the host's side. Every answer
+//! is the crate's, by the rules of `compare`; nothing here asks the archive.
 //!
-//!     vectors SCRIPT PRINTED LEAVES PAGES      the four files to write; always the same bytes
+//!     vectors SCRIPT PRINTED LEAVES PAGES SETTLED      the five files to write; always the same bytes
 
 mod leaves;
 mod pages;
+mod settled;
 
 use both::games::{random_move, Positions};
 use both::numbers::{builder_of, move_of, number_of, result_number, MOST_MOVE};
@@ -314,8 +315,8 @@ fn make() -> Result<Vectors, String> {
 
 fn main() {
     let paths: Vec<String> = std::env::args().skip(1).collect();
-    let [script, printed, leaves, pages] = &paths[..] else {
-        eprintln!("usage: vectors SCRIPT PRINTED LEAVES PAGES");
+    let [script, printed, leaves, pages, settled] = &paths[..] else {
+        eprintln!("usage: vectors SCRIPT PRINTED LEAVES PAGES SETTLED");
         std::process::exit(2);
     };
     let write = |path: &String, text: String| std::fs::write(path, text).map_err(|e| format!("{}: {}", path, e));
@@ -323,7 +324,8 @@ fn main() {
         write(script, v.script)?;
         write(printed, v.printed)?;
         write(leaves, leaves::printed())?;
-        write(pages, pages::written()?)
+        write(pages, pages::written()?)?;
+        write(settled, settled::written())
     });
     if let Err(why) = done {
         eprintln!("vectors: {}", why);

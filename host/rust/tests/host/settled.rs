@@ -120,3 +120,14 @@ fn what_is_played_is_settled() {
         assert_eq!((board.settled(), board.en_passant_file()), (board, file), "{text}");
     }
 }
+
+/// What the crate's `Board` keeps of positions of games with each file put in (oracle/remake-vectors).
+#[test]
+fn as_the_crates_board_keeps_them() {
+    let rows: Vec<_> = include_str!("settled.txt").lines().filter(|row| !row.starts_with('#')).map(|row| row.split_once(" -> ").unwrap()).collect();
+    for (text, key) in &rows {
+        assert_eq!((Board::settled_key(text).as_deref(), Board::from_fen(text).unwrap().settled().to_fen().as_str()), (Ok(*key), *key), "{text}");
+    }
+    let (kept, cleared) = rows.iter().filter(|(text, _)| !text.ends_with(" - 0 1")).partition::<Vec<_>, _>(|(text, key)| text == key);
+    assert!(kept.len() > 40 && cleared.len() > 200, "{} kept, {} cleared", kept.len(), cleared.len());
+}
