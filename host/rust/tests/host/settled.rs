@@ -124,9 +124,14 @@ fn what_is_played_is_settled() {
 /// What the crate's `Board` keeps of positions of games with each file put in (oracle/remake-vectors).
 #[test]
 fn as_the_crates_board_keeps_them() {
-    let rows: Vec<_> = include_str!("settled.txt").lines().filter(|row| !row.starts_with('#')).map(|row| row.split_once(" -> ").unwrap()).collect();
+    let rows: Vec<_> =
+        include_str!("settled.txt").lines().filter(|row| !row.starts_with('#')).map(|row| row.split_once(" -> ").unwrap()).collect();
     for (text, key) in &rows {
-        assert_eq!((Board::settled_key(text).as_deref(), Board::from_fen(text).unwrap().settled().to_fen().as_str()), (Ok(*key), *key), "{text}");
+        assert_eq!(
+            (Board::settled_key(text).as_deref(), Board::from_fen(text).unwrap().settled().to_fen().as_str()),
+            (Ok(*key), *key),
+            "{text}"
+        );
     }
     let kept = rows.iter().filter(|(text, key)| text == key && !text.ends_with(" - 0 1")).count();
     let cleared = rows.iter().filter(|(text, key)| text != key).count();
