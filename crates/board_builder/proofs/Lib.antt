@@ -1,3 +1,4 @@
+pub mod AtSmallest
 pub mod Ranges
 pub mod Stepping
 pub mod Numbers

@@ -2,3 +2,4 @@ pub mod BoardBuilder
 pub mod Steps
 pub mod Getters
 pub mod Promises
+pub mod AtSmallest

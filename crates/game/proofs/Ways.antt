@@ -2,17 +2,16 @@
 -- Assumes nothing.
 use mathlib.Core.Path.{_≡_, refl, ap, ap₂, sym, _∙_}
 use mathlib.Core.Bool.{Bool, true, false, cond, not, _&&_}
-use mathlib.Core.List.{List, [], _∷_}
+use mathlib.Core.List.{List, [], _∷_, _++_}
 use Prim.Native.Nat.{ℕ, _+_, _*_, _≤_, _<_}
 use native.Mathlib.Omega.{arith}
-use lib.ListN.{length, getD}
+use lib.ListN.{length, drop, getD}
 use native.Mathlib.Numerals.{add-one}
 use lib.Dec.{eqb, leb, ltb}
-use borrow.Author.Tests.{eq-eqb, ne-eqb, eqb-true, eqb-false, lt-ltb, le-ltb, lt-leb, le-leb, leb-true}
+use borrow.Author.Tests.{eq-eqb, ne-eqb, eqb-true, eqb-false, lt-ltb, le-ltb, lt-leb, le-leb}
 use Rattle.answer.specs.declared.Answer.{Answer}
-use Rattle.answer.specs.Answer.{accepted, refused, gameOver, logFull, notListed, wrongSide, wrongRecord, partTooShort}
+use Rattle.answer.specs.Answer.{accepted, refused, gameOver, logFull, notListed, wrongSide, wrongRecord, partTooShort, writeAnswer, writeBytes}
 use Rattle.answer.specs.Parts.{item, written}
-use Rattle.answer.proofs.Numbers.{both-right}
 use Rattle.board_builder.specs.declared.BoardBuilder.{BoardBuilder}
 use Rattle.board_builder.specs.BoardBuilder.{squares, recordSize, sideAt, numbers}
 use Rattle.chess_move.specs.Number.{moveOf}
@@ -23,6 +22,7 @@ use Rattle.action.specs.Layout.{actionSize, actionBytes}
 use Rattle.position.specs.Layout.{Position, positionSize, side, positionOf, positionAt}
 use Rattle.stored_position.specs.Bytes.{positionBytes, positionCheck, positionGiven, listsMove}
 use Rattle.stored_position.proofs.Checks.{behind}
+use Rattle.stored_position.proofs.ReadBack.{one-size}
 use Rattle.position.proofs.Fields.{side-at}
 use Rattle.claim.specs.Claim.{claimAt}
 use Rattle.ending.specs.Ending.{resultAt}
@@ -33,7 +33,7 @@ use Rattle.game_rules.specs.Good.{historyOf}
 use Rattle.game_rules.specs.Calls.{longEnough, logCheck, callAnswer, startAnswer, resultAnswer, claimAnswer, counts, countsAfter, actionsAfter}
 use Rattle.game_rules.specs.Calls.{positionsAfter, positionsBegun, acceptedUnless}
 use Rattle.good_log.specs.CodeSteps.{otherCheck}
-use Rattle.game_rules.proofs.Checks.{first-refuses, first-passes, start-says}
+use Rattle.game_rules.proofs.Checks.{first-refuses, first-passes}
 use Rattle.game_rules.proofs.Log.{result-is}
 use Rattle.game_rules.proofs.Rulings.{claim-is}
 use Rattle.game.proofs.Answers.{Ready, log-ready, move-is}
@@ -88,16 +88,11 @@ module _ (a x n m k : ℕ) (acts ps : List ℕ) (p : Position) (r : Counts) (e :
   move-accepted v w z given acted placed =
       rw (sym e ∙ z) (given, (acted, placed ∙ ap (λ (j : ℕ). written ps (positionSize * j) (positionBytes p)) (add-one m)))
 
--- a start, answered a
+-- a refused start, answered a
 module _ (a x : ℕ) (ps : List ℕ) (p : Position) (r : Counts) (e : x ≡ a) where
   pub start-refused : (x ≡ 0 → ⊥) → r ≡ counts x 0 0 → (r ≡ counts a 0 0) × (ps ≡ positionsBegun a ps p)
   unfolding positionsBegun
   start-refused some given = rw (ne-eqb a 0 (λ z. some (e ∙ z))) (given ∙ ap (λ (j : ℕ). counts j 0 0) e, refl)
-
-  pub start-accepted : (w : List ℕ) → x ≡ 0 → r ≡ counts 0 0 0 → w ≡ written ps (positionSize * 0) (positionBytes p)
-      → (r ≡ counts a 0 0) × (w ≡ positionsBegun a ps p)
-  unfolding positionsBegun
-  start-accepted w z given placed = rw (sym e ∙ z) (given, placed)
 
 -- a query whose log was answered a
 module _ (a x v : ℕ) (r : Answer) (e : x ≡ a) where
@@ -270,12 +265,36 @@ module _ (acts ps : List ℕ) (p : Position) where
   start-checked x h g e = held (longEnough limits acts ps) partTooShort x (positionCheck p ∷ []) (ap₂ _&&_ (le-leb _ _ h) (le-leb _ _ g))
       (only (positionCheck p) x e)
 
-  pub start-found : startAnswer limits acts ps p ≡ 0 → (positionSize * 0 + positionSize ≤ length ps) × (positionCheck p ≡ 0)
-  start-found h =
-      let s = start-says limits acts ps p h in
-      let long : leb (positionsLength limits) (length ps) ≡ true =
-      both-right (leb (actionsLength limits) (length acts)) (leb (positionsLength limits) (length ps)) (s .0) in
-      (omega (arith, leb-true (positionsLength limits) (length ps) long), s .1)
+  -- the writer's 7 does not come, since the part is long enough
+  module _ (h : actionsLength limits ≤ length acts) (g : positionsLength limits ≤ length ps) where
+    holds : positionCheck p ≡ 0 → leb (length (positionBytes p)) (length ps) ≡ true
+    holds k = le-leb (length (positionBytes p)) (length ps) (omega (arith, g, one-size p k))
+
+    put-number : writeAnswer (positionCheck p) (positionBytes p) (length ps) .number ≡ positionCheck p
+    unfolding writeAnswer
+    put-number = go (eqb (positionCheck p) 0) refl
+      where
+        go : (t : Bool) → eqb (positionCheck p) 0 ≡ t → writeAnswer (positionCheck p) (positionBytes p) (length ps) .number ≡ positionCheck p
+        go true e = let k = eqb-true (positionCheck p) 0 e in simp (e, holds k) (sym k)
+        go false e = simp e
+
+    put-left : writeBytes (positionCheck p) (positionBytes p) ps ≡ positionsBegun (positionCheck p) ps p
+    unfolding writeBytes positionsBegun
+    put-left = go (eqb (positionCheck p) 0) refl
+      where
+        go : (t : Bool) → eqb (positionCheck p) 0 ≡ t → writeBytes (positionCheck p) (positionBytes p) ps ≡ positionsBegun (positionCheck p) ps p
+        go true e =
+            let from : length (positionBytes p) ≡ 0 + length (positionBytes p) = omega arith in
+            simp (e, holds (eqb-true (positionCheck p) 0 e)) (ap (λ (n : ℕ). positionBytes p ++ drop n ps) from)
+        go false e = simp e
+
+    pub start-put : (x : Answer) (w : List ℕ) (r : Counts) → x ≡ writeAnswer (positionCheck p) (positionBytes p) (length ps)
+        → w ≡ writeBytes (positionCheck p) (positionBytes p) ps → r ≡ counts (x .number) 0 0
+        → (r ≡ counts (startAnswer limits acts ps p) 0 0) × (w ≡ positionsBegun (startAnswer limits acts ps p) ps p)
+    start-put x w r answered left given =
+        let e : positionCheck p ≡ startAnswer limits acts ps p = start-checked (positionCheck p) h g refl in
+        let number : x .number ≡ startAnswer limits acts ps p = ap (λ (y : Answer). y .number) answered ∙ put-number ∙ e in
+        (given ∙ ap (λ (n : ℕ). counts n 0 0) number, left ∙ put-left ∙ ap (λ (n : ℕ). positionsBegun n ps p) e)
 
 -- the queries
 module _ (acts ps : List ℕ) (n m x v : ℕ) (r : Answer) (e : x ≡ logCheck limits acts ps n m) (f : v ≡ resultAt acts ps n m) where

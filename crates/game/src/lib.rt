@@ -229,18 +229,6 @@ pub fn make_move(
     counts(ACCEPTED, actions + 1, moves + 1)
 }
 
-fn start_answer(acts: &[u8], ps: &[u8], b: BoardBuilder, in_check: u8, list: &[u16]) -> u64
-    ensures { λ r. ⌜ r ≡ startAnswer limits (now (acts .entry)) (now (ps .entry)) (positionGiven b in_check (now (list .entry))) ⌝ }
-{
-    if acts.len() < ACTIONS_LENGTH {
-        return PART_TOO_SHORT;
-    }
-    if ps.len() < POSITIONS_LENGTH {
-        return PART_TOO_SHORT;
-    }
-    stored_position::check(b, in_check, list)
-}
-
 // Begins a log with a position: a board, its in-check byte and its list of moves. The actions part is measured and not written.
 pub fn start(acts: &[u8], ps: &mut [u8], b: BoardBuilder, in_check: u8, list: &[u16]) -> Counts
     ensures counts { λ r. ⌜ r ≡ counts (startAnswer limits (now (acts .entry)) (now (ps .entry)) (positionGiven b in_check (now (list .entry)))) 0 0 ⌝ }
@@ -248,12 +236,15 @@ pub fn start(acts: &[u8], ps: &mut [u8], b: BoardBuilder, in_check: u8, list: &[
         (startAnswer limits (now (acts .entry)) (now (ps .entry)) (positionGiven b in_check (now (list .entry))))
         (now (ps .entry)) (positionGiven b in_check (now (list .entry))) ⌝ }
 {
-    let number = start_answer(acts, ps, b, in_check, list);
-    if number != ACCEPTED {
-        return counts(number, 0, 0);
+    if acts.len() < ACTIONS_LENGTH {
+        return counts(PART_TOO_SHORT, 0, 0);
     }
-    put_position(ps, 0, b, in_check, list);
-    counts(ACCEPTED, 0, 0)
+    if ps.len() < POSITIONS_LENGTH {
+        return counts(PART_TOO_SHORT, 0, 0);
+    }
+    // the writer's 5 and 6 are the call's own; its 7 does not come, since the part is long enough
+    let put = stored_position::to_bytes(b, in_check, list, ps);
+    counts(put.number, 0, 0)
 }
 
 // How the game has ended, 1 to 7 in the order of `GameResult`, or 0 if it has not.
