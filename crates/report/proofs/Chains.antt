@@ -16,7 +16,7 @@ use Rattle.answer.proofs.Numbers.{both-left, both-right}
 use Rattle.answer.proofs.Same.{same-eq}
 use Rattle.report_text.specs.Report.{mostLines, one}
 use Rattle.report_text.specs.Repeats.{foundBelow, repeatsBelow}
-use Rattle.report.specs.CodeSets.{bucketCount, bucketOf, setBucket}
+use Rattle.report.specs.CodeSets.{bucketCount, bucketOf, planeBucket}
 use Rattle.report.specs.CodeRooms.{countsAt, alikeIn, recordAt, Bucketed}
 use Rattle.report.specs.CodeChains.{isNew, latest, Chained, bucketIn, Linked}
 
@@ -191,7 +191,7 @@ latestIn records told buckets b k = latest (countsAt told) (alikeIn records) (bu
 
 module _ (records told buckets : List ℕ) (i : ℕ) where
   pub bucket-below : Bucketed records told buckets (i + 1) → countsAt told i ≡ true → bucketIn buckets i < bucketCount
-  unfolding bucketOf setBucket
+  unfolding bucketOf planeBucket
   bucket-below b e = omega (arith, b .each i (omega arith) e)
 
   module _ (heads next : List ℕ) (was : Linked records told buckets heads next i) where

@@ -1,4 +1,4 @@
-pub mod Sets
+pub mod Planes
 pub mod Sums
 pub mod Chains
 pub mod Filling

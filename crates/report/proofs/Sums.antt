@@ -1,13 +1,13 @@
--- Laws of sums: twelve sums that a record's men are added to, over the kinds and over the lines; the sets mixed kind by kind; and the lines' buckets.
+-- Laws of sums: twelve sums that a record's men are added to, over the kinds and over the lines; a record as a whole; and the lines' buckets.
 -- Assumes nothing.
-use mathlib.Core.Path.{_≡_, refl, ap, sym, _∙_}
+use mathlib.Core.Path.{_≡_, refl, ap, ap₂, sym, _∙_}
 use mathlib.Core.Bool.{Bool, true, false, false≢true, cond}
 use mathlib.Core.List.{List, [], _∷_}
-use Prim.Native.Nat.{ℕ, zero, suc, zero-le, _+_, _*_, _%_, _^_, _≤_, _<_}
+use Prim.Native.Nat.{ℕ, zero, suc, zero-le, _+_, _*_, _^_, _≤_, _<_}
 use native.Mathlib.Numerals.{add-one}
 use native.Mathlib.Nat.{le-antisymm, mul-comm}
 use native.Mathlib.Omega.{arith}
-use lib.Count.{ones, ones-le}
+use lib.Count.{ones}
 use lib.Dec.{eqb, ltb}
 use lib.ListN.{length, take, drop, getD, set, length-set, length-take, length-drop, replicate, List·getD-eq-default}
 use lib.Seq.{length-take-le, getD-set-same, getD-set-other}
@@ -15,41 +15,52 @@ use borrow.Author.Tests.{eq-eqb, ne-eqb, eqb-true, eqb-false, ltb-true, ltb-fals
 use Rattle.answer.specs.Numbers.{allAtMost}
 use Rattle.board_builder.specs.BoardBuilder.{squares, recordSize}
 use Rattle.fen_text.specs.Page.{toldSize}
-use Rattle.report_text.specs.Report.{mostLines, one, squaresWith}
+use Rattle.report_text.specs.Report.{mostLines, one, squaresWith, twelve}
+use Rattle.report_text.specs.Sets.{setOf}
 use Rattle.report_text.proofs.Sets.{ones-are-the-squares}
+use Rattle.report_text.proofs.Figures.{saidFrom, said-at}
 use Rattle.report.specs.CodeRooms.{countsAt, recordAt, squaresAt, countedBelow, menBelow, AddedIf, MenSums, Bucketed}
-use Rattle.report.specs.CodeSets.{Gathered, Added, mixed, mixedSets, bucketCount, setBucket, seedOf, bucketOf}
-use Rattle.report.proofs.Sets.{plusAt, sums-fit, zeros}
+use Rattle.report.specs.declared.sets.Planes.{Planes}
+use Rattle.report.specs.CodeSets.{byFiles, planesOf, kindSets, Added, planeBucket, seedOf, bucketOf}
+use Rattle.report.proofs.Planes.{squares-by-files, files-long, files-most}
 
 -- ---- the kinds
 
--- a set as the sum of its two parts
-abbrev pub bothAt : List ℕ → List ℕ → ℕ → ℕ
-bothAt even odd code = getD even code 0 + getD odd code 0
+zeros : (n k : ℕ) → getD {A = ℕ} (replicate n 0) k 0 ≡ 0
+zeros zero k = refl
+zeros (suc n) zero = refl
+zeros (suc n) (suc k) = zeros n k
+
+kind-at : (f : ℕ → ℕ) (k : ℕ) → k < 12 → getD (twelve f) k 0 ≡ f (k + 1)
+unfolding saidFrom
+kind-at f k h = said-at f 1 12 k h ∙ ap f (omega arith)
+
+-- a number added at a place
+abbrev plusAt : List ℕ → ℕ → ℕ → List ℕ
+plusAt l x n = set l x (getD l x 0 + n)
 
 -- the bits of the first n kinds' sets are added, and the other sums are as before
-pub record CountedTo (even odd before after : List ℕ) (n : ℕ) : Type 0 where
+pub record CountedTo (sets before after : List ℕ) (n : ℕ) : Type 0 where
   pub long : length after ≡ 12
-  pub done : (j : ℕ) → j < n → getD after j 0 ≡ getD before j 0 + ones (bothAt even odd (j + 1))
+  pub done : (j : ℕ) → j < n → getD after j 0 ≡ getD before j 0 + ones (getD sets j 0)
   pub left : (j : ℕ) → n ≤ j → getD after j 0 ≡ getD before j 0
 
-pub none-counted : (even odd men : List ℕ) → length men ≡ 12 → CountedTo even odd men men 0
-none-counted even odd men e = record { long = e; done = λ j h. absurd (omega arith); left = λ j h. refl }
+pub none-counted : (sets men : List ℕ) → length men ≡ 12 → CountedTo sets men men 0
+none-counted sets men e = record { long = e; done = λ j h. absurd (omega arith); left = λ j h. refl }
 
-module _ {even odd before after : List ℕ} {kind : ℕ} (so-far : CountedTo even odd before after kind) where
-  module _ {r : ℕ} (e : r ≡ ones (bothAt even odd (kind + 1))) where
+module _ {sets before after : List ℕ} {kind : ℕ} (so-far : CountedTo sets before after kind) where
+  module _ {r : ℕ} (e : r ≡ ones (getD sets kind 0)) where
     other-kind : (j : ℕ) → (j ≡ kind → ⊥) → getD (plusAt after kind r) j 0 ≡ getD after j 0
     other-kind j n = getD-set-other after kind j (getD after kind 0 + r) 0 n
 
-    pub kind-counted : kind < 12 → CountedTo even odd before (plusAt after kind r) (kind + 1)
+    pub kind-counted : kind < 12 → CountedTo sets before (plusAt after kind r) (kind + 1)
     kind-counted h = record {
       long = length-set after kind _ ∙ so-far .long;
       done = λ j k. go j k (eqb j kind) refl;
       left = λ j k. other-kind j (λ z. omega arith) ∙ so-far .left j (omega arith);
     }
       where
-        go : (j : ℕ) → j < kind + 1 → (t : Bool) → eqb j kind ≡ t
-            → getD (plusAt after kind r) j 0 ≡ getD before j 0 + ones (bothAt even odd (j + 1))
+        go : (j : ℕ) → j < kind + 1 → (t : Bool) → eqb j kind ≡ t → getD (plusAt after kind r) j 0 ≡ getD before j 0 + ones (getD sets j 0)
         go j k true f =
             let stored = getD-set-same after kind (getD after kind 0 + r) 0 (omega (arith, so-far .long)) in
             rw (eqb-true j kind f, stored, so-far .left kind (omega arith), e)
@@ -57,53 +68,45 @@ module _ {even odd before after : List ℕ} {kind : ℕ} (so-far : CountedTo eve
             let other : j ≡ kind → ⊥ = eqb-false j kind f in
             other-kind j other ∙ so-far .done j (omega arith)
 
-    pub kind-fits : ((j : ℕ) → getD before j 0 ≤ squares * mostLines) → ((code : ℕ) → bothAt even odd code < 2 ^ 64) → getD after kind 0 + r < 2 ^ 64
-    kind-fits most fits =
-        omega (arith, so-far .left kind (omega arith), most kind, ones-le 64 (bothAt even odd (kind + 1)) (fits (kind + 1)))
+  pub kind-fits : {r : ℕ} → r ≤ squares → ((j : ℕ) → getD before j 0 ≤ squares * mostLines) → getD after kind 0 + r < 2 ^ 64
+  kind-fits few most = omega (arith, so-far .left kind (omega arith), most kind)
 
   -- where the sets are those of some squares
-  pub all-counted : 12 ≤ kind → (xs : List ℕ) → Gathered xs even odd → Added xs before after
-  all-counted h xs g = record {
+  pub all-counted : 12 ≤ kind → (xs : List ℕ) → sets ≡ kindSets xs → Added xs before after
+  all-counted h xs e = record {
     long = so-far .long;
     each = λ k l.
-        let men = ap ones (g .sums (k + 1) (omega arith)) ∙ ones-are-the-squares (k + 1) xs in
+        let set = ap (λ (s : List ℕ). getD s k 0) e ∙ kind-at (λ (code : ℕ). setOf code xs) k l in
+        let men = ap ones set ∙ ones-are-the-squares (k + 1) xs in
         so-far .done k (omega arith) ∙ ap (λ (n : ℕ). getD before k 0 + n) men;
   }
-
--- a kind's set mixed in, and all of them
-pub none-mixed : (seed : ℕ) (xs : List ℕ) → seed ≡ mixedSets seed 0 xs
-unfolding mixedSets
-none-mixed seed xs = refl
-
-module _ (seed : ℕ) {h : ℕ} (kind : ℕ) (xs : List ℕ) (so-far : h ≡ mixedSets seed kind xs) where
-  pub kind-mixed : {even odd : List ℕ} {r : ℕ} → Gathered xs even odd → kind < 12 → r ≡ mixed h (bothAt even odd (kind + 1))
-      → r ≡ mixedSets seed (kind + 1) xs
-  unfolding mixedSets
-  kind-mixed g k e = e ∙ rw (so-far, g .sums (kind + 1) (omega arith)) (sym (ap (λ (n : ℕ). mixedSets seed n xs) (add-one kind)))
-
-  pub all-mixed : kind ≤ 12 → 12 ≤ kind → h % bucketCount ≡ setBucket seed xs
-  unfolding setBucket
-  all-mixed most least = let all : kind ≡ 12 = le-antisymm most least in rw (so-far, all)
 
 -- ---- a record
 
 module _ (numbers : List ℕ) {front : List ℕ} (e : front ≡ take squares numbers) (long : length numbers ≡ recordSize) where
-  front-long : length front ≡ squares
-  front-long = ap length e ∙ length-take-le squares numbers (omega arith)
-
   pub front-asks : allAtMost 12 (take squares numbers) ≡ true → (length front ≡ squares) × (allAtMost 12 front ≡ true)
-  front-asks codes = (front-long, ap (allAtMost 12) e ∙ codes)
+  front-asks codes = (ap length e ∙ length-take-le squares numbers (omega arith), ap (allAtMost 12) e ∙ codes)
 
-  module _ {even odd : List ℕ} (g : Gathered front even odd) where
-    pub front-fits : (code : ℕ) → bothAt even odd code < 2 ^ 64
-    front-fits = sums-fit g (omega (arith, front-long))
+  module _ {p : Planes} (g : p ≡ planesOf (byFiles front)) where
+    here : p ≡ planesOf (byFiles (take squares numbers))
+    here = g ∙ ap (λ (xs : List ℕ). planesOf (byFiles xs)) e
 
-    pub front-gathered : Gathered (take squares numbers) even odd
-    front-gathered = rw e at g
+    pub record-bucket : {seed r : ℕ} → seed ≡ seedOf numbers → r ≡ planeBucket seed p → r ≡ bucketOf numbers
+    unfolding bucketOf
+    record-bucket s b = b ∙ ap₂ planeBucket s here
 
-pub record-bucket : (numbers : List ℕ) {seed r : ℕ} → seed ≡ seedOf numbers → r ≡ setBucket seed (take squares numbers) → r ≡ bucketOf numbers
-unfolding bucketOf
-record-bucket numbers s e = e ∙ ap (λ (x : ℕ). setBucket x (take squares numbers)) s
+    -- the men counted on the sets are those of the squares, in whatever order
+    pub record-added : {sets before after : List ℕ} → allAtMost 12 (take squares numbers) ≡ true
+        → ((xs : List ℕ) → length xs ≡ squares → allAtMost 12 xs ≡ true → p ≡ planesOf xs → sets ≡ kindSets xs)
+        → ((xs : List ℕ) → sets ≡ kindSets xs → Added xs before after) → Added (take squares numbers) before after
+    record-added {before = before} codes sets-of added =
+        let xs = take squares numbers in
+        let by-files = added (byFiles xs) (sets-of (byFiles xs) (files-long xs) (files-most xs codes) here) in
+        let few = length-take-le squares numbers (omega arith) in
+        record {
+          long = by-files .long;
+          each = λ k h. by-files .each k h ∙ ap (λ (n : ℕ). getD before k 0 + n) (squares-by-files (k + 1) xs few);
+        }
 
 -- ---- a line
 

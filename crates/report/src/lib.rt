@@ -2,6 +2,7 @@
 mod men;
 mod repeats;
 mod rooms;
+mod sets;
 
 use answer::LOG_FULL;
 use fen_reader::lines::line_count;

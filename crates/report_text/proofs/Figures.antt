@@ -113,7 +113,7 @@ unfoldable pub saidFrom : (ℕ → ℕ) → ℕ → ℕ → List ℕ
 saidFrom f from zero = []
 saidFrom f from (suc n) = f from ∷ saidFrom f (suc from) n
 
-said-at : (f : ℕ → ℕ) (from n i : ℕ) → i < n → getD (saidFrom f from n) i 0 ≡ f (from + i)
+pub said-at : (f : ℕ → ℕ) (from n i : ℕ) → i < n → getD (saidFrom f from n) i 0 ≡ f (from + i)
 unfolding saidFrom
 said-at f from zero i h = absurd (omega arith)
 said-at f from (suc n) zero h = ap f (omega arith)

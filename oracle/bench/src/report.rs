@@ -14,15 +14,17 @@ const LENGTHS: [usize; 4] = [512, 1_024, 2_048, REPORT_LINES];
 /// How many buckets the code puts records into.
 const BUCKETS: u64 = 4_093;
 
-/// Which of them: the code's own rule (`bucketOf` in crates/report/specs/CodeSets.antt). The sets of squares of the twelve kinds are mixed one after the
-/// other into the four other numbers.
+/// Which of them: the code's own rule (`bucketOf` in crates/report/specs/CodeSets.antt). For each bit of a code the set of the squares whose codes have it, file
+/// by file, is mixed into the four other numbers.
 fn bucket(record: &Numbers) -> u64 {
-    let mut sets = [0u64; 13];
+    let mut planes = [0u64; 4];
     for (square, man) in record[..64].iter().enumerate() {
-        sets[*man as usize] |= 1 << square;
+        for (bit, plane) in planes.iter_mut().enumerate() {
+            *plane |= u64::from(man >> bit & 1) << (square % 8 * 8 + square / 8);
+        }
     }
     let seed = u32::from_le_bytes([record[64], record[65], record[66], record[67]]) as u64;
-    sets[1..].iter().fold(seed, |mixed, set| mixed.rotate_left(7) ^ set) % BUCKETS
+    planes.iter().fold(seed, |mixed, plane| mixed.rotate_left(7) ^ plane) % BUCKETS
 }
 
 fn different(count: usize, mut next: impl FnMut() -> Numbers) -> Vec<Numbers> {

@@ -1,19 +1,19 @@
--- `add_men` of men.rt meets its contract: for every xs, Gathered xs (now (even .entry)) (now (odd .entry)) → Added xs (now (men .entry)) (now (men .exit)).
+-- `add_men` of men.rt meets its contract: for every xs, now (sets .entry) ≡ kindSets xs → Added xs (now (men .entry)) (now (men .exit)).
 use borrow.Author.Needs.{needs}
-use Prim.Native.Nat.{_+_, _-_, _≤_}
 use native.Mathlib.Omega.{arith}
+use Prim.Native.Nat.{_-_, _≤_}
 use Rattle.report.proofs.Sums.{CountedTo, none-counted, kind-counted, kind-fits, all-counted}
 use Rattle.report.proofs.men.add_men.Statement.{statement}
 use Rattle.report.proofs.men.add_men.Tie as tie
 
 abbrev Inv-loop : tie.InvT-loop
-Inv-loop even odd men₀ kind₀ men kind = (kind ≤ 12) × CountedTo even odd men₀ men kind
+Inv-loop sets men₀ kind₀ men kind = (kind ≤ 12) × CountedTo sets men₀ men kind
 
 abbrev μ-loop : tie.MeasureT-loop
-μ-loop even odd men₀ kind₀ men kind = 12 - kind
+μ-loop sets men₀ kind₀ men kind = 12 - kind
 
 loop-holds : tie.Need-loop-holds Inv-loop μ-loop
-loop-holds c = (omega arith, none-counted _ _ _ (c .pre .0))
+loop-holds c = (omega arith, none-counted _ _ (c .pre .0))
 
 mul-men : tie.Need-mul-men Inv-loop μ-loop
 mul-men c = omega arith
@@ -21,34 +21,20 @@ mul-men c = omega arith
 element-copy-out-men : tie.Need-element-copy-out-men Inv-loop μ-loop
 element-copy-out-men c = omega arith
 
-add-ones-of : tie.Need-add-ones-of Inv-loop μ-loop
-add-ones-of c = omega arith
-
 mul-ones-of : tie.Need-mul-ones-of Inv-loop μ-loop
 mul-ones-of c = omega arith
 
 element-copy-out-ones-of : tie.Need-element-copy-out-ones-of Inv-loop μ-loop
 element-copy-out-ones-of c = omega arith
 
-add-ones-of-2 : tie.Need-add-ones-of-2 Inv-loop μ-loop
-add-ones-of-2 c = omega arith
-
-mul-ones-of-2 : tie.Need-mul-ones-of-2 Inv-loop μ-loop
-mul-ones-of-2 c = omega arith
-
-element-copy-out-ones-of-2 : tie.Need-element-copy-out-ones-of-2 Inv-loop μ-loop
-element-copy-out-ones-of-2 c = omega arith
-
-add-ones-of-3 : tie.Need-add-ones-of-3 Inv-loop μ-loop
-add-ones-of-3 c = record { fits = c .before .before .before .before .before .pre .1 .1 (c .before .before .before .before .loop .kind + 1) }
-
 ones-of-requires : tie.Need-ones-of-requires Inv-loop μ-loop
 ones-of-requires c κs = search needs
 
 add-men : tie.Need-add-men Inv-loop μ-loop
 add-men c =
-    let pre = c .before .before .before .before .before .before .pre in
-    record { fits = kind-fits (c .before .before .before .before .before .loop .inv .1) (c .ones-of .ensures) (pre .1 .0) (pre .1 .1) }
+    let at-pre = c .before .before .before .before .before .pre in
+    let at-loop = c .before .before .before .before .loop in
+    record { fits = kind-fits (at-loop .inv .1) (c .ones-of .ensures .1) (at-pre .1) }
 
 mul-men-2 : tie.Need-mul-men-2 Inv-loop μ-loop
 mul-men-2 c = omega arith
@@ -64,8 +50,9 @@ loop-less c = omega arith
 
 loop-again : tie.Need-loop-again Inv-loop μ-loop
 loop-again c =
-    let so-far = c .before .before .before .before .before .loop .inv .1 in
-    (omega arith, kind-counted so-far (c .ones-of .ensures) (c .before .before .before .before .loop-test .taken))
+    let at-loop = c .before .before .before .before .loop in
+    let at-loop-test = c .before .before .before .loop-test in
+    (omega arith, kind-counted (at-loop .inv .1) (c .ones-of .ensures .0) (at-loop-test .taken))
 
 returns : tie.Need-returns Inv-loop μ-loop
 returns c = all-counted (c .before .loop .inv .1) (c .loop-test .left)
@@ -79,13 +66,8 @@ add-men-spec =
     loop-holds
     mul-men
     element-copy-out-men
-    add-ones-of
     mul-ones-of
     element-copy-out-ones-of
-    add-ones-of-2
-    mul-ones-of-2
-    element-copy-out-ones-of-2
-    add-ones-of-3
     ones-of-requires
     add-men
     mul-men-2
