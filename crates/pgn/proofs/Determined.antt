@@ -8,6 +8,10 @@ use Rattle.pgn.proofs.check.Reads as check
 use Rattle.pgn.proofs.check.Kinds as check·k
 use Rattle.pgn.proofs.next.Reads as next
 use Rattle.pgn.proofs.next.Kinds as next·k
+use Rattle.pgn.proofs.next_main.Reads as next-main
+use Rattle.pgn.proofs.next_main.Kinds as next-main·k
+use Rattle.pgn.proofs.next_across.Reads as next-across
+use Rattle.pgn.proofs.next_across.Kinds as next-across·k
 use Rattle.pgn.proofs.part.Reads as part
 use Rattle.pgn.proofs.part.Kinds as part·k
 
@@ -19,3 +23,9 @@ next-answer κs a x y e f p q = p ∙ sym q
 
 pub part-answer : OnePart part·k.ps part·k.r (λ κs x e. now x) part.Learnt
 part-answer κs a x y e f p q = p ∙ sym q
+
+pub next-main-answer : OneAnswer next-main·k.ps next-main·k.r next-main.Learnt
+next-main-answer κs a x y e f p q = p ∙ sym q
+
+pub next-across-answer : OneAnswer next-across·k.ps next-across·k.r next-across.Learnt
+next-across-answer κs a x y e f p q = p ∙ sym q

@@ -6,7 +6,7 @@ use mathlib.Core.List.{List, [], _∷_}
 use Prim.Native.Nat.{ℕ, zero, suc, _+_, _-_, _*_, _^_, _≤_, _<_, zero-le}
 use native.Mathlib.Nat.{le-refl, le-trans}
 use native.Mathlib.Omega.{arith}
-use lib.Dec.{eqb}
+use lib.Dec.{eqb, ltb}
 use lib.ListN.{length, drop, getD, replicate, length-drop, length-replicate}
 use borrow.Author.Tests.{lt-ltb, le-ltb, eqb-true, eqb-false}
 use Rattle.pgn_text.specs.declared.Token.{Token}
@@ -15,8 +15,10 @@ use Rattle.answer.specs.Answer.{leftOpen, tooDeep, unknownToken}
 use Rattle.pgn_text.specs.declared.Run.the-variants.{MoveBytes}
 use Rattle.pgn_text.specs.Bytes.{isWhite, startsMove, runLength}
 use Rattle.pgn_text.specs.Token.{token, tokenAt}
-use Rattle.pgn_text.specs.Walk.{Walk, found, ended, atEnd, met, counted, firstMove, deepest}
+use Rattle.pgn_text.specs.Walk.{Walk, found, ended, atEnd, met, walk, walkFrom, counted, firstMove, nextMove, deepest}
+use Rattle.pgn_text.specs.Main.{firstMain}
 use Rattle.pgn_text.proofs.Tokens.{more, token-within}
+use Rattle.pgn_text.proofs.Follows.{moves-in-text-order}
 use Rattle.pgn_text.proofs.Walks.{walk-at, walk-end, beyond, beyond-skip}
 use Rattle.pgn.specs.declared.walk.Walked.{Walked}
 use Rattle.pgn.specs.declared.walk.Walked.the-variants.{On, Found, Ended}
@@ -26,7 +28,7 @@ use Rattle.pgn.specs.CodeWalkers.{outcome, walkedFrom, atResult, Near, C
 abbrev pub lexicographic : ℕ → ℕ → ℕ
 lexicographic levels text = levels * 2 ^ 64 + text
 
-module _ (s : List ℕ) (stop : Bool) (level : ℕ) where
+module _ (s : List ℕ) (stop : ℕ) (level : ℕ) where
   pub came-here : (at count : ℕ) → at ≤ length s → count ≤ at → Came s stop level at count at count
   came-here at count h k = record { same = λ os l. refl; forth = le-refl at; within = h; counted = k }
 
@@ -45,21 +47,21 @@ module _ (s : List ℕ) (stop : Bool) (level : ℕ) where
   sequence-after p (Ended total number place) q = over-on p q
 
 -- what a walker promises in the case that it came to
-module _ {s : List ℕ} {stop : Bool} {level start moves : ℕ} {w : Walked} {at count : ℕ} (e : w ≡ On at count) where
+module _ {s : List ℕ} {stop : ℕ} {level start moves : ℕ} {w : Walked} {at count : ℕ} (e : w ≡ On at count) where
   pub sequence-on : Sequenced s stop level start moves w → Sequenced s stop level start moves (On at count)
   sequence-on p = subst (Sequenced s stop level start moves) e p
 
   pub variation-on : Varied s stop level start moves w → Varied s stop level start moves (On at count)
   variation-on p = subst (Varied s stop level start moves) e p
 
-module _ (s : List ℕ) (stop : Bool) (level start moves : ℕ) {w : Walked} {from size deep : ℕ} (e : w ≡ Found from size deep) where
+module _ (s : List ℕ) (stop : ℕ) (level start moves : ℕ) {w : Walked} {from size deep : ℕ} (e : w ≡ Found from size deep) where
   pub sequence-found : Sequenced s stop level start moves w → Over s stop level start moves (Found from size deep)
   sequence-found p = subst (Sequenced s stop level start moves) e p
 
   pub variation-found : Varied s stop level start moves w → Over s stop level start moves (Found from size deep)
   variation-found p = subst (Varied s stop level start moves) e p
 
-module _ (s : List ℕ) (stop : Bool) (level start moves : ℕ) {w : Walked} {count number place : ℕ} (e : w ≡ Ended count number place) where
+module _ (s : List ℕ) (stop : ℕ) (level start moves : ℕ) {w : Walked} {count number place : ℕ} (e : w ≡ Ended count number place) where
   pub sequence-over : Sequenced s stop level start moves w → Over s stop level start moves (Ended count number place)
   sequence-over p = subst (Sequenced s stop level start moves) e p
 
@@ -67,7 +69,7 @@ module _ (s : List ℕ) (stop : Bool) (level start moves : ℕ) {w : Walked} {co
   variation-over p = subst (Varied s stop level start moves) e p
 
 -- ---- one token
-module _ (s : List ℕ) (stop : Bool) (level at count : ℕ) (h : at < length s) (k : count ≤ at) where
+module _ (s : List ℕ) (stop : ℕ) (level at count : ℕ) (h : at < length s) (k : count ≤ at) where
   -- the walk at the token that stands there
   at-token : (t : Token) → tokenAt s at ≡ t → (os : List ℕ) → walkedFrom s stop os at count ≡ outcome stop count (met t at os (beyond s at))
   at-token t e os = ap (outcome stop count) (walk-at s at h os ∙ ap (λ (u : Token). met u at os (beyond s at)) e)
@@ -133,28 +135,26 @@ module _ (s : List ℕ) (stop : Bool) (level at count : ℕ) (h : at < length s)
   unknown e os l = at-token Unknown e os
 
 -- ---- a move is counted, or the walk stops at it
-module _ (s : List ℕ) (level at count : ℕ) (h : at < length s) (k : count ≤ at) (n : ℕ) (e : tokenAt s at ≡ Move n) where
-  counted-false : Came s false level at count (at + 1 + n) (count + 1)
+module _ (s : List ℕ) (level at count : ℕ) (h : at < length s) (k : count ≤ at) (n : ℕ) (e : tokenAt s at ≡ Move n) (stop : ℕ) where
+  -- by the level of the move
+  at-move : (os : List ℕ) → length os ≡ level → walkedFrom s stop os at count
+      ≡ cond (ltb level stop) (Found at (n + 1) level) (outcome stop (count + 1) (beyond s at n os))
   unfolding met outcome
-  counted-false = record {
-    same = λ os l. at-token s false level at count h k (Move n) e os ∙ ap (outcome false (count + 1)) (beyond-skip s at n os);
+  at-move os l = at-token s stop level at count h k (Move n) e os ∙ rw l
+
+  pub move-counted : stop ≤ level → Came s stop level at count (at + 1 + n) (count + 1)
+  move-counted z = record {
+    same = λ os l. at-move os l ∙ rw (le-ltb level stop z) (ap (outcome stop (count + 1)) (beyond-skip s at n os));
     forth = omega arith;
-    within = reach s false level at count h k (Move n) e;
+    within = reach s stop level at count h k (Move n) e;
     counted = omega arith;
   }
 
-  pub move-counted : (stop : Bool) → stop ≡ false → Came s stop level at count (at + 1 + n) (count + 1)
-  move-counted stop z = rw z counted-false
-
-  stopped-true : Over s true level at count (Found at (n + 1) level)
-  unfolding met outcome
-  stopped-true os l = at-token s true level at count h k (Move n) e os ∙ ap (Found at (n + 1)) l
-
-  pub move-stopped : (stop : Bool) → stop ≡ true → Over s stop level at count (Found at (n + 1) level)
-  move-stopped stop z = rw z stopped-true
+  pub move-stopped : level < stop → Over s stop level at count (Found at (n + 1) level)
+  move-stopped z os l = at-move os l ∙ rw (lt-ltb level stop z)
 
 -- ---- the end of the text
-module _ (s : List ℕ) (stop : Bool) (at count : ℕ) (h : length s ≤ at) where
+module _ (s : List ℕ) (stop : ℕ) (at count : ℕ) (h : length s ≤ at) where
   pub end-outside : walkedFrom s stop [] at count ≡ Ended count 0 0
   unfolding atEnd outcome
   end-outside = ap (outcome stop count) (walk-end s at h [])
@@ -164,7 +164,7 @@ module _ (s : List ℕ) (stop : Bool) (at count : ℕ) (h : length s ≤ at) whe
   end-inside o os = ap (outcome stop count) (walk-end s at h (o ∷ os))
 
 -- ---- a variation, by what its sequence says
-module _ (s : List ℕ) (stop : Bool) (level at moves : ℕ) (h : at < length s) (k : moves ≤ at) (e : tokenAt s at ≡ Opening) (d : level < deepest) where
+module _ (s : List ℕ) (stop : ℕ) (level at moves : ℕ) (h : at < length s) (k : moves ≤ at) (e : tokenAt s at ≡ Opening) (d : level < deepest) where
   longer : (os : List ℕ) → length os ≡ level → length (at ∷ os) ≡ level + 1
   longer os l = omega arith
 
@@ -193,7 +193,7 @@ one-out o (suc n) z =
     let e : suc n - 1 ≡ n = omega arith in
     rw e
 
-module _ (s : List ℕ) (stop : Bool) (o inside at count to total : ℕ) (p : Came s stop inside at count to total) where
+module _ (s : List ℕ) (stop : ℕ) (o inside at count to total : ℕ) (p : Came s stop inside at count to total) where
   came-to : walkedFrom s stop (replicate inside o) at count ≡ walkedFrom s stop (replicate inside o) to total
   came-to = p .same (replicate inside o) (length-replicate inside o)
 
@@ -210,16 +210,30 @@ module _ (s : List ℕ) (stop : Bool) (o inside at count to total : ℕ) (p : Ca
     pub out-more : (inside ≡ 0 → ⊥) → walkedFrom s stop (replicate inside o) at count ≡ walkedFrom s stop (replicate (inside - 1) o) (to + 1) total
     out-more z = came-to ∙ rw (one-out o inside z) (left s stop inside to total h (p .counted) c o (replicate (inside - 1) o))
 
--- ---- the answers
-pub counted-of : (n : ℕ) (w : Walk) → countOf (outcome false n w) ≡ counted n w
+-- ---- the answers: of a walk that stops nowhere, at any move, and at a move outside brackets
+pub counted-of : (n : ℕ) (w : Walk) → countOf (outcome 0 n w) ≡ counted n w
 unfolding outcome countOf counted
 counted-of n (ended number offset) = refl
-counted-of n (found start size level w) = counted-of (n + 1) w
+counted-of n (found start size level w) = rw (le-ltb level 0 zero-le) (counted-of (n + 1) w)
 
-pub first-of : (n : ℕ) (w : Walk) → moveWalked (outcome true n w) ≡ firstMove w
+first-of : (stop n : ℕ) (w : Walk) → ((start size level : ℕ) (v : Walk) → w ≡ found start size level v → level < stop)
+    → moveWalked (outcome stop n w) ≡ firstMove w
 unfolding outcome moveWalked firstMove
-first-of n (ended number offset) = refl
-first-of n (found start size level w) = refl
+first-of stop n (ended number offset) h =
+    refl
+first-of stop n (found start size level w) h = rw (lt-ltb level stop (h start size level w refl))
+
+pub first-from : (text : List ℕ) (offset level : ℕ) → moveWalked (outcome 9 0 (walkFrom text offset level)) ≡ nextMove text offset level
+unfolding nextMove
+first-from text offset level =
+    first-of 9 0 (walkFrom text offset level)
+    (λ start size at-level w e. let q = moves-in-text-order text offset level start size at-level w e .shallow in omega (arith, q))
+
+pub main-of : (n : ℕ) (w : Walk) → moveWalked (outcome 1 n w) ≡ firstMain w
+unfolding outcome moveWalked firstMain
+main-of n (ended number offset) = refl
+main-of n (found start size zero w) = refl
+main-of n (found start size (suc level) w) = let h : 1 ≤ suc level = omega arith in rw (le-ltb (suc level) 1 h) (main-of (n + 1) w)
 
 -- ---- a move that stands one blank behind a place
 module _ (s : List ℕ) (at : ℕ) where
@@ -231,14 +245,20 @@ module _ (s : List ℕ) (at : ℕ) where
   unfolding token
   move-stands e f = simp (e, f)
 
-pub near-told : (s : List ℕ) (level place size : ℕ) (os : List ℕ) → length os ≡ level → (size ≡ 0 → ⊥) → Near s place size
-    → walkedFrom s true os place 0 ≡ Found (place + 1) size level
-near-told s level place size os l z n =
+pub near-told : (s : List ℕ) (stop level place size : ℕ) (os : List ℕ) → length os ≡ level → level < stop → (size ≡ 0 → ⊥) → Near s place size
+    → walkedFrom s stop os place 0 ≡ Found (place + 1) size level
+near-told s stop level place size os l low z n =
     let q = n z in
     let h : place + 1 < length s = q .0 in
     let e : place + 1 + 0 ≡ place + 1 = omega arith in
     let c : size - 1 + 1 ≡ size = omega arith in
-    let p : walkedFrom s true os place 0 ≡ walkedFrom s true os (place + 1 + 0) 0 = passed s true level place 0 (omega arith) zero-le 0 (q .1) .same os l in
-    let m : walkedFrom s true os (place + 1) 0 ≡ Found (place + 1) (size - 1 + 1) level = move-stopped s level (place + 1) 0 h zero-le (size - 1) (q .2) true
-    refl os l in
-    p ∙ ap (λ (i : ℕ). walkedFrom s true os i 0) e ∙ m ∙ ap (λ (i : ℕ). Found (place + 1) i level) c
+    let p : walkedFrom s stop os place 0 ≡ walkedFrom s stop os (place + 1 + 0) 0 = passed s stop level place 0 (omega arith) zero-le 0 (q .1) .same os l in
+    let m : walkedFrom s stop os (place + 1) 0 ≡ Found (place + 1) (size - 1 + 1) level = move-stopped s level (place + 1) 0 h zero-le (size - 1) (q .2) stop
+    low os l in
+    p ∙ ap (λ (i : ℕ). walkedFrom s stop os i 0) e ∙ m ∙ ap (λ (i : ℕ). Found (place + 1) i level) c
+
+-- the walk from a place whose level and offset are good
+pub placed : (text : List ℕ) (offset level : ℕ) → level ≤ deepest → offset ≤ length text
+    → walk 0 offset (replicate level offset) (drop offset text) ≡ walkFrom text offset level
+unfolding walkFrom
+placed text offset level h k = rw (le-ltb deepest level h, le-ltb (length text) offset k)

@@ -1,4 +1,4 @@
-// The walk: a variation holds a sequence, and a sequence may hold variations. Both either count the moves or stop at the first.
+// The walk: a variation holds a sequence, and a sequence may hold variations. Both count the moves, or stop at the first of a level under `stop`.
 use crate::bytes::is_white;
 use crate::bytes::run_length;
 use crate::bytes::starts_move;
@@ -19,6 +19,14 @@ ghost use Rattle.pgn.specs.CodeWalkers.{atResult, toldFrom, Near, Sequen
 
 pub(crate) const DEEPEST: u64 = 8;
 
+// Where a walk stops: at the first move of a level under these.
+
+pub(crate) const NOWHERE: u64 = 0;
+
+pub(crate) const OUTSIDE: u64 = 1;
+
+pub(crate) const ANYWHERE: u64 = 9;
+
 // Where a walker has stopped: to go on from an offset, with the moves counted so far; at a move, by its start, its length and its level; or at the end of the
 // whole walk, with the moves counted, an answer number and its offset.
 pub(crate) enum Walked {
@@ -38,7 +46,7 @@ fn at_result(level: u64, count: usize, at: usize) -> Walked
 }
 
 // A sequence, to the bracket that closes it or the end of the text.
-fn sequence(s: &[u8], start: usize, level: u64, moves: usize, stop: bool) -> Walked
+fn sequence(s: &[u8], start: usize, level: u64, moves: usize, stop: u64) -> Walked
     requires { ⌜ start ≤ length (now s) ⌝ }
     requires { ⌜ level ≤ deepest ⌝ }
     requires { ⌜ moves ≤ start ⌝ }
@@ -53,7 +61,7 @@ fn sequence(s: &[u8], start: usize, level: u64, moves: usize, stop: bool) -> Wal
                 continue;
             }
             Token::Move(n) => {
-                if stop {
+                if level < stop {
                     return Walked::Found(at, n + 1, level);
                 }
                 at = at + 1 + n;
@@ -83,7 +91,7 @@ fn sequence(s: &[u8], start: usize, level: u64, moves: usize, stop: bool) -> Wal
 }
 
 // A variation in a sequence of a level, from its opening bracket past its closing one.
-fn variation(s: &[u8], at: usize, level: u64, moves: usize, stop: bool) -> Walked
+fn variation(s: &[u8], at: usize, level: u64, moves: usize, stop: u64) -> Walked
     requires { ⌜ at < length (now s) ⌝ }
     requires { ⌜ tokenAt (now s) at ≡ Token.Opening ⌝ }
     requires { ⌜ level ≤ deepest ⌝ }
@@ -106,7 +114,7 @@ fn variation(s: &[u8], at: usize, level: u64, moves: usize, stop: bool) -> Walke
 }
 
 // The walk from a place, level by level outward. Brackets opened before the place count as opened there.
-pub(crate) fn outward(s: &[u8], offset: usize, level: u64, stop: bool) -> Walked
+pub(crate) fn outward(s: &[u8], offset: usize, level: u64, stop: u64) -> Walked
     requires { ⌜ offset ≤ length (now s) ⌝ }
     requires { ⌜ level ≤ deepest ⌝ }
     ensures { λ r. ⌜ r ≡ toldFrom (now (s .entry)) stop offset level ⌝ }

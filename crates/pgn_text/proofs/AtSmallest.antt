@@ -5,6 +5,8 @@ use Rattle.answer.specs.Ascii.{ascii}
 use Rattle.pgn_text.specs.Bytes.{isWhite, isDigit, isLetter, startsMove, isSign, inMove, inRun, onward, runLength, beginsWith}
 use Rattle.pgn_text.specs.Token.{isResult, number, glyph, braceComment, lineComment, token}
 use Rattle.pgn_text.specs.Walk.{atEnd, met, walk, walkFrom, endCount, counted, noMoveFound, moveFound, firstMove, check, nextMove}
+use Rattle.pgn_text.specs.Main.{firstMain, nextMain, MainAtSmallest}
+use Rattle.pgn_text.specs.Between.{crossMet, cross, crossedFrom, acrossWith, nextAcross, BetweenAtSmallest}
 use Rattle.pgn_text.specs.AtSmallest.{TokensAtSmallest, LevelsAtSmallest, PlacesAtSmallest}
 
 pub tokens-at-smallest : TokensAtSmallest
@@ -43,4 +45,25 @@ places-at-smallest = record {
   closed-before = (refl, refl, refl);
   at-deepest = (refl, refl);
   not-looked-at = (refl, refl);
+}
+
+pub main-at-smallest : MainAtSmallest
+unfolding ascii isWhite isDigit isLetter startsMove isSign inMove inRun onward runLength beginsWith
+    isResult number glyph braceComment lineComment token atEnd met walk walkFrom noMoveFound moveFound firstMain nextMain
+main-at-smallest = record {
+  outside = (refl, refl, refl);
+  refusals = (refl, refl, refl, refl, refl);
+}
+
+pub between-rows : BetweenAtSmallest
+unfolding crossedFrom cross crossMet isWhite isDigit isLetter startsMove isSign inMove inRun onward runLength beginsWith number braceComment lineComment glyph
+    isResult token ascii atEnd met walk walkFrom moveFound noMoveFound firstMove nextMove acrossWith nextAcross
+between-rows = record {
+  two = (refl, refl, refl);
+  one = (refl, refl, refl);
+  hidden = (refl, refl, refl, refl, refl);
+  across = refl;
+  too-deep = refl;
+  stray = refl;
+  none = (refl, refl, refl);
 }

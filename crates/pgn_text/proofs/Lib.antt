@@ -6,3 +6,5 @@ pub mod Runs
 pub mod Tokens
 pub mod Walking
 pub mod Walks
+pub mod Between
+pub mod Places

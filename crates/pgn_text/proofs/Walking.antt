@@ -132,7 +132,7 @@ refused-is-empty = (
 )
 
 -- ---- from place to place
-alike-trans : {u v w : Walk} → WalksAlike u v → WalksAlike v w → WalksAlike u w
+pub alike-trans : {u v w : Walk} → WalksAlike u v → WalksAlike v w → WalksAlike u w
 alike-trans same-end q = q
 alike-trans open-end same-end = open-end
 alike-trans open-end open-end = open-end
@@ -149,7 +149,7 @@ module _ (text : List ℕ) where
       let r = follow w (start + size) deep refl (alike-trans a (q .behind)) z o in
       rw e (ap (λ (ms : List PgnMove). moveFound start size deep ∷ ms) r)
 
-alike-self : (w : Walk) → WalksAlike w w
+pub alike-self : (w : Walk) → WalksAlike w w
 alike-self (ended number offset) = same-end
 alike-self (found start size level w) = same-move (alike-self w)
 

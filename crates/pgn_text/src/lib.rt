@@ -39,3 +39,23 @@ pub struct PgnMove {
     pub length: u64,
     pub level: u64,
 }
+
+// How many brackets are closed before the next move from a place, and then opened.
+#[repr(C)]
+pub struct Crossed {
+    pub closed: u64,
+    pub opened: u64,
+}
+
+// What the host's call for the next move answers: both in one. Without a move nothing is crossed.
+#[repr(C)]
+pub struct PgnNext {
+    pub number: u64,
+    pub offset: u64,
+    pub found: u64,
+    pub start: u64,
+    pub length: u64,
+    pub level: u64,
+    pub closed: u64,
+    pub opened: u64,
+}

@@ -2,11 +2,12 @@
 use borrow.Author.Needs.{needs}
 use mathlib.Core.Path.{sym, ap, _∙_}
 use native.Mathlib.Omega.{arith}
-use lib.ListN.{drop, replicate, length-replicate}
+use lib.ListN.{replicate, length-replicate}
 use borrow.Author.Tests.{lt-ltb, le-ltb}
-use Rattle.pgn_text.specs.Walk.{nextMove, firstMove, walk, walkFrom}
-use Rattle.pgn.specs.CodeWalkers.{moveWalked}
-use Rattle.pgn.proofs.Walkers.{first-of, near-told}
+use Rattle.pgn_text.specs.Walk.{Walk, nextMove, firstMove, walkFrom}
+use Prim.Native.Nat.{_<_}
+use Rattle.pgn.specs.CodeWalkers.{moveWalked, outcome}
+use Rattle.pgn.proofs.Walkers.{first-from, near-told, placed}
 use Rattle.pgn.proofs.next.Statement.{statement}
 use Rattle.pgn.proofs.next.Tie as tie
 
@@ -34,14 +35,21 @@ move-at-requires : tie.Need-move-at-requires
 move-at-requires c κs = search needs
 
 returns-3 : tie.Need-returns-3
-unfolding nextMove walkFrom moveWalked
+unfolding walkFrom moveWalked
 returns-3 c =
-    let a = c .before .before .before .before .before .before .args in
-    let os = replicate (a .level) (a .offset) in
+    let at-args = c .before .before .before .before .before .before .args in
+    let at-if1 = c .before .before .before .before .if1 in
+    let at-if2 = c .before .before .before .if2 in
+    let at-near = c .before .before .near in
+    let at-if3 = c .before .if3 in
+    let os = replicate (at-args .level) (at-args .offset) in
+    let low : at-args .level < 9 = omega (arith, at-if1 .left) in
     c .move-at .ensures ∙ sym
-    (ap moveWalked (near-told (a .text .now) (a .level) (a .offset) _ os (length-replicate (a .level) (a .offset)) (c .before .if3 .taken)
-    (c .before .before .near .ensures))) ∙ first-of 0 (walk 0 (a .offset) os (drop (a .offset) (a .text .now)))
-    ∙ simp (le-ltb _ _ (c .before .before .before .before .if1 .left), le-ltb _ _ (c .before .before .before .if2 .left))
+    (ap moveWalked
+    (near-told (at-args .text .now) 9 (at-args .level) (at-args .offset) _ os (length-replicate (at-args .level) (at-args .offset)) low (at-if3 .taken)
+    (at-near .ensures)))
+    ∙ ap (λ (w : Walk). moveWalked (outcome 9 0 w)) (placed (at-args .text .now) (at-args .offset) (at-args .level) (at-if1 .left) (at-if2 .left))
+    ∙ first-from (at-args .text .now) (at-args .offset) (at-args .level)
 
 outward-requires : tie.Need-outward-requires
 outward-requires c κs = search needs
@@ -50,12 +58,14 @@ move-of-requires : tie.Need-move-of-requires
 move-of-requires c κs = search needs
 
 returns-4 : tie.Need-returns-4
-unfolding nextMove walkFrom
 returns-4 c =
-    let a = c .before .before .before .before .before .before .before .args in
-    let os = replicate (a .level) (a .offset) in
-    c .move-of .ensures ∙ ap moveWalked (c .before .outward .ensures) ∙ first-of 0 (walk 0 (a .offset) os (drop (a .offset) (a .text .now)))
-    ∙ simp (le-ltb _ _ (c .before .before .before .before .before .if1 .left), le-ltb _ _ (c .before .before .before .before .if2 .left))
+    let at-args = c .before .before .before .before .before .before .before .args in
+    let at-if1 = c .before .before .before .before .before .if1 in
+    let at-if2 = c .before .before .before .before .if2 in
+    let at-outward = c .before .outward in
+    c .move-of .ensures ∙ ap moveWalked (at-outward .ensures)
+    ∙ ap (λ (w : Walk). moveWalked (outcome 9 0 w)) (placed (at-args .text .now) (at-args .offset) (at-args .level) (at-if1 .left) (at-if2 .left))
+    ∙ first-from (at-args .text .now) (at-args .offset) (at-args .level)
 
 pub next-spec : {M : Type 1} → statement M
 next-spec =
