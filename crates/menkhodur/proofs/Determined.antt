@@ -89,6 +89,10 @@ use Rattle.menkhodur.proofs.menkhodur_pgn_check.Reads as menkhodur-pgn-
 use Rattle.menkhodur.proofs.menkhodur_pgn_check.Kinds as menkhodur-pgn-check·k
 use Rattle.menkhodur.proofs.menkhodur_pgn_next.Reads as menkhodur-pgn-next
 use Rattle.menkhodur.proofs.menkhodur_pgn_next.Kinds as menkhodur-pgn-next·k
+use Rattle.menkhodur.proofs.menkhodur_game_step.Reads as menkhodur-game-step
+use Rattle.menkhodur.proofs.menkhodur_game_step.Kinds as menkhodur-game-step·k
+use Rattle.menkhodur.proofs.menkhodur_play.Reads as menkhodur-play
+use Rattle.menkhodur.proofs.menkhodur_play.Kinds as menkhodur-play·k
 
 pub menkhodur-version-answer : OneAnswer menkhodur-version·k.ps menkhodur-version·k.r menkhodur-version.Learnt
 menkhodur-version-answer κs a x y e f p q = p ∙ sym q
@@ -288,3 +292,15 @@ menkhodur-pgn-check-answer κs a x y e f p q = p ∙ sym q
 
 pub menkhodur-pgn-next-answer : OneAnswer menkhodur-pgn-next·k.ps menkhodur-pgn-next·k.r menkhodur-pgn-next.Learnt
 menkhodur-pgn-next-answer κs a x y e f p q = p ∙ sym q
+
+pub menkhodur-game-step-answer : OneAnswer menkhodur-game-step·k.ps menkhodur-game-step·k.r menkhodur-game-step.Learnt
+menkhodur-game-step-answer κs a x y e f p q = p .0 ∙ sym (q .0)
+
+pub menkhodur-game-step-out : OnePart menkhodur-game-step·k.ps menkhodur-game-step·k.r (λ κs x e. now (e .1 .1 .1 .1 .0)) menkhodur-game-step.Learnt
+menkhodur-game-step-out κs a x y e f p q = p .1 ∙ sym (q .1)
+
+pub menkhodur-play-answer : OneAnswer menkhodur-play·k.ps menkhodur-play·k.r menkhodur-play.Learnt
+menkhodur-play-answer κs a x y e f p q = p .0 ∙ sym (q .0)
+
+pub menkhodur-play-out : OnePart menkhodur-play·k.ps menkhodur-play·k.r (λ κs x e. now (e .1 .1 .1 .0)) menkhodur-play.Learnt
+menkhodur-play-out κs a x y e f p q = p .1 ∙ sym (q .1)

@@ -5,9 +5,10 @@ use board_builder::BoardBuilder;
 use board_builder::Stepped;
 use fen_text::Fen;
 use game_rules::Counts;
+use game_text::GameStep;
 use laws::Ruled;
 use pgn_text::PgnCount;
-use pgn_text::PgnMove;
+use pgn_text::PgnNext;
 use report_text::Report;
 use roll_text::Roll;
 ghost use mathlib.Core.Path.{_≡_};
@@ -33,7 +34,9 @@ ghost use Rattle.game_rules.specs.Limits.{limits};
 ghost use Rattle.game_rules.specs.Rules.{makeMove, offerDraw, acceptDraw, declareDraw, resign};
 ghost use Rattle.game_rules.specs.Calls.{callAnswer, counts, countsAfter, actionsAfter, positionsAfter, startAnswer, positionsBegun, resultAnswer, claimAnswer};
 ghost use Rattle.laws.specs.Ruling.{rulingAnswer, lawsAnswer};
-ghost use Rattle.pgn_text.specs.Walk.{check, nextMove};
+ghost use Rattle.pgn_text.specs.Walk.{check};
+ghost use Rattle.pgn_text.specs.Between.{nextAcross};
+ghost use Rattle.game_text.specs.Step.{playAnswer, playBytes, gameStep, gameStepBytes};
 ghost use Rattle.roll_text.specs.Calls.{writeCheck, gameText, judged, judgedOld, rollAnswer, rollOver};
 ghost use Rattle.differences_text.specs.Calls.{differencesAnswer, differencesRoom};
 
@@ -415,8 +418,35 @@ pub extern "C" fn menkhodur_pgn_check(text: &[u8]) -> PgnCount
 }
 
 #[no_mangle]
-pub extern "C" fn menkhodur_pgn_next(text: &[u8], offset: u64, level: u64) -> PgnMove
-    ensures { λ r. ⌜ r ≡ nextMove (now (text .entry)) offset level ⌝ }
+pub extern "C" fn menkhodur_pgn_next(text: &[u8], offset: u64, level: u64) -> PgnNext
+    ensures { λ r. ⌜ r ≡ nextAcross (now (text .entry)) offset level ⌝ }
 {
-    pgn::next(text, offset, level)
+    pgn::next_across(text, offset, level)
+}
+
+#[no_mangle]
+pub extern "C" fn menkhodur_game_step(
+    text: &[u8],
+    offset: u64,
+    board: BoardBuilder,
+    list: &[u16],
+    out: &mut [u8],
+) -> GameStep
+    ensures answer { λ r. ⌜ r ≡ gameStep (now (text .entry)) offset board (now (list .entry)) (length (now (out .entry))) ⌝ }
+    ensures bytes { λ r. ⌜ now (out .exit) ≡ gameStepBytes (now (text .entry)) offset board (now (list .entry)) (now (out .entry)) ⌝ }
+{
+    game_step::game_step(text, offset, board, list, out)
+}
+
+#[no_mangle]
+pub extern "C" fn menkhodur_play(
+    text: &[u8],
+    board: BoardBuilder,
+    list: &[u16],
+    out: &mut [u8],
+) -> GameStep
+    ensures answer { λ r. ⌜ r ≡ playAnswer (now (text .entry)) board (now (list .entry)) (length (now (out .entry))) ⌝ }
+    ensures bytes { λ r. ⌜ now (out .exit) ≡ playBytes (now (text .entry)) board (now (list .entry)) (now (out .entry)) ⌝ }
+{
+    game_step::play(text, board, list, out)
 }

@@ -133,7 +133,7 @@ castled-listed F b file l m e = go (F .castles b) e
     go true q = castle-listed (b .«side_to_move») file l m q
     go false q = absurd (refused-not q)
 
-text-listed : (F : Form) (b : BoardBuilder) (l : List ℕ) (m : ℕ) (t : SanText) → resolved F b l t ≡ accepted m → among m l ≡ true
+pub text-listed : (F : Form) (b : BoardBuilder) (l : List ℕ) (m : ℕ) (t : SanText) → resolved F b l t ≡ accepted m → among m l ≡ true
 unfolding resolved
 text-listed F b l m KingSide e = castled-listed F b 6 l m e
 text-listed F b l m QueenSide e = castled-listed F b 2 l m e

@@ -1,0 +1,2 @@
+pub mod GameCalls
+pub mod Promises
