@@ -4,12 +4,13 @@
  *     rt staticlib menkhodur
  *     gcc -std=c11 -O2 bench/host.c target/staticlib/libmenkhodur.a -o target/bench_host && target/bench_host examples/positions.fen
  *
- * FEN: the positions of the file, each different; for the full pair with the counters of a game. Page and report: the file's lines, and the lines twice
- * as often, so that each of the second half is a repeat; nanoseconds per line. Lists: the moves of the men of such a position by the way
- * they go (checks, castling and captures in passing left out), of positions with 30 to 38 of them. Logs: 300, 1,024 and 4,096 such moves from the initial
- * position, each with the record after it (host/c/after_rule.h), none of them a capture and about 30 of them a pawn's; the last eight are two men there and
- * back, twice, so that a claim stands by two earlier equal positions, and an offer is at the end: every call is accepted. An archive of before version 12
- * has another record: it is timed by the bench/host.c of its own commit, which makes the same positions, lists and moves.
+ * FEN: the positions of the file, each different; for the full pair with the counters of a game. Page and report: the file's lines, and the lines twice as
+ * often, so that each of the second half is a repeat; nanoseconds per line. Lists: the moves of the men of such a position by the way they go (checks,
+ * castling and captures in passing left out), of positions with 30 to 38 of them. A move that is played, alone or as the text of a game with its number:
+ * one of such a list, by one call and by the older calls that give the same in turn. Logs: 300, 1,024 and 4,096 such moves from the initial position, each
+ * with the record after it (host/c/after_rule.h), none of them a capture and about 30 of them a pawn's; the last eight are two men there and back, twice,
+ * so that a claim stands by two earlier equal positions, and an offer is at the end: every call is accepted. An archive of before version 12 has another
+ * record: it is timed by the bench/host.c of its own commit, which makes the same positions, lists and moves.
  */
 #define _POSIX_C_SOURCE 199309L
 #include "../host/c/after_rule.h"
@@ -29,6 +30,8 @@ struct scene {
     uint64_t move;
     uint8_t name[MENKHODUR_LONGEST_NAME], standard_name[MENKHODUR_LONGEST_STANDARD_NAME];
     size_t name_length, standard_length;
+    uint8_t game[32]; /* a move number and the standard's name: the text of a game */
+    size_t game_length;
 };
 
 struct log {
@@ -175,6 +178,9 @@ static void make_scenes(void)
         named = menkhodur_san_name_standard(s->board, s->list, s->entries, s->move, s->standard_name, sizeof s->standard_name);
         if (named.number) continue;
         s->standard_length = (size_t)named.value;
+        s->game_length = (size_t)snprintf((char *)s->game, sizeof s->game, "%u. ", 1 + any(60));
+        memcpy(s->game + s->game_length, s->standard_name, s->standard_length);
+        s->game_length += s->standard_length;
         menkhodur_move_write(s->move, coordinates[scene_count], sizeof coordinates[0]);
         scene_count++;
     }
@@ -353,6 +359,44 @@ static uint64_t san_name_standard(size_t i)
     return menkhodur_san_name_standard(s->board, s->list, s->entries, s->move, out, sizeof out).value;
 }
 
+/* A move text played, by one call and by three in turn; and a step through a game's text, by one call and by four. */
+static uint64_t play(size_t i)
+{
+    const struct scene *s = &scenes[i % scene_count];
+    uint8_t out[MENKHODUR_LONGEST_FEN];
+    return menkhodur_play(s->standard_name, s->standard_length, s->board, s->list, s->entries, out, sizeof out).key_length;
+}
+
+static uint64_t played_by_calls(const struct scene *s, const uint8_t *text, size_t length)
+{
+    uint8_t out[MENKHODUR_LONGEST_FEN];
+    menkhodur_answer read = menkhodur_san_read_standard(s->board, s->list, s->entries, text, length);
+    return menkhodur_fen_write(menkhodur_board_after(s->board, read.value).board, out, sizeof out).value;
+}
+
+static uint64_t play_by_calls(size_t i)
+{
+    const struct scene *s = &scenes[i % scene_count];
+    return played_by_calls(s, s->standard_name, s->standard_length);
+}
+
+static uint64_t game_step(size_t i)
+{
+    const struct scene *s = &scenes[i % scene_count];
+    uint8_t out[MENKHODUR_LONGEST_FEN];
+    return menkhodur_game_step(s->game, s->game_length, 0, s->board, s->list, s->entries, out, sizeof out).key_length;
+}
+
+static uint64_t game_step_by_calls(size_t i)
+{
+    const struct scene *s = &scenes[i % scene_count];
+    menkhodur_pgn_move m = menkhodur_pgn_next(s->game, s->game_length, 0, 0);
+    return played_by_calls(s, s->game + m.start, m.length);
+}
+
+static uint64_t pgn_next(size_t i) { return menkhodur_pgn_next(scenes[i % scene_count].game, scenes[i % scene_count].game_length, 0, 0).start; }
+static uint64_t pgn_check(size_t i) { return menkhodur_pgn_check(scenes[i % scene_count].game, scenes[i % scene_count].game_length).moves; }
+
 /* Into a log of its own, so that the others stay good. */
 static uint64_t game_start(size_t i)
 {
@@ -412,6 +456,8 @@ static void print_base(void)
         { "board_settled", board_settled }, { "fen_settled", fen_settled }, { "fen_read and fen_write", fen_read_and_write },
         { "move_read", move_read }, { "move_write", move_write }, { "san_read", san_read }, { "san_name", san_name },
         { "san_read_standard", san_read_standard }, { "san_name_standard", san_name_standard }, { "game_start", game_start },
+        { "pgn_check of one move", pgn_check }, { "pgn_next of one move", pgn_next }, { "play", play }, { "its three calls", play_by_calls },
+        { "game_step", game_step }, { "its four calls", game_step_by_calls },
     };
     printf("%-24s %12s\n", "function", "ns a call");
     for (size_t i = 0; i < sizeof rows / sizeof *rows; i++) printf("%-24s %12.1f\n", rows[i].name, best(rows[i].call, 16 * MOST));
@@ -458,6 +504,7 @@ static void check_calls(void)
     must(game_make_move(0) + game_can_declare_draw(0) + game_declare_draw(0) + game_accept_draw(0) + game_resign(0) + game_offer_draw(0), "a call");
     log_in_use = &logs[2];
     must(game_make_move(0) - MENKHODUR_LOG_FULL + game_can_declare_draw(0) + game_declare_draw(0), "a call on the long log");
+    for (size_t i = 0; i < scene_count; i++) must(play(i) != play_by_calls(i) || game_step(i) != play(i) || game_step_by_calls(i) != play(i), "a step");
     for (size_t i = 0; i < line_count; i++) must(fen_read_full(i) + half_moves(i) + full_moves(i), "a full FEN, or a step");
 }
 

@@ -1,9 +1,10 @@
 /* The host's side of target/staticlib/libmenkhodur.a, for C (from C99) and C++ (from C++11).
  *
  * Numbers, records, moves, logs and texts are those of docs/papers/01-scope.md ("document 01"), rolls, the refusals of FEN texts, the
- * offsets in texts, the ruling of the Laws, the standard's form of SAN, pages of FENs, PGN move text, the board after a move, what differs between
- * two rolls, the counters of a FEN and the evening report those of docs/papers/02-change-requests.md ("document 02"); the names and the order of the parameters are
- * those of docs/papers/HOST-ABI.md. tools/abi compares them, and the constants below, with the crates.
+ * offsets in texts, the ruling of the Laws, the standard's form of SAN, pages of FENs, PGN move text, the board after a move, what differs
+ * between two rolls, the counters of a FEN and the evening report those of docs/papers/02-change-requests.md ("document 02"); the names and
+ * the order of the parameters are those of docs/papers/HOST-ABI.md, which also has what is beyond document 02: settled records and the
+ * steps through a game's text. tools/abi compares them, and the constants below, with the crates.
  *
  * What every function does: it answers for every value of its numbers, it ends, it keeps nothing between calls and allocates
  * nothing, and it reads and writes only what it was lent. A refused call (a number other than 0) changes no lent byte.
@@ -32,7 +33,7 @@
 
 /* Rises by one with each landing that adds or changes a function. CHANGELOG.md tells what a host must change, and a struct that has
  * changed says beside it since which version it is so. */
-#define MENKHODUR_VERSION 14
+#define MENKHODUR_VERSION 15
 
 #ifdef __cplusplus
 extern "C" {
@@ -265,8 +266,9 @@ typedef struct {
     uint64_t claim;      /* MENKHODUR_CLAIM_.. by `count` and `equals`: what menkhodur_game_declare_draw asks for */
     uint64_t laws_claim; /* MENKHODUR_CLAIM_.. by `laws_count` and `equals` */
 } menkhodur_ruling;
-/* PGN move text. `offset` is the place in the text of what is wrong, and 0 with number 0. A refused check has 0 moves; where
- * there is no move, `found`, `start`, `length` and `level` are 0. */
+/* PGN move text. `offset` is the place in the text of what is wrong, and 0 with number 0. A refused check has 0 moves; where there is no
+ * move, `found` and all behind it are 0. Since version 15 menkhodur_pgn_move has its last two fields, 64 bytes in place of 48: a program
+ * that was compiled with an older header must not call it, for its room for the answer is too short. */
 typedef struct { uint64_t number; uint64_t offset; uint64_t moves; } menkhodur_pgn_count;
 typedef struct {
     uint64_t number;
@@ -275,7 +277,21 @@ typedef struct {
     uint64_t start;  /* the move is text[start .. start + length); the next place is start + length at the same level */
     uint64_t length;
     uint64_t level;  /* 0 outside brackets, 1 to 8 inside */
+    uint64_t closed; /* how many brackets are closed between the place and the move; of one that opens and closes in between nothing is told */
+    uint64_t opened; /* how many are then opened: the move's level is the place's - closed + opened */
 } menkhodur_pgn_move;
+/* A step through a game's move text. `board` is the record after the move, or the one that was given if none was played. With 21, 22, 23
+ * and where no move is left all else but the number and the offset is 0. */
+typedef struct {
+    uint64_t number;
+    uint64_t offset;     /* the place in the text of what is wrong, `start` with 4, 5, 6 and 7; 0 with number 0 */
+    uint64_t found;      /* 1 if there is a move text, played or refused, else 0 */
+    uint64_t start;      /* it is text[start .. start + length); the next step begins at start + length */
+    uint64_t length;
+    uint64_t move;       /* the listed move that was played; 0 if refused */
+    uint64_t key_length; /* the bytes of the key that is in the room, or with 7 those needed; else 0 */
+    menkhodur_board board;
+} menkhodur_step;
 
 /* What is reported on a page of FENs. Of a refused report all is 0 but the number and, with 7, the lines. */
 typedef struct {
@@ -303,7 +319,8 @@ MENKHODUR_ASSERT(sizeof(menkhodur_counts) == 24, "a number and two counts");
 MENKHODUR_ASSERT(offsetof(menkhodur_roll, board) == 16 && sizeof(menkhodur_roll) == 88, "two numbers and a board");
 MENKHODUR_ASSERT(sizeof(menkhodur_ruling) == 64, "eight numbers");
 MENKHODUR_ASSERT(sizeof(menkhodur_pgn_count) == 24, "three numbers");
-MENKHODUR_ASSERT(sizeof(menkhodur_pgn_move) == 48, "six numbers");
+MENKHODUR_ASSERT(sizeof(menkhodur_pgn_move) == 64, "eight numbers");
+MENKHODUR_ASSERT(offsetof(menkhodur_step, board) == 56 && sizeof(menkhodur_step) == 128, "seven numbers and a board");
 MENKHODUR_ASSERT(sizeof(menkhodur_report) == 136, "seventeen numbers");
 MENKHODUR_ASSERT(sizeof(size_t) == 8, "lengths have 64 bits");
 #undef MENKHODUR_ASSERT
@@ -611,8 +628,29 @@ menkhodur_pgn_count menkhodur_pgn_check(const uint8_t *text, size_t length);
  * is left. Nothing past the end of the move is looked at. From the start at level 0, and then from the end of each move at its level, it
  * gives the moves that menkhodur_pgn_check counts, in text order. Refused: 22 with the offset, if the level is over 8; 23 with the offset,
  * if that is past the text (an offset equal to the length is not); else 21, 22, 23 for what is met before a move. A bracket that was opened
- * before the place and is left open has the place's offset. Any 64-bit offset and level are judged as they are. */
+ * before the place and is left open has the place's offset. Any 64-bit offset and level are judged as they are. `closed` and `opened`
+ * (since version 15) tell `e4 (d4 d5) (c4 e5) e5` from `e4 (d4 d5 c4 e5) e5`, whose moves are at the same levels: with 1 and 1 a variation
+ * ends before c4 and another begins. A variation is played from the record before the last move of the sequence that it stands in. */
 menkhodur_pgn_move menkhodur_pgn_next(const uint8_t *text, size_t length, uint64_t offset, uint64_t level);
+
+/* ---- The positions of a game's text -------------------------------------------------------------------------------------------- */
+
+/* One step of the main line: the next move outside brackets from an offset outside brackets, read by menkhodur_san_read_standard over the
+ * list that the record has, played by menkhodur_board_after, and the key of the record after it written by menkhodur_fen_write: four calls
+ * in one. 0 with `found` 1: that record is `board`, and its key is at the front of `out`; the bytes of `out` behind it are left alone. 0
+ * with `found` 0: no move outside brackets is left. Refused, in this order, with all of `out` left alone and the record handed back: 23
+ * with the offset, if that is past the text; 21, 22, 23 as menkhodur_pgn_check gives them for what is met before that move, in variations
+ * too; 5: a record number out of range; 6: more than 255 entries, or an entry over 28,671; 4: the text is no name of a listed move; 7:
+ * `room` is shorter than the key. From the start at offset 0, and then from the end of each move with the record after it and the list that
+ * this record has, it gives every position of the game once, in order. Entries that the move text cannot mean may be left out of a list
+ * without any change to the answer. Text and list are left alone. */
+menkhodur_step menkhodur_game_step(const uint8_t *text, size_t length, uint64_t offset, menkhodur_board b,
+                                   const uint16_t *list, size_t entries, uint8_t *out, size_t room);
+
+/* One move text, the whole of `text`, played from any record, for whoever finds the moves of variations with menkhodur_pgn_next: as a step,
+ * with `start` and `offset` 0, `found` 1 and the text's length. Refused, in this order: 5, 6, 4, 7. */
+menkhodur_step menkhodur_play(const uint8_t *text, size_t length, menkhodur_board b,
+                              const uint16_t *list, size_t entries, uint8_t *out, size_t room);
 
 #ifdef __cplusplus
 }

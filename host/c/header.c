@@ -73,3 +73,13 @@ uint64_t kings(const uint8_t *text, size_t length)
     menkhodur_report r = menkhodur_fen_report(text, length, records, sizeof records, numbers, MENKHODUR_PAGE_NUMBERS * MENKHODUR_REPORT_LINES);
     return r.number == MENKHODUR_ACCEPTED ? r.men[MENKHODUR_WHITE_KING - 1] + r.men[MENKHODUR_KINDS - 1] : 0;
 }
+
+/* The first move of a game's text, or of a variation behind it, as it was played: `move` is a field's name here, and a macro's parameter above. */
+uint16_t last_played(const uint8_t *text, size_t length, menkhodur_board b, const uint16_t *list, size_t entries)
+{
+    uint8_t key[MENKHODUR_LONGEST_FEN];
+    menkhodur_step s = menkhodur_game_step(text, length, 0, b, list, entries, key, sizeof key);
+    menkhodur_pgn_move m = menkhodur_pgn_next(text, length, s.start + s.length, 0);
+    if (m.opened > m.closed) s = menkhodur_play(text + m.start, m.length, b, list, entries, key, sizeof key);
+    return MENKHODUR_MOVE(MENKHODUR_MOVE_SOURCE(s.move), MENKHODUR_MOVE_DESTINATION(s.move), MENKHODUR_MOVE_PROMOTION(s.move));
+}

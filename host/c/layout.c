@@ -177,6 +177,10 @@ static void check_lengths(void)
     expect("kinds of men", MENKHODUR_BLACK_KING, MENKHODUR_KINDS);
     expect("men of a report", 8 * MENKHODUR_KINDS, offsetof(menkhodur_report, repeated) - offsetof(menkhodur_report, men));
     expect("report", 136, sizeof(menkhodur_report));
+    expect("next move", 64, sizeof(menkhodur_pgn_move));
+    expect("brackets before it", 48, offsetof(menkhodur_pgn_move, closed));
+    expect("step", 128, sizeof(menkhodur_step));
+    expect("its board", 56, offsetof(menkhodur_step, board));
 }
 
 void check_layout(void)

@@ -59,6 +59,8 @@ static const struct answers all[] = {
     { "menkhodur_roll_differences", N(0) | N(5) | N(7) | N(13) | N(17) },
     { "menkhodur_pgn_check", N(0) | N(21) | N(22) | N(23) },
     { "menkhodur_pgn_next", N(0) | N(21) | N(22) | N(23) },
+    { "menkhodur_game_step", N(0) | N(4) | N(5) | N(6) | N(7) | N(21) | N(22) | N(23) },
+    { "menkhodur_play", N(0) | N(4) | N(5) | N(6) | N(7) },
 };
 
 int main(int argc, char **argv)
@@ -87,6 +89,7 @@ int main(int argc, char **argv)
     check_rolls();
     check_differences();
     check_pgn();
+    check_played();
     check_nulls();
     check_layout();
     check_overlaps();

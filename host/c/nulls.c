@@ -152,6 +152,37 @@ static void check_move_text_of_null(void)
     expect("number", MENKHODUR_UNKNOWN_TOKEN, menkhodur_pgn_next(NULL, 0, 1, 0).number);
 }
 
+static void expect_step(uint64_t number, uint64_t found, uint64_t length, uint64_t key_length, const menkhodur_board *board, menkhodur_step got)
+{
+    expect("number", number, got.number);
+    expect("found", found, got.found);
+    expect("length", length, got.length);
+    expect("length of the key", key_length, got.key_length);
+    expect_board(board, &got.board);
+}
+
+/* A game's text, the list and the room. */
+static void check_steps_of_null(void)
+{
+    struct part text = lend_text("Nc3"), out = lend(MENKHODUR_LONGEST_FEN);
+    const menkhodur_board b = knight();
+    about("menkhodur_game_step", "NULL text, NULL list, NULL room");
+    expect_step(MENKHODUR_ACCEPTED, 0, 0, 0, &b, menkhodur_game_step(NULL, 0, 0, b, one_move, 1, out.bytes, out.length));
+    expect_step(MENKHODUR_ACCEPTED, 0, 0, 0, &b, menkhodur_game_step(NULL, 0, 0, b, NULL, 0, NULL, 0));
+    expect_step(MENKHODUR_UNKNOWN_TOKEN, 0, 0, 0, &b, menkhodur_game_step(NULL, 0, 1, b, NULL, 0, NULL, 0));
+    expect_step(MENKHODUR_INVALID_SAN_MOVE, 1, 3, 0, &b, menkhodur_game_step(text.bytes, text.length, 0, b, NULL, 0, out.bytes, out.length));
+    expect_step(MENKHODUR_OUTPUT_TOO_SHORT, 1, 3, 27, &b, menkhodur_game_step(text.bytes, text.length, 0, b, one_move, 1, NULL, 0));
+    about("menkhodur_play", "NULL text, NULL list, NULL room");
+    expect_step(MENKHODUR_INVALID_SAN_MOVE, 1, 0, 0, &b, menkhodur_play(NULL, 0, b, one_move, 1, out.bytes, out.length));
+    expect_step(MENKHODUR_INVALID_SAN_MOVE, 1, 0, 0, &b, menkhodur_play(NULL, 0, b, NULL, 0, NULL, 0));
+    expect_step(MENKHODUR_INVALID_SAN_MOVE, 1, 3, 0, &b, menkhodur_play(text.bytes, text.length, b, NULL, 0, out.bytes, out.length));
+    expect_step(MENKHODUR_OUTPUT_TOO_SHORT, 1, 3, 27, &b, menkhodur_play(text.bytes, text.length, b, one_move, 1, NULL, 0));
+    expect_unchanged("text", &text);
+    expect_unchanged("room", &out);
+    give_back(&text);
+    give_back(&out);
+}
+
 static void expect_no_roll(uint64_t number, menkhodur_roll got)
 {
     expect("number", number, got.number);
@@ -236,6 +267,7 @@ void check_nulls(void)
     check_rolls_of_null();
     check_differences_of_null();
     check_move_text_of_null();
+    check_steps_of_null();
     check_empty_lists();
     check_part(true, false);
     check_part(false, true);

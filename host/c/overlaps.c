@@ -21,6 +21,31 @@ static void check_text_in_list(void)
     give_back(&list);
 }
 
+/* The same for a text that is played, and for the text of a game. */
+static void check_game_in_list(void)
+{
+    static const uint16_t moves[3] = { 'N' + 256 * 'c', '3', B1C3 };
+    static const char key[] = "8/8/8/8/8/2N5/8/8 b - - 0 1";
+    struct part list = lend_bytes(moves, sizeof moves), out = lend(sizeof key - 1);
+    const uint16_t *entries = (const uint16_t *)(const void *)list.bytes;
+    menkhodur_board knight = board_with(MENKHODUR_WHITE, 1, (uint8_t[]){ B1 }, (uint8_t[]){ MENKHODUR_WHITE_KNIGHT });
+    about("menkhodur_play", "a text that lies in the list");
+    expect("number", MENKHODUR_INVALID_SAN_MOVE, menkhodur_play(list.bytes, 3, knight, entries, 2, out.bytes, out.length).number);
+    expect_unchanged("room", &out);
+    expect("move", B1C3, menkhodur_play(list.bytes, 3, knight, entries, 3, out.bytes, out.length).move);
+    expect_written("room", &out, 0, key, out.length);
+    give_back(&out);
+    out = lend(sizeof key - 1);
+    about("menkhodur_game_step", "a text that lies in the list");
+    expect("number", MENKHODUR_UNKNOWN_TOKEN, menkhodur_game_step(list.bytes, 4, 3, knight, entries, 3, out.bytes, out.length).number);
+    expect_unchanged("room", &out);
+    expect("move", B1C3, menkhodur_game_step(list.bytes, 4, 0, knight, entries, 3, out.bytes, out.length).move);
+    expect_written("room", &out, 0, key, out.length);
+    expect_unchanged("list", &list);
+    give_back(&out);
+    give_back(&list);
+}
+
 /* One memory is both parts: the first four squares of the start are also the first action. */
 static struct game one_part(const uint8_t *first_action, uint16_t move)
 {
@@ -83,6 +108,7 @@ void check_overlaps(void)
 {
     check_rolls_that_overlap();
     check_text_in_list();
+    check_game_in_list();
     check_one_part((uint8_t[]){ MENKHODUR_OFFER_DRAW, MENKHODUR_BLACK, 0, 0 }, MENKHODUR_GOES_ON);
     check_one_part((uint8_t[]){ MENKHODUR_RESIGN, MENKHODUR_BLACK, 0, 0 }, MENKHODUR_BLACK_RESIGNS);
     check_one_part_with_move();

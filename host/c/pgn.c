@@ -1,24 +1,25 @@
 /* PGN move text (document 02, order 8): both functions beside a walker made from the order's own words, over every short text of a small
  * alphabet, soups of tokens, nesting, and places of any size; every lent byte is looked at. */
-#include "check.h"
+#include "pgn.h"
 
 #include <string.h>
 
 enum { DEEP = 8, LONGEST = 4, LONGEST_EXACT = 2, SOUPS = 4000, SOUPS_EXACT = 150, MOST = 400 };
 
-/* A walker of one's own: the place, and where each bracket that is open was opened, the place's own offset for those before it. */
+/* A walker of one's own: the place, and where each bracket that is open was opened, the place's own offset for those before it; and the
+ * lowest level that was met. */
 struct walk {
     const char *text;
     size_t length, at;
     size_t opened[DEEP];
-    unsigned level;
+    unsigned level, lowest;
     uint64_t number, offset;
     bool over;
 };
 
 static struct walk begin(const char *text, size_t length, uint64_t offset, uint64_t level)
 {
-    struct walk w = { text, length, 0, { 0 }, 0, 0, 0, false };
+    struct walk w = { .text = text, .length = length };
     if (level > DEEP || offset > length) {
         w.number = level > DEEP ? 22 : 23;
         w.offset = offset;
@@ -27,6 +28,7 @@ static struct walk begin(const char *text, size_t length, uint64_t offset, uint6
     }
     w.at = offset;
     for (w.level = 0; w.level < level; w.level++) w.opened[w.level] = offset;
+    w.lowest = w.level;
     return w;
 }
 
@@ -70,6 +72,7 @@ static void bracket(struct walk *w, bool opens)
     else if (!opens && w->level == 0) end(w, 23, w->at);
     else if (opens) w->opened[w->level++] = w->at++;
     else w->level--, w->at++;
+    if (w->level < w->lowest) w->lowest = w->level;
 }
 
 static void digits(struct walk *w)
@@ -106,24 +109,28 @@ static void expect_move(menkhodur_pgn_move want, menkhodur_pgn_move got)
     expect("start", want.start, got.start);
     expect("length", want.length, got.length);
     expect("level", want.level, got.level);
+    expect("closed", want.closed, got.closed);
+    expect("opened", want.opened, got.opened);
 }
 
-/* The next move from a place, as the walker has it. */
-static menkhodur_pgn_move next_of(const char *text, size_t length, uint64_t offset, uint64_t level)
+/* Down from the place's level to the lowest all that is met is closed for good, and up from there to the move's level opened. */
+menkhodur_pgn_move owed_next(const char *text, size_t length, uint64_t offset, uint64_t level, bool outside)
 {
     struct walk w = begin(text, length, offset, level);
     size_t to = 0;
     while (!w.over) {
-        if (step(&w, &to)) return (menkhodur_pgn_move){ 0, 0, 1, w.at, to - w.at, w.level };
+        if (!step(&w, &to)) continue;
+        if (!outside || w.level == 0) return (menkhodur_pgn_move){ 0, 0, 1, w.at, to - w.at, w.level, level - w.lowest, w.level - w.lowest };
+        w.at = to;
     }
-    return (menkhodur_pgn_move){ w.number, w.offset, 0, 0, 0, 0 };
+    return (menkhodur_pgn_move){ .number = w.number, .offset = w.offset };
 }
 
 static void check_place(const struct part *p, uint64_t offset, uint64_t level)
 {
     const char *text = (const char *)p->bytes;
     about("menkhodur_pgn_next", "\"%.*s\" from %llu at level %llu", (int)p->length, text, (unsigned long long)offset, (unsigned long long)level);
-    expect_move(next_of(text, p->length, offset, level), menkhodur_pgn_next(p->bytes, p->length, offset, level));
+    expect_move(owed_next(text, p->length, offset, level, false), menkhodur_pgn_next(p->bytes, p->length, offset, level));
 }
 
 /* The check, then from move to move: as many as it counted, and then that none is left, or the refusal. */
@@ -215,8 +222,26 @@ static void check_wide_places(void)
     give_back(&p);
 }
 
+/* The brackets before each move, `closed` and `opened` by turns. */
+static void check_brackets(const char *text, const char *crossed)
+{
+    struct part p = lend_text(text);
+    menkhodur_pgn_move m = { .found = 1 };
+    for (; *crossed; crossed += 2) {
+        about("menkhodur_pgn_next", "\"%s\", the brackets behind %llu", text, (unsigned long long)(m.start + m.length));
+        m = menkhodur_pgn_next(p.bytes, p.length, m.start + m.length, m.level);
+        expect("closed", (uint64_t)(crossed[0] - '0'), m.closed);
+        expect("opened", (uint64_t)(crossed[1] - '0'), m.opened);
+    }
+    give_back(&p);
+    check_text(text, strlen(text));
+}
+
 void check_pgn(void)
 {
+    check_brackets("e4 (d4 d5) (c4 e5) e5", "000100110010");
+    check_brackets("e4 (d4 d5   c4 e5) e5", "000100000010");
+    check_brackets("e4 () {(} e5 ;)\n ((Nf3) Nc3) (((d4))) d5 (c4 (f4))", "0000021013300101");
     char text[LONGEST];
     check_words("1. e4 e5 2. Nf3 $6 {good} (2. f4 exf4 (2... d5 3. exd5)) 2... Nc6 ; to the end");
     check_words("e4 {x");

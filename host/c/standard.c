@@ -1,20 +1,20 @@
 /* SAN as the PGN standard writes it: order 6 of document 02. The judge here does not read texts. It spells out every text that fits an entry of
  * the list, and looks for the text among them. */
-#include "check.h"
+#include "standard.h"
 
 #include <stdio.h>
 #include <string.h>
 
 enum { B1 = 1, D1 = 3, E1 = 4, E2 = 12, C3 = 18, B5 = 33, C5 = 34, E5 = 36, D6 = 43, E6 = 44, E7 = 52, E8 = 60 };
 enum { PAWN = 1, KNIGHT = 2, ROOK = 4, KING = 6, BLACK_PAWN = 7, BLACK_KING = 12 };
-enum { MOST = 6, SPELT = 16, REFUSED = 1 << 16 };
+enum { MOST = 6, SPELT = 16 };
 
 static const char reading[] = "menkhodur_san_read_standard";
 static const char naming[] = "menkhodur_san_name_standard";
 
 struct scene {
     menkhodur_board board;
-    uint16_t list[MOST];
+    uint16_t list[MENKHODUR_LONGEST_LIST];
     size_t entries;
 };
 
@@ -98,6 +98,17 @@ static uint64_t judged(const struct scene *s, const char *text)
     for (size_t i = 0; i < s->entries; i++)
         if (fits(s, s->list[i], bare, &right)) found++, move = s->list[i];
     return found == 1 && right ? move : REFUSED;
+}
+
+uint64_t owed_move(menkhodur_board b, const uint16_t *list, size_t entries, const uint8_t *text, size_t length)
+{
+    struct scene s = { .board = b, .entries = entries };
+    char ended[SPELT] = "";
+    /* What has no name in the judge's spelling is none: nothing that is spelt is so long, or has a 0 byte in it. */
+    if (length >= sizeof ended || (length && memchr(text, 0, length))) return REFUSED;
+    if (length) memcpy(ended, text, length);
+    if (entries) memcpy(s.list, list, entries * sizeof *list);
+    return judged(&s, ended);
 }
 
 /* The name of a listed move, "" if there is none. */

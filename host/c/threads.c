@@ -197,12 +197,33 @@ static unsigned wrong_move_text(void)
     static const uint8_t text[] = "1. e4 e5 (1... c5 2. Nf3 {open}) 2. Nf3 *";
     menkhodur_pgn_count count = menkhodur_pgn_check(text, sizeof text - 1);
     menkhodur_pgn_move m = { .found = 1 };
-    uint64_t walked = 0;
+    uint64_t walked = 0, closed = 0, opened = 0;
     while (m.found && walked < 9) {
         m = menkhodur_pgn_next(text, sizeof text - 1, m.start + m.length, m.level);
         walked += m.found;
+        closed += m.closed;
+        opened += m.opened;
     }
-    return count.number != MENKHODUR_ACCEPTED || count.moves != 5 || walked != 5 || m.number != MENKHODUR_ACCEPTED;
+    return count.number != MENKHODUR_ACCEPTED || count.moves != 5 || walked != 5 || m.number != MENKHODUR_ACCEPTED || closed != 1 || opened != 1;
+}
+
+/* A game's text stepped through, and its last move played alone. */
+static unsigned wrong_steps(void)
+{
+    static const uint8_t text[] = "1. Nf3 (1. Nc3) Nc6 *";
+    static const char owed[] = "r1bqkbnr/pppppppp/2n5/8/8/5N2/PPPPPPPP/RNBQKB1R w KQkq - 0 1";
+    const uint16_t replies[2] = { MENKHODUR_MOVE(MENKHODUR_SQUARE('b', 8), MENKHODUR_SQUARE('c', 6), 0), 0 };
+    const size_t length = sizeof text - 1;
+    uint8_t room[MENKHODUR_LONGEST_FEN];
+    menkhodur_step first = menkhodur_game_step(text, length, 0, initial, list_of(&list_of_all), 2, room, sizeof room), s;
+    menkhodur_board b = round_position(1, false).board;
+    unsigned wrong = !is_board(&b, (menkhodur_stepped){ first.number, first.board }) || first.start != 3 || first.move != round_move(0);
+    s = menkhodur_game_step(text, length, 6, first.board, replies, 1, room, sizeof room);
+    wrong += s.number != MENKHODUR_ACCEPTED || s.start != 16 || s.key_length != strlen(owed) || memcmp(room, owed, strlen(owed)) != 0;
+    wrong += menkhodur_game_step(text, length, 19, s.board, replies, 1, room, sizeof room).found != 0;
+    memset(room, 0, sizeof room);
+    s = menkhodur_play(text + 16, 3, first.board, replies, 1, room, sizeof room);
+    return wrong + (s.number != MENKHODUR_ACCEPTED || s.move != replies[0] || memcmp(room, owed, strlen(owed)) != 0);
 }
 
 static unsigned wrong_counts(struct game *g, menkhodur_counts c, uint64_t number, uint64_t actions, uint64_t moves)
@@ -237,7 +258,7 @@ static void *work(void *worker)
     for (unsigned i = 0; i < (exact ? ROUNDS_EXACT : ROUNDS); i++) {
         w->wrong += wrong_numbers() + wrong_texts() + wrong_full_texts() + wrong_standard_texts() + wrong_queries(&log_of_all, MENKHODUR_GOES_ON, 1);
         w->wrong += wrong_settled_texts() + wrong_pages() + wrong_reports();
-        w->wrong += wrong_rolls() + wrong_old_rolls() + wrong_differences() + wrong_move_text() + wrong_own(&w->own);
+        w->wrong += wrong_rolls() + wrong_old_rolls() + wrong_differences() + wrong_move_text() + wrong_steps() + wrong_own(&w->own);
     }
     return NULL;
 }

@@ -62,6 +62,8 @@ TWIN_OF(menkhodur_roll_read_old);
 TWIN_OF(menkhodur_fen_report);
 TWIN_OF(menkhodur_board_settled);
 TWIN_OF(menkhodur_fen_settled);
+TWIN_OF(menkhodur_game_step);
+TWIN_OF(menkhodur_play);
 #endif
 
 /* ---- Violations (lent.c) ---- */
@@ -131,6 +133,20 @@ bool list_good(const uint16_t *list, size_t entries);
 const uint16_t *lend_list(struct input *in, unsigned turn);
 void list_same(void);
 
+/* ---- Models that several files ask ---- */
+
+/* Of a text with the 0 byte that sprintf sets. */
+enum { FEN_ROOM = MENKHODUR_LONGEST_FULL_FEN + 16 };
+
+/* The room that the input asks for: any, or the text's own length and a byte around it (texts.c). */
+size_t room_near(struct input *in, size_t length);
+/* The key of a record in range; its length (texts.c). */
+size_t model_key(const menkhodur_board *b, uint8_t *key);
+/* The move that a text names over the registers' board and list, in the standard's form (san.c). */
+menkhodur_answer model_standard(const struct input *in, const uint8_t *text, size_t length);
+/* The next move outside brackets from an offset outside brackets in the text register (pgn.c). */
+menkhodur_pgn_move model_main(const struct input *in, uint64_t offset);
+
 /* ---- Steps: each takes its parameters from the input, calls, and judges ---- */
 
 typedef void step(struct input *in);
@@ -145,6 +161,7 @@ step call_board_after;
 step call_counter_step, call_fen_read_full, call_fen_write_full, call_roll_read_old, old_roll_of_game;
 step call_fen_report, call_long_report;
 step call_board_settled, call_fen_settled;
+step call_play, call_game_step, step_through;
 
 /* The texts that the register can be set to. */
 void text_of_board(struct input *in);
@@ -159,5 +176,6 @@ void log_begin(void);
 void log_end(void);
 void rolls_begin(void);
 void pgn_begin(void);
+void played_begin(void);
 
 #endif

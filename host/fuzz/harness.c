@@ -257,6 +257,7 @@ static step *const steps[] = {
     call_board_after, call_roll_differences, keep_roll,
     take_counters, call_counter_step, call_fen_read_full, call_fen_write_full, full_text_of_board, call_roll_read_old, old_roll_of_game,
     call_fen_report, call_long_report, call_board_settled, call_fen_settled,
+    call_play, call_game_step, step_through,
 };
 
 int LLVMFuzzerTestOneInput(const uint8_t *data, size_t size);
@@ -275,6 +276,7 @@ int LLVMFuzzerTestOneInput(const uint8_t *data, size_t size)
     log_begin();
     rolls_begin();
     pgn_begin();
+    played_begin();
     for (unsigned i = 0; in.at < in.end && i < MOST_STEPS; i++) steps[take(&in) % (sizeof steps / sizeof *steps)](&in);
     log_end();
     return 0;

@@ -14,11 +14,15 @@ void pgn_begin(void)
 
 /* ---- What must be answered ---- */
 
-/* One answer for both calls: a check that was let run counts the moves, a call for the next one stops at the first. */
+/* One answer for all calls: a check that was let run counts the moves, a call for the next one stops at the first, or at the first outside
+ * brackets. */
+enum until { THE_END, A_MOVE, A_MAIN_MOVE };
+
 struct walk {
     const uint8_t *text;
     size_t length;
-    bool stops;
+    enum until until;
+    unsigned from, outer; /* the level of the place, and of the outermost sequence that is walked in */
     menkhodur_pgn_move first;
     uint64_t moves, number, offset;
     bool over;
@@ -57,8 +61,8 @@ static size_t move_at(struct walk *w, size_t at, unsigned level)
     size_t end = at + 1;
     while (end < w->length && (letter_or_digit(w->text[end]) || any_of("+#=-!?", w->text[end]))) end++;
     w->moves++;
-    if (w->stops) {
-        w->first = (menkhodur_pgn_move){ 0, 0, 1, at, end - at, level };
+    if (w->until == A_MOVE || (w->until == A_MAIN_MOVE && level == 0)) {
+        w->first = (menkhodur_pgn_move){ 0, 0, 1, at, end - at, level, w->from - w->outer, level - w->outer };
         w->over = true;
     }
     return end;
@@ -97,16 +101,34 @@ static size_t level_from(struct walk *w, size_t at, unsigned level, size_t opene
     return w->length;
 }
 
-static struct walk walk_from(const struct input *in, uint64_t offset, uint64_t level, bool stops)
+static struct walk walk_from(const struct input *in, uint64_t offset, uint64_t level, enum until until)
 {
-    struct walk w = { .text = in->text, .length = in->length, .stops = stops };
+    struct walk w = { .text = in->text, .length = in->length, .until = until };
     size_t at = (size_t)offset;
     if (level > DEEPEST) stop(&w, MENKHODUR_TOO_DEEP, at);
     else if (offset > in->length) stop(&w, MENKHODUR_UNKNOWN_TOKEN, at);
     else {
-        for (unsigned inside = (unsigned)level + 1; inside > 0 && !w.over; inside--) at = level_from(&w, at, inside - 1, (size_t)offset) + 1;
+        w.from = (unsigned)level;
+        for (unsigned inside = w.from + 1; inside > 0 && !w.over; inside--) {
+            w.outer = inside - 1;
+            at = level_from(&w, at, inside - 1, (size_t)offset) + 1;
+        }
     }
     return w;
+}
+
+static menkhodur_pgn_move model_next(const struct input *in, uint64_t offset, uint64_t level, enum until until)
+{
+    struct walk w = walk_from(in, offset, level, until);
+    menkhodur_pgn_move next = w.first;
+    next.number = w.number;
+    next.offset = w.offset;
+    return next;
+}
+
+menkhodur_pgn_move model_main(const struct input *in, uint64_t offset)
+{
+    return model_next(in, offset, 0, A_MAIN_MOVE);
 }
 
 /* ---- The calls ---- */
@@ -120,7 +142,7 @@ static const uint8_t *lend_move_text(struct input *in, unsigned turn)
 
 void call_pgn_check(struct input *in)
 {
-    struct walk want = walk_from(in, 0, 0, false);
+    struct walk want = walk_from(in, 0, 0, THE_END);
     for (unsigned turn = 0; turn < 2; turn++) {
         const uint8_t *text = lend_move_text(in, turn);
         about("pgn_check");
@@ -134,10 +156,7 @@ void call_pgn_check(struct input *in)
 
 static menkhodur_pgn_move next_at(struct input *in, const char *name, uint64_t offset, uint64_t level)
 {
-    struct walk w = walk_from(in, offset, level, true);
-    menkhodur_pgn_move want = w.first, got = want;
-    want.number = w.number;
-    want.offset = w.offset;
+    menkhodur_pgn_move want = model_next(in, offset, level, A_MOVE), got = want;
     for (unsigned turn = 0; turn < 2; turn++) {
         const uint8_t *text = lend_move_text(in, turn);
         about(name);
@@ -159,7 +178,7 @@ void call_pgn_next(struct input *in)
 /* From the start, move by move: as many as the check counts. */
 void walk_pgn(struct input *in)
 {
-    struct walk want = walk_from(in, 0, 0, false);
+    struct walk want = walk_from(in, 0, 0, THE_END);
     menkhodur_pgn_move m = { .found = 1 };
     uint64_t walked = 0;
     while (m.found && walked <= in->length) {

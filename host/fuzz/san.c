@@ -160,7 +160,7 @@ static menkhodur_answer model_san(const struct input *in, const uint8_t *text, s
     return (menkhodur_answer){ 0, move };
 }
 
-static menkhodur_answer model_standard(const struct input *in, const uint8_t *text, size_t length)
+menkhodur_answer model_standard(const struct input *in, const uint8_t *text, size_t length)
 {
     struct asked a;
     uint64_t move = 0;

@@ -157,8 +157,7 @@ static void lend_text(struct input *in, unsigned turn)
     lent_put(&text_part, 0, in->text, in->length);
 }
 
-/* The room that the input asks for: any, or the text's own length and a byte around it. */
-static size_t take_room(struct input *in, size_t length)
+size_t room_near(struct input *in, size_t length)
 {
     unsigned room = take(in);
     if (room < 100) return room;
@@ -317,9 +316,6 @@ static menkhodur_board told_by(const struct pair *pair, menkhodur_board b)
 
 /* ---- FEN, written ---- */
 
-/* Of a text with the 0 byte that sprintf sets. */
-enum { FEN_ROOM = MENKHODUR_LONGEST_FULL_FEN + 16 };
-
 static size_t put_rank(const uint8_t *men, uint8_t *text)
 {
     size_t at = 0, empty = 0;
@@ -353,6 +349,11 @@ static size_t model_fen(const struct pair *pair, const menkhodur_board *b, uint8
     text[at++] = b->en_passant ? (uint8_t)('a' + b->en_passant - 1) : '-';
     if (b->en_passant) text[at++] = b->side_to_move ? '3' : '6';
     return at + (size_t)sprintf((char *)text + at, " %u %u", told.half_moves, told.full_moves);
+}
+
+size_t model_key(const menkhodur_board *b, uint8_t *key)
+{
+    return model_fen(&crate, b, key);
 }
 
 static void expect_writes(const struct pair *pair, const menkhodur_board *b, size_t room)
@@ -392,7 +393,7 @@ static void write_in(const struct pair *pair, struct input *in)
 {
     uint8_t text[FEN_ROOM];
     size_t length = board_good(&in->board) ? model_fen(pair, &in->board, text) : 0;
-    expect_writes(pair, &in->board, take_room(in, length));
+    expect_writes(pair, &in->board, room_near(in, length));
     if (!length) return;
     expect_writes(pair, &in->board, length);
     expect_writes(pair, &in->board, length - 1);
@@ -469,7 +470,7 @@ void call_fen_settled(struct input *in)
 {
     uint8_t key[FEN_ROOM];
     size_t length = model_settled(in, key);
-    expect_settled(in, take_room(in, length));
+    expect_settled(in, room_near(in, length));
     if (!length) return;
     expect_settled(in, length);
     expect_settled(in, length - 1);
@@ -753,7 +754,7 @@ void call_move_write(struct input *in)
 {
     bool good = in->move <= MENKHODUR_LAST_MOVE;
     uint8_t text[5];
-    size_t length = good ? model_coordinates(in->move, text) : 0, room = take_room(in, length);
+    size_t length = good ? model_coordinates(in->move, text) : 0, room = room_near(in, length);
     menkhodur_answer want = { !good ? 6 : room < length ? 7 : 0, length };
     for (unsigned turn = 0; turn < 2; turn++) {
         menkhodur_answer got;

@@ -1113,4 +1113,211 @@ menkhodur_placed menkhodur_fen_settled(const uint8_t *text, size_t length, uint8
     if (p.number == 0 && clock && clock < text + length) out[p.value - 3] = *clock;
     return p;
 }
+#elif FAULT == 120 /* WRAPS pgn_next: a variation without a move is told */
+menkhodur_pgn_move real_pgn_next(const uint8_t *text, size_t length, uint64_t offset, uint64_t level);
+menkhodur_pgn_move menkhodur_pgn_next(const uint8_t *text, size_t length, uint64_t offset, uint64_t level)
+{
+    menkhodur_pgn_move m = real_pgn_next(text, length, offset, level);
+    for (uint64_t at = offset; m.found && at + 1 < m.start; at++)
+        if (text[at] == '(' && text[at + 1] == ')') m.closed++, m.opened++;
+    return m;
+}
+#elif FAULT == 121 /* WRAPS pgn_next: brackets that are closed and opened anew are told as none */
+menkhodur_pgn_move real_pgn_next(const uint8_t *text, size_t length, uint64_t offset, uint64_t level);
+menkhodur_pgn_move menkhodur_pgn_next(const uint8_t *text, size_t length, uint64_t offset, uint64_t level)
+{
+    menkhodur_pgn_move m = real_pgn_next(text, length, offset, level);
+    while (m.closed && m.opened) m.closed--, m.opened--;
+    return m;
+}
+#elif FAULT == 122 /* WRAPS pgn_next: one bracket alone is told as opened */
+menkhodur_pgn_move real_pgn_next(const uint8_t *text, size_t length, uint64_t offset, uint64_t level);
+menkhodur_pgn_move menkhodur_pgn_next(const uint8_t *text, size_t length, uint64_t offset, uint64_t level)
+{
+    menkhodur_pgn_move m = real_pgn_next(text, length, offset, level);
+    if (m.opened > 1) m.opened = 1;
+    return m;
+}
+#elif FAULT == 123 /* WRAPS pgn_next: without a move the place is left */
+menkhodur_pgn_move real_pgn_next(const uint8_t *text, size_t length, uint64_t offset, uint64_t level);
+menkhodur_pgn_move menkhodur_pgn_next(const uint8_t *text, size_t length, uint64_t offset, uint64_t level)
+{
+    menkhodur_pgn_move m = real_pgn_next(text, length, offset, level);
+    if (!m.found && m.number == 0) m.closed = level;
+    return m;
+}
+#elif FAULT == 124 /* WRAPS game_step: a variation's move is played */
+menkhodur_step real_game_step(const uint8_t *text, size_t length, uint64_t offset, menkhodur_board b, const uint16_t *list, size_t entries,
+                              uint8_t *out, size_t room);
+menkhodur_step menkhodur_game_step(const uint8_t *text, size_t length, uint64_t offset, menkhodur_board b, const uint16_t *list, size_t entries,
+                                   uint8_t *out, size_t room)
+{
+    menkhodur_step s = real_game_step(text, length, offset, b, list, entries, out, room);
+    menkhodur_pgn_move m = menkhodur_pgn_next(text, length, offset, 0);
+    if (s.found && m.level) {
+        s = menkhodur_play(text + m.start, m.length, b, list, entries, out, room);
+        s.start = m.start;
+    }
+    return s;
+}
+#elif FAULT == 125 /* WRAPS game_step: the key of the record before is written */
+menkhodur_step real_game_step(const uint8_t *text, size_t length, uint64_t offset, menkhodur_board b, const uint16_t *list, size_t entries,
+                              uint8_t *out, size_t room);
+menkhodur_step menkhodur_game_step(const uint8_t *text, size_t length, uint64_t offset, menkhodur_board b, const uint16_t *list, size_t entries,
+                                   uint8_t *out, size_t room)
+{
+    menkhodur_step s = real_game_step(text, length, offset, b, list, entries, out, room);
+    if (s.number == 0 && s.found) menkhodur_fen_write(b, out, room);
+    return s;
+}
+#elif FAULT == 126 /* WRAPS game_step: it goes on behind a move that is refused */
+menkhodur_step real_game_step(const uint8_t *text, size_t length, uint64_t offset, menkhodur_board b, const uint16_t *list, size_t entries,
+                              uint8_t *out, size_t room);
+menkhodur_step menkhodur_game_step(const uint8_t *text, size_t length, uint64_t offset, menkhodur_board b, const uint16_t *list, size_t entries,
+                                   uint8_t *out, size_t room)
+{
+    menkhodur_step s = real_game_step(text, length, offset, b, list, entries, out, room);
+    if (s.number == 4) s = real_game_step(text, length, s.start + s.length, b, list, entries, out, room);
+    return s;
+}
+#elif FAULT == 127 /* WRAPS game_step: a move is skipped */
+menkhodur_step real_game_step(const uint8_t *text, size_t length, uint64_t offset, menkhodur_board b, const uint16_t *list, size_t entries,
+                              uint8_t *out, size_t room);
+menkhodur_step menkhodur_game_step(const uint8_t *text, size_t length, uint64_t offset, menkhodur_board b, const uint16_t *list, size_t entries,
+                                   uint8_t *out, size_t room)
+{
+    menkhodur_step s = real_game_step(text, length, offset, b, list, entries, out, room);
+    if (s.number == 0 && s.found && s.length > 3) s = real_game_step(text, length, s.start + s.length, b, list, entries, out, room);
+    return s;
+}
+#elif FAULT == 128 /* WRAPS game_step: with 7 the record after the move is handed out */
+menkhodur_step real_game_step(const uint8_t *text, size_t length, uint64_t offset, menkhodur_board b, const uint16_t *list, size_t entries,
+                              uint8_t *out, size_t room);
+menkhodur_step menkhodur_game_step(const uint8_t *text, size_t length, uint64_t offset, menkhodur_board b, const uint16_t *list, size_t entries,
+                                   uint8_t *out, size_t room)
+{
+    menkhodur_step s = real_game_step(text, length, offset, b, list, entries, out, room);
+    if (s.number == 7) s.board = menkhodur_board_after(b, menkhodur_san_read_standard(b, list, entries, text + s.start, s.length).value).board;
+    return s;
+}
+#elif FAULT == 129 /* WRAPS game_step: a bracket that is left open has the offset of the place */
+menkhodur_step real_game_step(const uint8_t *text, size_t length, uint64_t offset, menkhodur_board b, const uint16_t *list, size_t entries,
+                              uint8_t *out, size_t room);
+menkhodur_step menkhodur_game_step(const uint8_t *text, size_t length, uint64_t offset, menkhodur_board b, const uint16_t *list, size_t entries,
+                                   uint8_t *out, size_t room)
+{
+    menkhodur_step s = real_game_step(text, length, offset, b, list, entries, out, room);
+    if (s.number == 21) s.offset = offset;
+    return s;
+}
+#elif FAULT == 130 /* WRAPS game_step: with 7 there is no offset */
+menkhodur_step real_game_step(const uint8_t *text, size_t length, uint64_t offset, menkhodur_board b, const uint16_t *list, size_t entries,
+                              uint8_t *out, size_t room);
+menkhodur_step menkhodur_game_step(const uint8_t *text, size_t length, uint64_t offset, menkhodur_board b, const uint16_t *list, size_t entries,
+                                   uint8_t *out, size_t room)
+{
+    menkhodur_step s = real_game_step(text, length, offset, b, list, entries, out, room);
+    if (s.number == 7) s.offset = 0;
+    return s;
+}
+#elif FAULT == 131 /* WRAPS game_step: a record out of range is told before the walk's refusals */
+menkhodur_step real_game_step(const uint8_t *text, size_t length, uint64_t offset, menkhodur_board b, const uint16_t *list, size_t entries,
+                              uint8_t *out, size_t room);
+menkhodur_step menkhodur_game_step(const uint8_t *text, size_t length, uint64_t offset, menkhodur_board b, const uint16_t *list, size_t entries,
+                                   uint8_t *out, size_t room)
+{
+    menkhodur_step s = real_game_step(text, length, offset, b, list, entries, out, room);
+    if (s.number == 23 && menkhodur_board_settled(b).number) s.number = 5;
+    return s;
+}
+#elif FAULT == 132 /* WRAPS game_step: where no move is left the text's end is told */
+menkhodur_step real_game_step(const uint8_t *text, size_t length, uint64_t offset, menkhodur_board b, const uint16_t *list, size_t entries,
+                              uint8_t *out, size_t room);
+menkhodur_step menkhodur_game_step(const uint8_t *text, size_t length, uint64_t offset, menkhodur_board b, const uint16_t *list, size_t entries,
+                                   uint8_t *out, size_t room)
+{
+    menkhodur_step s = real_game_step(text, length, offset, b, list, entries, out, room);
+    if (s.number == 0 && !s.found) s.start = length;
+    return s;
+}
+#elif FAULT == 133 /* WRAPS game_step: a byte behind the key is cleared */
+menkhodur_step real_game_step(const uint8_t *text, size_t length, uint64_t offset, menkhodur_board b, const uint16_t *list, size_t entries,
+                              uint8_t *out, size_t room);
+menkhodur_step menkhodur_game_step(const uint8_t *text, size_t length, uint64_t offset, menkhodur_board b, const uint16_t *list, size_t entries,
+                                   uint8_t *out, size_t room)
+{
+    menkhodur_step s = real_game_step(text, length, offset, b, list, entries, out, room);
+    if (s.number == 0 && s.found && room > s.key_length) out[s.key_length] = 0;
+    return s;
+}
+#elif FAULT == 134 /* WRAPS game_step: a byte is written into a room that is too short */
+menkhodur_step real_game_step(const uint8_t *text, size_t length, uint64_t offset, menkhodur_board b, const uint16_t *list, size_t entries,
+                              uint8_t *out, size_t room);
+menkhodur_step menkhodur_game_step(const uint8_t *text, size_t length, uint64_t offset, menkhodur_board b, const uint16_t *list, size_t entries,
+                                   uint8_t *out, size_t room)
+{
+    menkhodur_step s = real_game_step(text, length, offset, b, list, entries, out, room);
+    if (s.number == 7 && room) out[room - 1] = ' ';
+    return s;
+}
+#elif FAULT == 135 /* WRAPS game_step: it goes on behind a result */
+menkhodur_step real_game_step(const uint8_t *text, size_t length, uint64_t offset, menkhodur_board b, const uint16_t *list, size_t entries,
+                              uint8_t *out, size_t room);
+menkhodur_step menkhodur_game_step(const uint8_t *text, size_t length, uint64_t offset, menkhodur_board b, const uint16_t *list, size_t entries,
+                                   uint8_t *out, size_t room)
+{
+    menkhodur_step s = real_game_step(text, length, offset, b, list, entries, out, room);
+    for (uint64_t at = offset; s.number == 0 && !s.found && at + 3 < length; at++)
+        if (text[at] == '-' && text[at + 1] == '1' && text[at + 2] == '/') s = real_game_step(text, length, at + 4, b, list, entries, out, room);
+    return s;
+}
+#elif FAULT == 136 /* WRAPS play: a blank before the text is passed over */
+menkhodur_step real_play(const uint8_t *text, size_t length, menkhodur_board b, const uint16_t *list, size_t entries, uint8_t *out, size_t room);
+menkhodur_step menkhodur_play(const uint8_t *text, size_t length, menkhodur_board b, const uint16_t *list, size_t entries, uint8_t *out, size_t room)
+{
+    menkhodur_step s = real_play(text, length, b, list, entries, out, room);
+    if (s.number == 4 && length && *text == ' ') s = real_play(text + 1, length - 1, b, list, entries, out, room);
+    return s;
+}
+#elif FAULT == 137 /* WRAPS play: the clock does not go on */
+menkhodur_step real_play(const uint8_t *text, size_t length, menkhodur_board b, const uint16_t *list, size_t entries, uint8_t *out, size_t room);
+menkhodur_step menkhodur_play(const uint8_t *text, size_t length, menkhodur_board b, const uint16_t *list, size_t entries, uint8_t *out, size_t room)
+{
+    menkhodur_step s = real_play(text, length, b, list, entries, out, room);
+    if (s.number == 0 && s.board.half_moves) s.board.half_moves = b.half_moves;
+    return s;
+}
+#elif FAULT == 138 /* WRAPS play: the move number does not go on */
+menkhodur_step real_play(const uint8_t *text, size_t length, menkhodur_board b, const uint16_t *list, size_t entries, uint8_t *out, size_t room);
+menkhodur_step menkhodur_play(const uint8_t *text, size_t length, menkhodur_board b, const uint16_t *list, size_t entries, uint8_t *out, size_t room)
+{
+    menkhodur_step s = real_play(text, length, b, list, entries, out, room);
+    if (s.number == 0) s.board.full_moves = b.full_moves;
+    return s;
+}
+#elif FAULT == 139 /* WRAPS play: 7 stands before 4 */
+menkhodur_step real_play(const uint8_t *text, size_t length, menkhodur_board b, const uint16_t *list, size_t entries, uint8_t *out, size_t room);
+menkhodur_step menkhodur_play(const uint8_t *text, size_t length, menkhodur_board b, const uint16_t *list, size_t entries, uint8_t *out, size_t room)
+{
+    menkhodur_step s = real_play(text, length, b, list, entries, out, room);
+    if (s.number == 4 && room == 0) s.number = 7, s.key_length = MENKHODUR_SHORTEST_FEN;
+    return s;
+}
+#elif FAULT == 140 /* WRAPS play: the place of the entry is told in place of the move */
+menkhodur_step real_play(const uint8_t *text, size_t length, menkhodur_board b, const uint16_t *list, size_t entries, uint8_t *out, size_t room);
+menkhodur_step menkhodur_play(const uint8_t *text, size_t length, menkhodur_board b, const uint16_t *list, size_t entries, uint8_t *out, size_t room)
+{
+    menkhodur_step s = real_play(text, length, b, list, entries, out, room);
+    for (size_t i = 0; s.number == 0 && i < entries; i++)
+        if (list[i] == s.move) s.move = i;
+    return s;
+}
+#elif FAULT == 141 /* WRAPS play: an empty text has no move text */
+menkhodur_step real_play(const uint8_t *text, size_t length, menkhodur_board b, const uint16_t *list, size_t entries, uint8_t *out, size_t room);
+menkhodur_step menkhodur_play(const uint8_t *text, size_t length, menkhodur_board b, const uint16_t *list, size_t entries, uint8_t *out, size_t room)
+{
+    menkhodur_step s = real_play(text, length, b, list, entries, out, room);
+    if (length == 0) s.found = 0;
+    return s;
+}
 #endif
