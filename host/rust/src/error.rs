@@ -32,10 +32,31 @@ pub enum Error {
     /// 4: the text is no SAN text, fits no listed move (as castling that is not listed) or more than one, or is wrong about whether the
     /// move captures.
     InvalidSanMove,
+    /// 4 too, of a step through a game's move text, as [`lent::game_step`](crate::lent::game_step) makes it.
+    InvalidSanMoveAt {
+        /// Where the move starts in the text.
+        start: usize,
+        /// How many bytes it has.
+        length: usize,
+    },
     /// 5: a record number, square, rank, file, colour, rights number or in-check byte is out of range.
     OutOfRange,
+    /// 5 too, of such a step: a number of the record is out of range.
+    OutOfRangeAt {
+        /// Where the move starts in the text.
+        start: usize,
+        /// How many bytes it has.
+        length: usize,
+    },
     /// 6: the list is longer than 255, or one of its moves, or the move to write in coordinates, is over 28,671.
     ListOutOfRange,
+    /// 6 too, of such a step.
+    ListOutOfRangeAt {
+        /// Where the move starts in the text.
+        start: usize,
+        /// How many bytes it has.
+        length: usize,
+    },
     /// 7: the room for the text or the roll is too short.
     OutputTooShort {
         /// How many bytes the text or the roll has.
@@ -126,9 +147,9 @@ impl Error {
         match *self {
             Error::InvalidSquare { .. } => 2,
             Error::InvalidUciMove { .. } => 3,
-            Error::InvalidSanMove => 4,
-            Error::OutOfRange => 5,
-            Error::ListOutOfRange => 6,
+            Error::InvalidSanMove | Error::InvalidSanMoveAt { .. } => 4,
+            Error::OutOfRange | Error::OutOfRangeAt { .. } => 5,
+            Error::ListOutOfRange | Error::ListOutOfRangeAt { .. } => 6,
             Error::OutputTooShort { .. } | Error::PageTooShort { .. } => 7,
             Error::NoName => 8,
             Error::LogNotGood => 9,
@@ -152,7 +173,8 @@ impl Error {
         }
     }
 
-    /// The place in the text of what is wrong with it, for the numbers that come with one: 2, 3, 18 to 23 and 25.
+    /// The place in the text of what is wrong with it, for the numbers that come with one: 2, 3, 18 to 23 and 25, and of a step through
+    /// a game's move text 4, 5 and 6 too.
     ///
     /// ```
     /// use menkhodur::{Board, Error, Move};
@@ -168,6 +190,9 @@ impl Error {
             Error::TooFewTokens { offset } | Error::BadPlacement { offset } | Error::BadSide { offset } => Some(offset),
             Error::BadCounter { offset } => Some(offset),
             Error::LeftOpen { offset } | Error::TooDeep { offset } | Error::UnknownToken { offset } => Some(offset),
+            Error::InvalidSanMoveAt { start, .. } | Error::OutOfRangeAt { start, .. } | Error::ListOutOfRangeAt { start, .. } => {
+                Some(start)
+            }
             _ => None,
         }
     }
@@ -207,6 +232,18 @@ impl Error {
         })
     }
 
+    /// 4, 5 or 6 of a step, with the part of the text that holds its move.
+    pub(crate) fn in_step(number: u64, start: u64, length: u64) -> Error {
+        // As above: the part lies in a text that was lent.
+        let (start, length) = (start as usize, length as usize);
+        match number {
+            4 => Error::InvalidSanMoveAt { start, length },
+            5 => Error::OutOfRangeAt { start, length },
+            6 => Error::ListOutOfRangeAt { start, length },
+            other => Error::Unknown(other),
+        }
+    }
+
     /// What the number means, in words.
     ///
     /// ```
@@ -220,9 +257,13 @@ impl Error {
         match *self {
             Error::InvalidSquare { .. } => "the text has something else where a square such as e4 should be",
             Error::InvalidUciMove { .. } => "the text is not a move such as e2e4 or e7e8q",
-            Error::InvalidSanMove => "the text is no SAN text, fits no listed move or more than one, or is wrong about a capture",
-            Error::OutOfRange => "a number of the board, a square, rank, file, colour, rights number or in-check byte is out of range",
-            Error::ListOutOfRange => "the list has more than 255 moves, or a move's number is over 28,671",
+            Error::InvalidSanMove | Error::InvalidSanMoveAt { .. } => {
+                "the text is no SAN text, fits no listed move or more than one, or is wrong about a capture"
+            }
+            Error::OutOfRange | Error::OutOfRangeAt { .. } => {
+                "a number of the board, a square, rank, file, colour, rights number or in-check byte is out of range"
+            }
+            Error::ListOutOfRange | Error::ListOutOfRangeAt { .. } => "the list has more than 255 moves, or a move's number is over 28,671",
             Error::OutputTooShort { .. } => "the room for the text or the roll is too short",
             Error::PageTooShort { .. } => "the room for the page's records or that for its numbers is too short",
             Error::NoName => "no text names this move among the listed ones",
@@ -345,6 +386,17 @@ mod tests {
         assert_eq!(words(24, 3), "the position after the move is not the one that the move leads to (answer 24)");
         let counter = "a counter of the FEN text is missing, is not one to four digits, or is a move number of 0";
         assert_eq!(words(25, 8), format!("{counter}, at byte 8 (answer 25)"));
+    }
+
+    #[test]
+    fn a_step_tells_the_part_of_the_text_that_is_refused() {
+        for number in 4..=6 {
+            let (error, plain) = (Error::in_step(number, 85, 3), Error::judge(number, 85).unwrap_err());
+            assert_eq!((error.number(), error.offset(), error.meaning()), (number, Some(85), plain.meaning()));
+            assert_eq!(error.to_string(), format!("{}, at byte 85 (answer {number})", plain.meaning()));
+        }
+        assert_eq!(Error::in_step(4, 85, 3), Error::InvalidSanMoveAt { start: 85, length: 3 });
+        assert_eq!(Error::in_step(9, 85, 3), Error::Unknown(9));
     }
 
     #[test]

@@ -63,13 +63,28 @@ pub(crate) struct PgnCount {
 
 #[repr(C)]
 #[derive(Clone, Copy)]
-pub(crate) struct PgnMove {
+pub(crate) struct PgnNext {
     pub(crate) number: u64,
     pub(crate) offset: u64,
     pub(crate) found: u64,
     pub(crate) start: u64,
     pub(crate) length: u64,
     pub(crate) level: u64,
+    pub(crate) closed: u64,
+    pub(crate) opened: u64,
+}
+
+#[repr(C)]
+#[derive(Clone, Copy)]
+pub(crate) struct GameStep {
+    pub(crate) number: u64,
+    pub(crate) offset: u64,
+    pub(crate) found: u64,
+    pub(crate) start: u64,
+    pub(crate) length: u64,
+    pub(crate) played: u64,
+    pub(crate) key_length: u64,
+    pub(crate) board: Board,
 }
 
 #[repr(C)]
@@ -158,6 +173,30 @@ impl Fen {
 impl Counts {
     pub(crate) fn judged(self) -> Result<lent::Counts, Error> {
         Error::judge(self.number, 0).map(|()| lent::Counts { actions: self.actions, moves: self.moves })
+    }
+}
+
+impl GameStep {
+    /// A move, or that none is left. A refusal tells the place of what is wrong in the text, the part that holds the move, or the length
+    /// needed.
+    pub(crate) fn judged(self) -> Result<Option<lent::Step>, Error> {
+        match self.number {
+            4..=6 => return Err(Error::in_step(self.number, self.start, self.length)),
+            7 => Error::judge(7, self.key_length)?,
+            number => Error::judge(number, self.offset)?,
+        }
+        Ok((self.found == 1).then(|| self.step()))
+    }
+
+    /// Of a move text alone: the part that holds the move is the whole, so a refusal need not tell it.
+    pub(crate) fn judged_alone(self) -> Result<lent::Step, Error> {
+        Error::judge(self.number, self.key_length).map(|()| self.step())
+    }
+
+    // A move lies in a text that was lent, its number is at most 28,671, and a key has at most 85 bytes: nothing is cut.
+    fn step(&self) -> lent::Step {
+        let (start, length, key) = (self.start as usize, self.length as usize, self.key_length as usize);
+        lent::Step { start, length, played: self.played as u16, record: self.board.record(), key }
     }
 }
 
@@ -351,7 +390,27 @@ unsafe extern "C" {
     ) -> Answer;
 
     pub(crate) fn menkhodur_pgn_check(text: *const u8, length: usize) -> PgnCount;
-    pub(crate) fn menkhodur_pgn_next(text: *const u8, length: usize, offset: u64, level: u64) -> PgnMove;
+    pub(crate) fn menkhodur_pgn_next(text: *const u8, length: usize, offset: u64, level: u64) -> PgnNext;
+
+    pub(crate) fn menkhodur_game_step(
+        text: *const u8,
+        length: usize,
+        offset: u64,
+        board: Board,
+        list: *const u16,
+        entries: usize,
+        out: *mut u8,
+        room: usize,
+    ) -> GameStep;
+    pub(crate) fn menkhodur_play(
+        text: *const u8,
+        length: usize,
+        board: Board,
+        list: *const u16,
+        entries: usize,
+        out: *mut u8,
+        room: usize,
+    ) -> GameStep;
 }
 
 #[cfg(test)]

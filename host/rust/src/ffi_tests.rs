@@ -64,10 +64,18 @@ fn structs_lie_as_the_header_has_them() {
 fn the_answers_of_move_text_are_in_the_headers_order() {
     assert_eq!((size_of::<PgnCount>(), align_of::<PgnCount>()), (24, 8));
     assert_eq!((offset_of!(PgnCount, number), offset_of!(PgnCount, offset), offset_of!(PgnCount, moves)), (0, 8, 16));
-    assert_eq!((size_of::<PgnMove>(), align_of::<PgnMove>()), (48, 8));
-    let front = [offset_of!(PgnMove, number), offset_of!(PgnMove, offset), offset_of!(PgnMove, found)];
-    let back = [offset_of!(PgnMove, start), offset_of!(PgnMove, length), offset_of!(PgnMove, level)];
-    assert_eq!((front, back), ([0, 8, 16], [24, 32, 40]));
+    assert_eq!((size_of::<PgnNext>(), align_of::<PgnNext>()), (64, 8));
+    let front = [offset_of!(PgnNext, number), offset_of!(PgnNext, offset), offset_of!(PgnNext, found), offset_of!(PgnNext, start)];
+    let back = [offset_of!(PgnNext, length), offset_of!(PgnNext, level), offset_of!(PgnNext, closed), offset_of!(PgnNext, opened)];
+    assert_eq!((front, back), ([0, 8, 16, 24], [32, 40, 48, 56]));
+}
+
+#[test]
+fn a_step_is_seven_numbers_and_a_board_in_the_headers_order() {
+    assert_eq!((size_of::<GameStep>(), align_of::<GameStep>()), (128, 8));
+    let front = [offset_of!(GameStep, number), offset_of!(GameStep, offset), offset_of!(GameStep, found), offset_of!(GameStep, start)];
+    let back = [offset_of!(GameStep, length), offset_of!(GameStep, played), offset_of!(GameStep, key_length), offset_of!(GameStep, board)];
+    assert_eq!((front, back), ([0, 8, 16, 24], [32, 40, 48, 56]));
 }
 
 #[test]
@@ -236,6 +244,73 @@ fn a_settled_key_has_a_length_or_an_offset() {
         let want = if number == 0 { *b"8/8/8/8/4P3/8/8/8 b - - 0 1\xA5" } else { [0xA5; 28] };
         assert_eq!(out, want);
     }
+}
+
+// The eight numbers of the next move's answer.
+fn next(text: &[u8], offset: u64, level: u64) -> [u64; 8] {
+    // SAFETY: pointer and length are those of one slice, and the function only reads.
+    let n = unsafe { menkhodur_pgn_next(text.as_ptr(), text.len(), offset, level) };
+    [n.number, n.offset, n.found, n.start, n.length, n.level, n.closed, n.opened]
+}
+
+#[test]
+fn without_a_move_no_place_and_no_bracket_is_told() {
+    assert_eq!(next(b"e4) ((d4", 2, 1), [0, 0, 1, 6, 2, 2, 1, 2]);
+    // None is left, behind brackets; the same behind a result.
+    assert_eq!((next(b"e4)", 2, 1), next(b"e4) () 1-0 e5", 2, 1)), ([0; 8], [0; 8]));
+    assert_eq!(next(b"e4) ((d4", 2, 0), [23, 2, 0, 0, 0, 0, 0, 0]);
+    assert_eq!(next(b"e4) ((d4", 2, 9), [22, 2, 0, 0, 0, 0, 0, 0]);
+    assert_eq!(next(b"e4 ((", 2, 0), [21, 4, 0, 0, 0, 0, 0, 0]);
+}
+
+// The seven numbers of a step's answer, its record, and the room behind it.
+fn step(text: &[u8], offset: u64, record: &lent::Record, list: &[u16], room: usize) -> ([u64; 7], lent::Record, [u8; 28]) {
+    let (mut out, board, entries) = ([0xA5; 28], Board::of(record), list.len());
+    // SAFETY: each pointer and length are those of one slice or of its front, and the one that is written is borrowed mutably.
+    let s = unsafe { menkhodur_game_step(text.as_ptr(), text.len(), offset, board, list.as_ptr(), entries, out.as_mut_ptr(), room) };
+    ([s.number, s.offset, s.found, s.start, s.length, s.played, s.key_length], s.board.record(), out)
+}
+
+#[test]
+fn a_step_that_plays_nothing_hands_its_record_back_and_writes_nothing() {
+    let mut knight = lent::Record { half_moves: 258, full_moves: 772, ..empty() };
+    knight.numbers[1] = 2;
+    let (text, list) = (&b"1. (Na3) Nc3 (Na3) )"[..], [1_153]);
+    let mut after = lent::Record { half_moves: 259, ..knight };
+    (after.numbers[1], after.numbers[18], after.numbers[64]) = (0, 2, 1);
+    assert_eq!(step(text, 0, &knight, &list, 28), ([0, 0, 1, 9, 3, 1_153, 27], after, *b"8/8/8/8/8/2N5/8/8 b - - 0 1\xA5"));
+    let refused = |number: u64, needed: u64| [number, 9, 1, 9, 3, 0, needed];
+    assert_eq!(step(text, 0, &knight, &list, 26), (refused(7, 27), knight, [0xA5; 28]));
+    assert_eq!(step(text, 0, &knight, &[], 0), (refused(4, 0), knight, [0xA5; 28]));
+    assert_eq!(step(text, 0, &knight, &[28_672], 0), (refused(6, 0), knight, [0xA5; 28]));
+    assert_eq!(step(text, 0, &bad_record(), &[28_672], 0), (refused(5, 0), bad_record(), [0xA5; 28]));
+    // The walk is asked first, and says nothing of a move: an offset past the text, a stray bracket, none left, a ninth level, one left open.
+    let ended = |number: u64, offset: u64| ([number, offset, 0, 0, 0, 0, 0], bad_record(), [0xA5; 28]);
+    assert_eq!(step(text, 21, &bad_record(), &[28_672], 0), ended(23, 21));
+    assert_eq!(step(text, 12, &bad_record(), &[28_672], 0), ended(23, 19));
+    assert_eq!(step(b"Nc3 (Na3) 1-0 Na3", 3, &bad_record(), &[28_672], 0), ended(0, 0));
+    assert_eq!(step(b"((((((((( Nc3", 0, &bad_record(), &[28_672], 0), ended(22, 8));
+    assert_eq!(step(b" (Na3 {)}", 0, &bad_record(), &[28_672], 0), ended(21, 1));
+}
+
+#[test]
+fn a_text_that_is_played_alone_has_its_length_as_its_place() {
+    let mut knight = empty();
+    knight.numbers[1] = 2;
+    let play = |text: &[u8], record: &lent::Record, list: &[u16], room: usize| {
+        let (mut out, board, entries) = ([0xA5; 28], Board::of(record), list.len());
+        // SAFETY: each pointer and length are those of one slice or of its front, and the one that is written is borrowed mutably.
+        let s = unsafe { menkhodur_play(text.as_ptr(), text.len(), board, list.as_ptr(), entries, out.as_mut_ptr(), room) };
+        ([s.number, s.offset, s.found, s.start, s.length, s.played, s.key_length], s.board.record(), out)
+    };
+    let mut after = lent::Record { half_moves: 1, ..knight };
+    (after.numbers[1], after.numbers[18], after.numbers[64]) = (0, 2, 1);
+    assert_eq!(play(b"Nc3", &knight, &[1_153], 27), ([0, 0, 1, 0, 3, 1_153, 27], after, *b"8/8/8/8/8/2N5/8/8 b - - 0 1\xA5"));
+    assert_eq!(play(b"Nc3", &knight, &[1_153], 0), ([7, 0, 1, 0, 3, 0, 27], knight, [0xA5; 28]));
+    // No move text is cut out of a longer one, and an empty one is a text too.
+    assert_eq!(play(b" Nc3", &knight, &[1_153], 0), ([4, 0, 1, 0, 4, 0, 0], knight, [0xA5; 28]));
+    assert_eq!(play(b"", &knight, &[28_672], 0), ([6, 0, 1, 0, 0, 0, 0], knight, [0xA5; 28]));
+    assert_eq!(play(b"Nc3", &bad_record(), &[28_672], 0), ([5, 0, 1, 0, 3, 0, 0], bad_record(), [0xA5; 28]));
 }
 
 #[test]

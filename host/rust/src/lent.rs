@@ -119,6 +119,27 @@ pub struct MovePart {
     pub length: usize,
     /// 0 outside brackets, 1 to 8 inside.
     pub level: u64,
+    /// How many brackets are closed between the place and the move. One that opens and closes again in between is not counted.
+    pub closed: usize,
+    /// How many are then opened: `level` is the place's level without those that are closed and with those that are opened. So a host can
+    /// play variations: where one is opened, what follows is played from the record before the last move of the sequence that it stands in.
+    pub opened: usize,
+}
+
+/// A move of a game's text that was read and played, as [`game_step`] and [`play`] give it.
+#[must_use = "the next step is made from the record after this one, and from the end of its text"]
+#[derive(Clone, Copy, Debug, PartialEq, Eq, Hash)]
+pub struct Step {
+    /// Where the move starts in the text; 0 for [`play`].
+    pub start: usize,
+    /// How many bytes it has: it ends at `start + length`, the place from which to go on.
+    pub length: usize,
+    /// The number of the listed move.
+    pub played: u16,
+    /// The record after it.
+    pub record: Record,
+    /// The length of that record's key, which is written to the front of the room.
+    pub key: usize,
 }
 
 /// What a roll says besides the actions themselves, as [`roll_read`] and [`roll_read_old`] give it.
@@ -855,15 +876,81 @@ pub fn pgn_check(text: &[u8]) -> Result<u64, Error> {
 /// use menkhodur::lent::{self, MovePart};
 ///
 /// let text = b"e4 (d4) e5";
-/// assert_eq!(lent::pgn_next(text, 2, 0), Ok(Some(MovePart { start: 4, length: 2, level: 1 })));
+/// assert_eq!(lent::pgn_next(text, 2, 0), Ok(Some(MovePart { start: 4, length: 2, level: 1, closed: 0, opened: 1 })));
+/// assert_eq!(lent::pgn_next(text, 6, 1), Ok(Some(MovePart { start: 8, length: 2, level: 0, closed: 1, opened: 0 })));
 /// assert_eq!(lent::pgn_next(text, 10, 0), Ok(None));
 /// ```
 pub fn pgn_next(text: &[u8], offset: u64, level: u64) -> Result<Option<MovePart>, Error> {
     // SAFETY: the pointer and the length are those of one slice, which is only read.
     let next = unsafe { ffi::menkhodur_pgn_next(text.as_ptr(), text.len(), offset, level) };
     Error::judge(next.number, next.offset)?;
-    // A move lies in the text, whose length is a `usize`.
-    Ok((next.found == 1).then_some(MovePart { start: next.start as usize, length: next.length as usize, level: next.level }))
+    // A move lies in the text, whose length is a `usize`, and there are at most 8 levels and no more brackets than bytes.
+    Ok((next.found == 1).then_some(MovePart {
+        start: next.start as usize,
+        length: next.length as usize,
+        level: next.level,
+        closed: next.closed as usize,
+        opened: next.opened as usize,
+    }))
+}
+
+/// One step of a game's main line: the next move outside brackets from an offset outside brackets, read in the form of the PGN standard
+/// over the list that the record has, and played; or that none is left. The record after it is that of [`board_after`]; its key, as
+/// [`fen_write`] writes it, goes to the front of `out`, for which [`MAX_FEN`] bytes always suffice. Variations are passed over, but what is
+/// wrong in one is refused.
+///
+/// Refused: 23 for an offset past the text; 22, 23, 21 as [`pgn_check`] gives them for what is met before the move; then 5, 6 and 4 as
+/// [`san_read_standard`] gives them, with the part of the text that holds the move; then 7.
+///
+/// ```
+/// use menkhodur::lent::{self, MAX_FEN};
+/// use menkhodur::{Error, Move};
+///
+/// let text = b"1. Nf3 (1. Nc3) Nf6 1/2-1/2";
+/// let start = lent::fen_read(b"6n1/8/8/8/8/8/8/1N4N1 w - -")?;
+/// let (white, black) = (["b1c3", "g1f3"], ["g8f6", "g8h6"]);
+/// let list = |moves: [&str; 2]| moves.map(|text| Move::from_text(text).unwrap().number());
+/// let mut room = [0; MAX_FEN];
+///
+/// let first = lent::game_step(text, 0, &start, &list(white), &mut room)?.unwrap();
+/// assert_eq!((first.start, first.length, first.played), (3, 3, list(white)[1]));
+/// assert_eq!(&room[..first.key], b"6n1/8/8/8/8/5N2/8/1N6 b - - 0 1");
+/// let second = lent::game_step(text, 6, &first.record, &list(black), &mut room)?.unwrap();
+/// assert_eq!((second.start, second.length, &room[..second.key]), (16, 3, &b"8/8/5n2/8/8/5N2/8/1N6 w - - 0 1"[..]));
+/// assert_eq!(lent::game_step(text, 19, &second.record, &[], &mut room)?, None);
+/// let refused = lent::game_step(text, 6, &first.record, &list(white), &mut room);
+/// assert_eq!(refused, Err(Error::InvalidSanMoveAt { start: 16, length: 3 }));
+/// # Ok::<(), Error>(())
+/// ```
+pub fn game_step(text: &[u8], offset: u64, record: &Record, list: &[u16], out: &mut [u8]) -> Result<Option<Step>, Error> {
+    let (board, part, entries) = (ffi::Board::of(record), text.as_ptr(), list.len());
+    // SAFETY: each pointer and length are those of one slice, the list's of aligned `u16`. The room, all that is written, is borrowed mutably
+    // for the call, so that neither the text nor the list can lie in it.
+    unsafe { ffi::menkhodur_game_step(part, text.len(), offset, board, list.as_ptr(), entries, out.as_mut_ptr(), out.len()) }.judged()
+}
+
+/// One move text, read in the form of the PGN standard over the list that the record has, and played: what [`san_read_standard`],
+/// [`board_after`] and [`fen_write`] give in turn. Who plays variations finds their moves with [`pgn_next`]. Refused: 5, 6, 4, 7.
+///
+/// ```
+/// use menkhodur::lent::{self, MAX_FEN};
+/// use menkhodur::Error;
+///
+/// let knight = lent::fen_read_full(b"8/8/8/8/8/8/8/1N6 w - - 7 20")?;
+/// let mut room = [0; MAX_FEN];
+/// let step = lent::play(b"Nc3+", &knight, &[1_153], &mut room)?;
+/// assert_eq!((step.start, step.length, step.played), (0, 4, 1_153));
+/// assert_eq!(Ok(step.record), lent::fen_read_full(b"8/8/8/8/8/2N5/8/8 b - - 8 20"));
+/// assert_eq!(&room[..step.key], b"8/8/8/8/8/2N5/8/8 b - - 0 1");
+/// assert_eq!(lent::play(b"Nc3", &knight, &[], &mut room), Err(Error::InvalidSanMove));
+/// assert_eq!(lent::play(b"Nc3", &knight, &[1_153], &mut []), Err(Error::OutputTooShort { needed: 27 }));
+/// # Ok::<(), Error>(())
+/// ```
+pub fn play(text: &[u8], record: &Record, list: &[u16], out: &mut [u8]) -> Result<Step, Error> {
+    let (board, part, entries) = (ffi::Board::of(record), text.as_ptr(), list.len());
+    // SAFETY: as for `game_step`.
+    let step = unsafe { ffi::menkhodur_play(part, text.len(), board, list.as_ptr(), entries, out.as_mut_ptr(), out.len()) };
+    step.judged_alone()
 }
 
 // The contracts bound the values: squares to 63, rights to 3, results to 7, moves to 28,671, lengths to those of the longest roll, the lines

@@ -124,7 +124,7 @@ impl Move {
         unsafe { std::slice::from_raw_parts(list.as_ptr().cast(), list.len()) }
     }
 
-    /// The moves with these numbers, which are those of a list that the archive has judged.
+    /// The moves with these numbers, none of which is over [`MAX_MOVE`].
     pub(crate) fn list(numbers: &[u16]) -> &[Move] {
         // SAFETY: the new slice has the old one's layout and length, and borrows its bytes as they are. Any `u16` is sound in a `Move`.
         unsafe { std::slice::from_raw_parts(numbers.as_ptr().cast(), numbers.len()) }

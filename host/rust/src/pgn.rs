@@ -19,7 +19,7 @@ use std::iter::FusedIterator;
 /// ```
 #[derive(Clone, Copy, Debug, PartialEq, Eq, Hash)]
 pub struct MoveText<'a> {
-    text: &'a [u8],
+    pub(crate) text: &'a [u8],
 }
 
 /// A move, as the very part of the text that holds it.
@@ -31,6 +31,10 @@ pub struct PgnMove<'a> {
     pub start: usize,
     /// 0 outside brackets, 1 to 8 inside.
     pub level: u64,
+    /// How many brackets are closed between the move before and this one. One that opens and closes again in between is not counted.
+    pub closed: usize,
+    /// How many are then opened. `e4 (d4 d5) (c4 e5) e5` and `e4 (d4 d5 c4 e5) e5` have the same moves at the same levels and differ here.
+    pub opened: usize,
 }
 
 impl<'a> MoveText<'a> {
@@ -96,10 +100,10 @@ impl<'a> Iterator for Moves<'a> {
         let (offset, level) = self.place.take()?;
         match lent::pgn_next(self.text, offset as u64, level) {
             Ok(None) => None,
-            Ok(Some(MovePart { start, length, level })) => {
+            Ok(Some(MovePart { start, length, level, closed, opened })) => {
                 let end = start + length;
                 self.place = Some((end, level));
-                Some(Ok(PgnMove { text: &self.text[start..end], start, level }))
+                Some(Ok(PgnMove { text: &self.text[start..end], start, level, closed, opened }))
             }
             Err(refused) => Some(Err(refused)),
         }

@@ -13,6 +13,7 @@ mod pgn;
 mod plain;
 mod plain_differences;
 mod plain_pgn;
+mod played;
 mod report;
 mod rolls;
 
@@ -298,7 +299,8 @@ fn lines(what: &str, places: &[Place], times: fn(&[&str]) -> Result<(usize, f64,
     }
 }
 
-const PARTS: [&str; 13] = ["fen", "page", "report", "coordinates", "san", "after", "log", "longer", "rolls", "differences", "pgn", "keys", "cli"];
+const PARTS: [&str; 14] =
+    ["fen", "page", "report", "coordinates", "san", "after", "log", "longer", "rolls", "differences", "pgn", "played", "keys", "cli"];
 
 /// The parts that were named, or all.
 fn parts() -> Vec<String> {
@@ -335,6 +337,7 @@ fn main() {
             "rolls" => rolls::rolls(&mut random),
             "differences" => differences::differences(&mut random),
             "pgn" => pgn::pgn(&mut random),
+            "played" => played::played(&places, &mut random),
             "keys" => lines("keys, a line of a file", &places, keys::times),
             _ => {
                 lines("menkhodur keys, a line of a file", &places, keys::menkhodur_times);

@@ -95,6 +95,24 @@ pub struct PgnMove {
     pub start: u64,
     pub length: u64,
     pub level: u64,
+    /// How many brackets are closed between the place and the move, and then opened.
+    pub closed: u64,
+    pub opened: u64,
+}
+
+/// What a step through a game's move text answers, and a move text that is played alone.
+#[repr(C)]
+#[derive(Clone, Copy, Debug, PartialEq, Eq)]
+pub struct GameStep {
+    pub number: u64,
+    pub offset: u64,
+    pub found: u64,
+    pub start: u64,
+    pub length: u64,
+    pub played: u64,
+    /// The length of the key, or with 7 the length needed.
+    pub key: u64,
+    pub board: Record,
 }
 
 /// What is reported on a page of FENs (document 02, order 14); all 0 behind the number of a refusal, but for the lines with 7.
@@ -201,6 +219,10 @@ extern "C" {
     fn menkhodur_roll_differences(first: *const u8, fl: usize, second: *const u8, sl: usize, out: *mut u8, room: usize) -> Answer;
     fn menkhodur_pgn_check(text: *const u8, length: usize) -> PgnCount;
     fn menkhodur_pgn_next(text: *const u8, length: usize, offset: u64, level: u64) -> PgnMove;
+    fn menkhodur_game_step(
+        text: *const u8, length: usize, offset: u64, b: Record, list: *const u16, entries: usize, out: *mut u8, room: usize,
+    ) -> GameStep;
+    fn menkhodur_play(text: *const u8, length: usize, b: Record, list: *const u16, entries: usize, out: *mut u8, room: usize) -> GameStep;
 }
 
 pub fn make_square(rank: u8, file: u8) -> Answer {
@@ -332,6 +354,16 @@ pub fn pgn_check(text: &[u8]) -> PgnCount {
 
 pub fn pgn_next(text: &[u8], offset: u64, level: u64) -> PgnMove {
     unsafe { menkhodur_pgn_next(text.as_ptr(), text.len(), offset, level) }
+}
+
+pub fn game_step(text: &[u8], offset: u64, b: Record, list: &[u16], out: &mut [u8]) -> GameStep {
+    let (entries, room) = (list.len(), out.len());
+    unsafe { menkhodur_game_step(text.as_ptr(), text.len(), offset, b, list.as_ptr(), entries, out.as_mut_ptr(), room) }
+}
+
+pub fn play(text: &[u8], b: Record, list: &[u16], out: &mut [u8]) -> GameStep {
+    let (entries, room) = (list.len(), out.len());
+    unsafe { menkhodur_play(text.as_ptr(), text.len(), b, list.as_ptr(), entries, out.as_mut_ptr(), room) }
 }
 
 /// What stands on the board, as the host gives it to the log.

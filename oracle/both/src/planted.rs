@@ -107,7 +107,8 @@ pub fn pgn_check(text: &[u8]) -> PgnCount {
     count
 }
 
-/// An offset past the text is told before a level that is too deep; a move ends before its `=`; at level 8 a move is told at 7.
+/// An offset past the text is told before a level that is too deep; a move ends before its `=`; at level 8 a move is told at 7. Of the brackets before a
+/// move: an empty variation is told; closed ones are set off against opened ones; of three opened two are told; the place is left where no move comes.
 pub fn pgn_next(text: &[u8], offset: u64, level: u64) -> PgnMove {
     let mut next = real::pgn_next(text, offset, level);
     if planted("pgn-place") && next.number == 22 && offset > text.len() as u64 {
@@ -120,7 +121,90 @@ pub fn pgn_next(text: &[u8], offset: u64, level: u64) -> PgnMove {
     if planted("pgn-level") && next.level == 8 {
         next.level = 7;
     }
+    if planted("pgn-empty") && next.found == 1 && text[offset as usize..next.start as usize].windows(2).any(|two| two == b"()") {
+        (next.closed, next.opened) = (next.closed + 1, next.opened + 1);
+    }
+    if planted("pgn-crossed") && next.closed == 1 && next.opened == 1 {
+        (next.closed, next.opened) = (0, 0);
+    }
+    if planted("pgn-opened") && next.opened == 3 {
+        next.opened = 2;
+    }
+    if planted("pgn-left") && next.number == 0 && next.found == 0 {
+        next.closed = level;
+    }
     next
+}
+
+/// Of a step, which move is played: one of a third level; the next one behind a refused move that ends in `!`, behind castling to the long side, or
+/// behind a result. The others are `wrong_answer`'s.
+pub fn game_step(text: &[u8], offset: u64, b: Record, list: &[u16], out: &mut [u8]) -> GameStep {
+    let mut step = real::game_step(text, offset, b, list, out);
+    let part = |start: u64, length: u64| &text[start as usize..(start + length) as usize];
+    let (said, first) = (part(step.start, step.length), real::pgn_next(text, offset, 0));
+    let behind = step.start + step.length;
+    let over = step.number == 0 && step.found == 0;
+    if planted("played-variation") && first.level == 3 {
+        step = GameStep { start: first.start, ..real::play(part(first.start, first.length), b, list, out) };
+    }
+    if planted("played-on") && step.number == 4 && said.ends_with(b"!") || planted("played-skip") && step.number == 0 && said == b"O-O-O" {
+        step = real::game_step(text, behind, b, list, out);
+    }
+    if planted("played-result") && over && text.ends_with(b"1-0 e4") {
+        step = real::game_step(text, text.len() as u64 - 2, b, list, out);
+    }
+    wrong_answer(step, text, offset, b, list, out)
+}
+
+/// What a step tells: the key of the record before is written behind a promotion; a byte behind the key of a record with a file is cleared; a bracket
+/// that is left open has the place's offset; 7 has no offset, or hands the record after the move out; 5 is told before 23; where no move is left the
+/// text's end is told.
+fn wrong_answer(mut step: GameStep, text: &[u8], offset: u64, b: Record, list: &[u16], out: &mut [u8]) -> GameStep {
+    let plays = step.number == 0 && step.found == 1;
+    if planted("played-before") && plays && step.played >= 4_096 {
+        real::fen_write(b, out);
+    }
+    if planted("played-behind") && plays && step.board.numbers[67] != 0 && out.len() > step.key as usize {
+        out[step.key as usize] = 0;
+    }
+    if planted("played-place") && step.number == 21 {
+        step.offset = offset;
+    }
+    if planted("played-seven") && step.number == 7 {
+        step.offset = 0;
+    }
+    if planted("played-back") && step.number == 7 {
+        let said = &text[step.start as usize..(step.start + step.length) as usize];
+        step.board = real::board_after(b, real::san_read_standard(b, list, said).value).board;
+    }
+    if planted("played-order") && step.number == 23 && real::board_settled(b).number == 5 {
+        (step.number, step.offset) = (5, 0);
+    }
+    if planted("played-end") && step.number == 0 && step.found == 0 {
+        step.start = text.len() as u64;
+    }
+    step
+}
+
+/// Of a move text alone: a blank before it is passed over; the move number 255 does not go on; 7 is told before 4 where there is no room; an en passant
+/// capture leaves the pawn.
+pub fn play(text: &[u8], b: Record, list: &[u16], out: &mut [u8]) -> GameStep {
+    let mut step = real::play(text, b, list, out);
+    if let (true, 4, [b'\t' | b' ', rest @ ..]) = (planted("played-blank"), step.number, text) {
+        step = real::play(rest, b, list, out);
+    }
+    if planted("played-number") && step.number == 0 && b.full_moves == 255 {
+        step.board.full_moves = 255;
+    }
+    if planted("played-room") && step.number == 4 && out.is_empty() {
+        (step.number, step.key) = (7, 25);
+    }
+    let (from, to) = (step.played as usize % 64, step.played as usize / 64 % 64);
+    if planted("played-passing") && step.number == 0 && b.numbers[from] % 6 == 1 && from % 8 != to % 8 && b.numbers[to] == 0 {
+        let taken = from / 8 * 8 + to % 8;
+        step.board.numbers[taken] = b.numbers[taken];
+    }
+    step
 }
 
 /// One byte behind the text is cleared; or a move number of one digit is written.

@@ -31,7 +31,7 @@ fn record_of_board(board: &Board) -> Record {
 }
 
 /// The crate's record after a legal move, and whether the rule for two men taken at once has given the second one back.
-fn owed_legal(board: &Board, counters: Counters, number: u16) -> (Record, bool) {
+pub(crate) fn owed_legal(board: &Board, counters: Counters, number: u16) -> (Record, bool) {
     let m = move_of(number);
     let next = board.make_move_new(m);
     let mut owed = counters.after(board, &next).on(record_of_board(&next));

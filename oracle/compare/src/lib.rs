@@ -20,6 +20,7 @@ pub mod page;
 pub mod pair;
 pub mod part;
 pub mod pgn;
+pub mod played;
 pub mod records;
 pub mod report;
 pub mod roll;

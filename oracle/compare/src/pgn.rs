@@ -1,7 +1,7 @@
 //! `pgn`: both calls over PGN move text, from the start and from any place. What is owed comes from `movetext`, which was
 //! written from the paper: the crate has no PGN.
 
-use crate::movetext::walk;
+use crate::movetext::{crossed, walk};
 use crate::part::{Part, Tally};
 use both::abi::{self, PgnCount, PgnMove};
 use both::random::Random;
@@ -86,11 +86,13 @@ fn any_place(text: &[u8], random: &mut Random) -> (u64, u64) {
 /// The next move from a place.
 fn compare_next(text: &[u8], offset: u64, level: u64, tally: &mut Tally) -> Result<PgnMove, String> {
     let (moves, number, at) = walk(text, offset, level);
+    let (closed, opened) = crossed(text, offset, level);
     let owed = match moves.first() {
         Some(&(start, length, level)) => {
-            PgnMove { number: 0, offset: 0, found: 1, start: start as u64, length: length as u64, level: level as u64 }
+            let (start, length, level) = (start as u64, length as u64, level as u64);
+            PgnMove { number: 0, offset: 0, found: 1, start, length, level, closed, opened }
         }
-        None => PgnMove { number, offset: at, found: 0, start: 0, length: 0, level: 0 },
+        None => PgnMove { number, offset: at, found: 0, start: 0, length: 0, level: 0, closed: 0, opened: 0 },
     };
     let ours = abi::pgn_next(text, offset, level);
     if ours != owed {

@@ -38,7 +38,7 @@ impl Given {
         Rc::new(Given { record: place.record, list: place.list.clone() })
     }
 
-    fn smaller(&self) -> Vec<Rc<Given>> {
+    pub(crate) fn smaller(&self) -> Vec<Rc<Given>> {
         let lists = texts::cut_lists(&self.list).into_iter().map(|list| Given { list, ..self.clone() });
         let smaller = records::smaller(&self.record).into_iter().map(|record| Given { record, ..self.clone() });
         lists.chain(smaller).map(Rc::new).collect()
@@ -216,7 +216,7 @@ impl SanStandard {
         SanStandard { positions: Positions::default(), given }
     }
 
-    fn next_given(&mut self, random: &mut Random) -> Given {
+    pub(crate) fn next_given(&mut self, random: &mut Random) -> Given {
         let place = match random.once_in(2) {
             true => random_place(&mut self.positions, random),
             false => Place::counted(self.positions.next(random), random),

@@ -1,6 +1,7 @@
 //! Plays the games of a PGN file on both sides. Every move's text is read, the move named, its name read back and the move
 //! logged; the board after each legal move is computed; every position's key is written and read back; each answer, count and lent byte is
 //! compared with the crate's.
+//! Each game's text is stepped through by the archive's call, and played with its variations, beside the crate's `Board`.
 //! The PGN standard's reader must read each text as that move too, and its namer's name is laid beside the file's own text
 //! without check marks; where they differ, both are shown.
 //!
@@ -16,10 +17,12 @@ use both::games::{board_of, STARTS};
 use both::numbers::position_of;
 use chess::Board;
 use compare::after::{self, After};
+use compare::clock::Counters;
 use compare::fen::{self, FenRead, FenWrite};
 use compare::names::{self, Names};
 use compare::pair::Pair;
 use compare::part::{Part, Tally};
+use compare::played::{self, Played};
 use compare::rules::en_passant_rank;
 use compare::san::{Place, SanLegal};
 use compare::san_standard::{Given, Input, SanStandard};
@@ -158,6 +161,25 @@ fn walked_games(text: &str) -> Vec<(usize, Vec<String>)> {
     games.into_iter().zip(walked).map(|((line, _), moves)| (line, moves)).collect()
 }
 
+/// Each game's text by steps, and with its variations: none may be refused, and the moves of the main line must be those that were walked.
+fn stepped_games(text: &str, games: &[(usize, Vec<String>)]) -> bool {
+    let (part, mut tally, mut differ) = (Played::new(), Tally::default(), 0);
+    for (line, section) in pgn::sections(text) {
+        let game = played::Input::Game(board_of(STARTS[0]), Counters::FIRST, section.into_bytes());
+        if let Err(why) = part.compare(&game, &mut tally) {
+            println!("differs: the move text that begins in line {}: {}", line, why);
+            differ += 1;
+        }
+    }
+    let count = |label: &str| tally.rows.iter().find(|row| row.label == label).map_or((0, 0), |row| (row.accepted, row.refused));
+    let ((steps, refused), (all, not_played)) = (count("played: main line"), count("played: variation"));
+    let owed: usize = games.iter().map(|(_, moves)| moves.len()).sum();
+    // Besides its moves each text has a step that finds none.
+    let moves = steps as usize - pgn::sections(text).len().min(steps as usize);
+    println!("played: {} moves of main lines by steps, {} with variations, {} refused", moves, all, refused + not_played);
+    differ == 0 && moves == owed && refused + not_played == 0
+}
+
 fn report(player: &Player) {
     for row in &player.tally.rows {
         println!("{:<20} {:>9} accepted {:>9} refused", row.label, row.accepted, row.refused);
@@ -225,6 +247,7 @@ fn play_all(text: &str) -> bool {
         }
     }
     report(&player);
+    let stepped = stepped_games(text, &games);
     println!("openings: {} games, {} comparisons, {} games differ", games.len(), player.tally.agreed(), differ);
-    differ == 0 && !games.is_empty()
+    differ == 0 && stepped && !games.is_empty()
 }

@@ -3,7 +3,7 @@
 #![deny(unfulfilled_lint_expectations)]
 
 use crate::common::{Parts, play};
-use menkhodur::{Board, CastleRights, Color, Error, Move, Page, PageReader, Piece, Square, lent};
+use menkhodur::{Board, CastleRights, Color, Error, Lends, Lent, Move, MoveText, Page, PageReader, Piece, Square, Unplayed, lent};
 
 #[test]
 fn steps() {
@@ -83,6 +83,52 @@ fn answers() {
     reader.read(b" w - -\n").iter();
     #[expect(unused_must_use)]
     reader.report(b" w - -\n").unwrap().1.men(Piece::King, Color::White);
+}
+
+/// A move that was not added must not be taken for one that was.
+#[test]
+fn lists() {
+    let mut list = Lent::new();
+    #[expect(unused_must_use)]
+    list.push(0);
+    #[expect(unused_must_use)]
+    list.as_slice();
+    #[expect(unused_must_use)]
+    list.moves();
+    #[expect(unused_must_use)]
+    list.len();
+    #[expect(unused_must_use)]
+    list.is_empty();
+}
+
+#[test]
+fn positions_of_a_game() -> Result<(), Error> {
+    let (board, list, mut room) = (Board::default(), [1_153], [0; lent::MAX_FEN]);
+    #[expect(unused_must_use)]
+    MoveText::new("Nc3").positions(board, Keep);
+    let mut positions = MoveText::new("Nc3").positions(board, Keep);
+    #[expect(unused_must_use)]
+    positions.next().unwrap().unwrap().key();
+    #[expect(unused_must_use)]
+    Unplayed::<()>::Refused(Error::TooDeep { offset: 0 }).offset();
+    // The record after the move is given here alone: the question mark must not be the end of it.
+    #[expect(unused_must_use)]
+    lent::play(b"Nc3", board.record(), &list, &mut room)?;
+    #[expect(unused_must_use)]
+    lent::game_step(b"Nc3", 0, board.record(), &list, &mut room)?.unwrap();
+    Ok(())
+}
+
+/// Lends the move b1c3 alone.
+struct Keep;
+
+impl Lends for Keep {
+    type Error = Error;
+
+    fn lend(&mut self, _: &lent::Record, _: &[u8], into: &mut Lent) -> Result<(), Error> {
+        into.clear();
+        into.push(1_153)
+    }
 }
 
 #[test]

@@ -54,17 +54,25 @@ fn walk(text: &[u8], offset: usize, level: u64) -> (Vec<MovePart>, (u64, usize))
     if offset > text.len() {
         return (vec![], (23, offset));
     }
-    let (mut open, mut at, mut moves) = (vec![offset; level as usize], offset, vec![]);
+    // Each open bracket with a number of its own and the offset that a text which leaves it open is refused with.
+    let mut open: Vec<(usize, usize)> = (0..level as usize).map(|own| (own, offset)).collect();
+    let (mut before, mut at, mut moves) = (open.clone(), offset, vec![]);
     let end = loop {
         if at == text.len() {
-            break open.last().map_or((0, 0), |&o| (21, o));
+            break open.last().map_or((0, 0), |&(_, o)| (21, o));
         }
         let (token, length) = token(&text[at..]);
         match token {
             Token::Passed => {}
-            Token::Move => moves.push(MovePart { start: at, length, level: open.len() as u64 }),
+            Token::Move => {
+                // What was open at the last place and is not now was closed; what is open now and was not then was opened.
+                let closed = before.iter().filter(|bracket| !open.contains(bracket)).count();
+                let opened = open.iter().filter(|bracket| !before.contains(bracket)).count();
+                moves.push(MovePart { start: at, length, level: open.len() as u64, closed, opened });
+                before.clone_from(&open);
+            }
             Token::Opens if open.len() == 8 => break (22, at),
-            Token::Opens => open.push(at),
+            Token::Opens => open.push((level as usize + at, at)),
             Token::Closes if open.pop().is_none() => break (23, at),
             Token::Closes => {}
             Token::Result if open.is_empty() => break (0, 0),
@@ -94,9 +102,9 @@ fn compare(text: &[u8]) {
     let (mut given, mut last) = (vec![], Ok(()));
     for met in MoveText::new(text).moves() {
         match met {
-            Ok(PgnMove { text: bytes, start, level }) => {
+            Ok(PgnMove { text: bytes, start, level, closed, opened }) => {
                 assert!(std::ptr::eq(bytes, &raw const text[start..start + bytes.len()]), "{shown:?}: not the very part of the text");
-                given.push(MovePart { start, length: bytes.len(), level });
+                given.push(MovePart { start, length: bytes.len(), level, closed, opened });
             }
             Err(refused) => last = Err(refused),
         }
@@ -158,8 +166,18 @@ fn seven_eight_and_nine_levels() {
     }
     assert_eq!(DEEPEST_LEVEL, 8);
     let deepest = format!("{}e4", "(".repeat(8));
-    assert_eq!(lent::pgn_next(deepest.as_bytes(), 0, 0), Ok(Some(MovePart { start: 8, length: 2, level: 8 })));
+    assert_eq!(lent::pgn_next(deepest.as_bytes(), 0, 0), Ok(Some(MovePart { start: 8, length: 2, level: 8, closed: 0, opened: 8 })));
     assert_eq!(lent::pgn_next(b"(", 0, 8), Err(Error::TooDeep { offset: 0 }));
+}
+
+// Two games with the same moves at the same places and levels: two variations in the one, a longer one in the other.
+#[test]
+fn brackets_tell_two_variations_from_one() {
+    let crossed = |text: &str| -> Vec<_> { MoveText::new(text).moves().map(|m| m.map(|m| (m.closed, m.opened)).unwrap()).collect() };
+    assert_eq!(crossed("e4 (d4 d5) (c4 e5) e5"), [(0, 0), (0, 1), (0, 0), (1, 1), (0, 0), (1, 0)]);
+    assert_eq!(crossed("e4 (d4 d5   c4 e5) e5"), [(0, 0), (0, 1), (0, 0), (0, 0), (0, 0), (1, 0)]);
+    // Of a variation without a move, and of brackets in comments, nothing is told.
+    assert_eq!(crossed("e4 () {(} ;)\n e5 ((d4)) (c4 (Nf3))"), [(0, 0), (0, 0), (0, 2), (2, 1), (0, 1)]);
 }
 
 #[test]

@@ -3,7 +3,7 @@
 use crate::common::play;
 use menkhodur::lent::Record;
 use menkhodur::{ALL_COLORS, Action, Actions, Board, Error, GameResult, Log, Move, Position, Positions, Reason, Roll, Ruling, Square};
-use menkhodur::{PageReader, Report};
+use menkhodur::{GamePositions, Lent, MoveText, PageReader, Played, Report, Unplayed};
 use std::thread;
 
 #[test]
@@ -20,6 +20,11 @@ fn everything_is_send_and_sync() {
     both::<Ruling>();
     both::<PageReader>();
     both::<Report>();
+    both::<Lent>();
+    both::<MoveText<'static>>();
+    both::<Played<'static>>();
+    both::<Unplayed<Error>>();
+    both::<GamePositions<'static, ()>>();
     both::<Error>();
     both::<Position<'static>>();
     both::<Actions<'static>>();
