@@ -1,0 +1,7 @@
+//! The generator against known counts, against a second one that is plain and slow, and through the archive's reader.
+
+mod common;
+mod leaves;
+mod narrowed;
+mod plain;
+mod rules;
