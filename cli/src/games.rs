@@ -17,8 +17,9 @@ pub struct Game {
     /// Whether tag pairs stand before it, and whether more than comments is in it.
     pub tagged: bool,
     pub tokens: bool,
-    /// The tag pairs as they stand, each with a newline, if they are wanted.
+    /// The tag pairs as they stand, each with a newline, if they are wanted; and where each begins, its line and how many bytes stand before it.
     pub tags: Vec<u8>,
+    pub tag_places: Vec<(u64, usize)>,
     /// The result that ends it.
     pub result: Option<&'static str>,
     /// Whether the file has ended before it has.
@@ -54,13 +55,20 @@ impl Game {
     }
 
     /// The same for a tag pair.
-    fn keep_tag(&mut self, number: u64, tag: &[u8], limit: usize) {
+    fn keep_tag(&mut self, (number, at): (u64, usize), tag: &[u8], limit: usize) {
         let held = self.text.len() + self.tags.len();
-        if self.large.is_some() || held + tag.len() >= limit || self.tags.try_reserve(tag.len() + 1).is_err() {
+        let full = self.large.is_some() || held + tag.len() >= limit;
+        if full || self.tags.try_reserve(tag.len() + 1).is_err() || self.tag_places.try_reserve(1).is_err() {
             return self.give_up(number);
         }
         self.tags.extend(tag);
         self.tags.push(b'\n');
+        self.tag_places.push((number, at));
+    }
+
+    /// The tag pairs that are kept, as they stand.
+    pub fn tag_pairs(&self) -> impl Iterator<Item = &[u8]> {
+        self.tags.strip_suffix(b"\n").map(|tags| tags.split(|byte| *byte == b'\n')).into_iter().flatten()
     }
 
     fn give_up(&mut self, number: u64) {
@@ -145,7 +153,9 @@ impl Games {
         each(&game)?;
         // Its room is kept for the next one.
         game.text.clear();
-        self.game.text = game.text;
+        game.tags.clear();
+        game.tag_places.clear();
+        self.game = Game { text: game.text, tags: game.tags, tag_places: game.tag_places, ..Game::default() };
         Ok(())
     }
 
@@ -187,22 +197,22 @@ impl Games {
                 return Ok(next);
             }
             at = next + bracket_end(&line[next..]);
-            self.tag(number, &line[next..at], each)?;
+            self.tag((number, next), &line[next..at], each)?;
         }
     }
 
     /// A tag pair. No game has two Event tags: the second is that of the next, if the first has no text.
-    fn tag(&mut self, number: u64, tag: &[u8], each: Each<'_>) -> Result<(), Stop> {
+    fn tag(&mut self, place: (u64, usize), tag: &[u8], each: Each<'_>) -> Result<(), Stop> {
         let is_event = named(tag).is_some_and(|(name, _)| name == b"Event");
         if is_event && self.game.event {
             self.end(None, each)?;
         }
         if !self.game.tagged {
-            (self.game.tagged, self.game.line) = (true, number);
+            (self.game.tagged, self.game.line) = (true, place.0);
         }
         self.game.event |= is_event;
         if self.tags && is_tag(tag) {
-            self.game.keep_tag(number, tag, self.limit);
+            self.game.keep_tag(place, tag, self.limit);
         }
         Ok(())
     }
@@ -246,9 +256,14 @@ fn is_tag(text: &[u8]) -> bool {
 
 /// The name and the value of a tag pair. Not every file has a backslash before a quote in a value: it ends with the last quote.
 pub fn parts(tag: &[u8]) -> Option<(&[u8], &[u8])> {
+    placed(tag).map(|(name, _, value)| (name, value))
+}
+
+/// The same, with the value's place in the tag pair.
+pub fn placed(tag: &[u8]) -> Option<(&[u8], usize, &[u8])> {
     let (name, from) = named(tag)?;
     let value = &tag[from..];
-    Some((name, &value[..value.iter().rposition(|byte| *byte == b'"').unwrap_or(value.len())]))
+    Some((name, from, &value[..value.iter().rposition(|byte| *byte == b'"').unwrap_or(value.len())]))
 }
 
 /// What a value says: in it a backslash stands before a quote and before another backslash.

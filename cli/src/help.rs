@@ -90,10 +90,13 @@ fn flags(flags: &[Flag]) -> String {
     flags.iter().map(|flag| row(&dashed(flag), flag.about)).collect()
 }
 
-/// A name and what it is, the second in its column.
+/// A name and what it is, the second in its column, and in the next line if the name reaches into it.
 fn row(name: &str, about: &str) -> String {
     let about = wrapped(about, COLUMN);
-    format!("  {name:width$}{}", &about[COLUMN..], width = COLUMN - 2)
+    match name.len() + 3 > COLUMN {
+        true => format!("  {name}\n{about}"),
+        false => format!("  {name:width$}{}", &about[COLUMN..], width = COLUMN - 2),
+    }
 }
 
 /// A paragraph in lines of at most `WIDTH` bytes, each so far in.

@@ -47,11 +47,16 @@ pub trait Lines {
 /// Hands on the lines of the inputs named, or of standard input if none is. `whole` is false from the first input on that was not read to
 /// its end.
 pub fn read(words: &[OsString], lines: &mut impl Lines, whole: &mut bool) -> Result<(), Stop> {
-    let mut room = vec![0; ROOM];
+    let mut room = room();
     for word in named(words) {
         *whole &= read_input(&word, &mut room, lines)?;
     }
     Ok(())
+}
+
+/// Room to read into.
+pub fn room() -> Vec<u8> {
+    vec![0; ROOM]
 }
 
 /// The inputs that words name: standard input if there is no word.
@@ -81,13 +86,17 @@ pub fn failed(word: &OsStr, error: &io::Error) -> Vec<u8> {
 
 /// Answers whether the input was read to its end.
 fn read_input(word: &OsStr, room: &mut Vec<u8>, lines: &mut impl Lines) -> Result<bool, Stop> {
-    let mut file = match open(word) {
-        Ok(file) => file,
+    match open(word) {
+        Ok(mut file) => read_from(word, &mut file, room, lines),
         Err(error) => {
             told::tell(&[&failed(word, &error)]);
-            return Ok(false);
+            Ok(false)
         }
-    };
+    }
+}
+
+/// The same for an input that is open.
+pub fn read_from(word: &OsStr, file: &mut impl Read, room: &mut Vec<u8>, lines: &mut impl Lines) -> Result<bool, Stop> {
     let mut cutter = Cutter { place: Place { name: word.as_bytes(), line: 1 }, room, held: 0, long: false };
     loop {
         match file.read(cutter.space()) {

@@ -17,6 +17,8 @@ struct Mark<T> {
 /// `T` is what is counted; after a failed write it is that of the last piece that got out whole.
 pub struct Output<T = ()> {
     file: File,
+    /// What it is called in a message.
+    name: Vec<u8>,
     room: Box<[u8]>,
     ready: usize,
     marks: Vec<Mark<T>>,
@@ -27,9 +29,18 @@ pub struct Output<T = ()> {
 
 impl<T: Copy + Default> Output<T> {
     pub fn new() -> Result<Output<T>, Stop> {
-        let file = streams::output().map_err(|error| failure(&error))?;
-        let room = vec![0; ROOM].into_boxed_slice();
-        Ok(Output { file, room, ready: 0, marks: vec![], settled: T::default(), status: Status::Well })
+        streams::output().map(Output::over).map_err(|error| failure(STANDARD, &error))
+    }
+
+    /// The same into a file that is open.
+    pub fn over(file: File) -> Output<T> {
+        Output::named(file, STANDARD)
+    }
+
+    /// The same with a name.
+    pub fn named(file: File, name: &[u8]) -> Output<T> {
+        let (name, room) = (name.to_vec(), vec![0; ROOM].into_boxed_slice());
+        Output { file, name, room, ready: 0, marks: vec![], settled: T::default(), status: Status::Well }
     }
 
     /// Room for at least so many bytes, at most the whole room.
@@ -59,6 +70,11 @@ impl<T: Copy + Default> Output<T> {
     /// A piece was put whole, and this is what was done with it.
     pub fn mark(&mut self, done: T) {
         self.marks.push(Mark { end: self.ready, done });
+    }
+
+    /// What was done with the last piece that got out whole.
+    pub fn settled(&self) -> T {
+        self.settled
     }
 
     /// The end of a run that counts: the last line of standard error shows what was written whole. `shown` makes words and a status of a tally.
@@ -105,13 +121,15 @@ impl<T: Copy + Default> Output<T> {
     fn fail(&self, error: &io::Error) -> Stop {
         match error.kind() {
             ErrorKind::BrokenPipe => Stop::Closed(self.status),
-            _ => failure(error),
+            _ => failure(&self.name, error),
         }
     }
 }
 
-fn failure(error: &io::Error) -> Stop {
-    Stop::trouble(format!("standard output: {}", told::system(error)))
+const STANDARD: &[u8] = b"standard output";
+
+fn failure(name: &[u8], error: &io::Error) -> Stop {
+    Stop::Trouble([name, b": ", told::system(error).as_bytes()].concat())
 }
 
 /// A text that is all that a command writes.

@@ -6,6 +6,7 @@ use crate::input::{self, Lines, Place};
 use crate::json::{self, Object};
 use crate::options::{Asked, Flag, Status, Stop};
 use crate::output::Output;
+use crate::spot::Spot;
 use crate::told::{self, Progress};
 use menkhodur::{Error, MoveText, PgnMove};
 use std::ffi::OsStr;
@@ -37,9 +38,10 @@ pub fn run(asked: &Asked) -> Result<Status, Stop> {
     pgn.said.output.end(ended, whole, pgn.said.tally, "games", |tally| (tally.shown(), tally.status()))
 }
 
-const MB: usize = 1 << 20;
+pub const MB: usize = 1 << 20;
 
-fn limit(asked: &Asked) -> Result<usize, Stop> {
+/// The MB that a game may have.
+pub fn limit(asked: &Asked) -> Result<usize, Stop> {
     let Some(value) = asked.value(&LIMIT) else { return Ok(64) };
     let number = value.to_str().and_then(|text| text.parse().ok());
     number
@@ -149,38 +151,6 @@ fn judge(game: &Game) -> Judged {
     Judged::Moves { own, variations }
 }
 
-/// A place in a game: its line in the file, its column from 1, and that line or what of it is near, with the place there and the column of
-/// its first byte.
-struct Spot {
-    line: u64,
-    column: usize,
-    text: Vec<u8>,
-    at: usize,
-    from: usize,
-}
-
-/// How much is shown of a line on either side of a place: a line may be as large as its game.
-const NEAR: usize = 4_096;
-
-impl Spot {
-    /// The place of an offset in the game's text. Its line is shown as far as it is this game's or stands before it.
-    fn of(game: &Game, offset: usize) -> Spot {
-        let before = &game.text[..offset];
-        let begin = before.iter().rposition(|byte| *byte == b'\n').map_or(0, |at| at + 1);
-        let line = game.text_line + before.iter().filter(|byte| **byte == b'\n').count() as u64;
-        let end = game.text[offset..].iter().position(|byte| *byte == b'\n').map_or(game.text.len(), |more| offset + more);
-        let (near, until) = (begin.max(offset.saturating_sub(NEAR)), end.min(offset + NEAR));
-        let (front, ahead) = if begin == 0 { (&game.front[..], game.before) } else { (&b""[..], 0) };
-        let front = if near == begin { front } else { b"" };
-        let mut text = [front, &game.text[near..until]].concat();
-        let (at, column) = (front.len() + offset - near, ahead + offset - begin + 1);
-        if text.ends_with(b"\r") && text.len() - 1 > at {
-            text.pop();
-        }
-        Spot { line, column, text, at, from: column - at }
-    }
-}
-
 /// What is printed, and what came of the games.
 struct Said {
     form: Form,
@@ -225,11 +195,7 @@ impl Said {
             return;
         }
         self.tally.unended += u64::from(self.form.strict);
-        let told = match game.cut {
-            true => format!(": the file ends in the game of line {}, which has no result", game.line),
-            false => format!(": the game of line {} has no result", game.line),
-        };
-        told::tell(&[input::shown(OsStr::from_bytes(&self.name)), told.as_bytes()]);
+        tell_unended(&self.name, game);
     }
 
     fn put_plain(&mut self, game: &Game, judged: &Judged) -> Result<(), Stop> {
@@ -275,7 +241,7 @@ impl Said {
     }
 
     fn large(&self) -> String {
-        format!("the game has more than {} MB, or more than there is memory for", self.form.limit)
+        large(self.form.limit)
     }
 
     fn put_object(&mut self, game: &Game, judged: &Judged) -> Result<(), Stop> {
@@ -318,6 +284,20 @@ impl Said {
         let tags = || game.tags.split(|byte| *byte == b'\n').filter_map(games::parts).map(tag);
         if self.form.tags { object.raw("tags", json::array(tags())) } else { object }
     }
+}
+
+/// Tells that a game of an input has no result.
+pub fn tell_unended(name: &[u8], game: &Game) {
+    let told = match game.cut {
+        true => format!(": the file ends in the game of line {}, which has no result", game.line),
+        false => format!(": the game of line {} has no result", game.line),
+    };
+    told::tell(&[input::shown(OsStr::from_bytes(name)), told.as_bytes()]);
+}
+
+/// What is wrong with a game that has more MB than it may.
+pub fn large(limit: usize) -> String {
+    format!("the game has more than {limit} MB, or more than there is memory for")
 }
 
 fn tag((name, value): (&[u8], &[u8])) -> String {

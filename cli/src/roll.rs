@@ -1,15 +1,22 @@
-//! `menkhodur roll`: the roll of a stored log; and `menkhodur roll upgrade`: an old roll, one without counters, written anew.
+//! `menkhodur roll`: the roll of a stored log or of a game of a PGN file; and `menkhodur roll upgrade`: an old roll, one without counters, written anew.
 
+use crate::import::one;
 use crate::input;
 use crate::options::{Asked, Flag, Status, Stop};
 use crate::output::Output;
+use crate::pgn;
 use crate::stored::Stored;
 use crate::whole;
 use menkhodur::lent::MAX_ROLL;
 use menkhodur::{Error, Roll};
 use std::ffi::OsStr;
 use std::io::Read;
+use std::os::unix::ffi::OsStrExt;
 
+pub const PGN: Flag =
+    Flag { name: "pgn", value: Some("FILE"), about: "take the game from this PGN file, in the place of a log; - is standard input" };
+pub const GAME: Flag =
+    Flag { name: "game", value: Some("N"), about: "the game with this number in the file of --pgn, from 1; 1 if not told" };
 pub const OUTPUT: Flag =
     Flag { name: "output", value: Some("FILE"), about: "write the roll to FILE; - is standard output, as without this option; also -o" };
 pub const FORCE: Flag = Flag { name: "force", value: None, about: "replace the file that is written if it exists" };
@@ -18,9 +25,21 @@ pub const FORCE: Flag = Flag { name: "force", value: None, about: "replace the f
 const LOOKED_AT: u64 = MAX_ROLL as u64 + 8;
 
 pub fn run(asked: &Asked) -> Result<Status, Stop> {
-    let stored = Stored::load(&asked.words)?;
-    let bytes = stored.good()?.to_roll();
+    let wrong = |why: &str| Err(Stop::trouble(format!("{why}; see menkhodur roll --help")));
+    let bytes = match (asked.value(&PGN), asked.words.as_slice()) {
+        (Some(file), []) => one::roll(file, game(asked)?, pgn::limit(asked)?)?,
+        (Some(_), _) => return wrong("with --pgn no log is needed"),
+        (None, []) => return wrong("missing ACTIONS"),
+        (None, _) if asked.has(&GAME) => return wrong("--game is for a file of --pgn"),
+        (None, words) => Stored::load(words)?.good()?.to_roll(),
+    };
     put(asked, asked.value(&OUTPUT).unwrap_or(OsStr::new("-")), &bytes)
+}
+
+fn game(asked: &Asked) -> Result<u64, Stop> {
+    let Some(value) = asked.value(&GAME) else { return Ok(1) };
+    let number = value.to_str().and_then(|text| text.parse().ok()).filter(|number| *number > 0);
+    number.ok_or_else(|| Stop::trouble([b"--game ", value.as_bytes(), b": a number from 1 up is needed"].concat()))
 }
 
 pub fn upgrade(asked: &Asked) -> Result<Status, Stop> {

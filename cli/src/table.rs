@@ -1,11 +1,13 @@
 //! The one table of commands. Help, man page, completion and the reader of words are made from it; a command is added here and in a
 //! module of its own.
 
+use crate::import::shelf;
 use crate::options::{Argument, Command, Example, Flag, Takes};
-use crate::{completion, diff, explain, help, keys, man, pgn, report, roll, ruling, show};
+use crate::{completion, diff, explain, export, found, help, import, keys, man, pgn, report, roll, ruling, show};
 use std::ffi::OsStr;
 
-pub const ABOUT: &str = "FEN keys, explanations and reports, PGN games, rulings, stored logs, rolls, and what differs between games";
+pub const ABOUT: &str = "FEN keys, explanations and reports, PGN games and their import into a store, rulings, stored logs, rolls, and what differs \
+                         between games";
 
 pub const TEXT: &[&str] = &[
     "A chess archive files each position once, under its FEN text. Every judgement of this program, keys, numbers, offsets, names and \
@@ -216,6 +218,154 @@ pub const COMMANDS: &[Command] = &[
         run: pgn::run,
     },
     Command {
+        name: "import",
+        about: "the games of PGN files into a store, each position once",
+        forms: &[&[Argument {
+            name: "FILE",
+            takes: Takes::File,
+            least: 0,
+            most: None,
+            about: "games: tag pairs, then move text; standard input if none is named",
+        }]],
+        flags: &[
+            import::SQLITE,
+            import::POSTGRES,
+            import::DRY_RUN,
+            import::VARIATIONS,
+            import::PLACES,
+            import::LOOSE,
+            import::DUPLICATES,
+            import::BATCH,
+            import::HOST,
+            pgn::LIMIT,
+            import::JSON,
+        ],
+        text: &[
+            "Files the games of PGN files, each with its tag pairs and its roll, and each position that they come to once, under its settled key, \
+             that of `menkhodur keys --settle`. A game is judged from the left: the archive walks its text, reads each move in the form of the PGN \
+             standard, plays it and names what it leads to. Which moves a position has is not proved: this program's own lists are tested, and \
+             --host asks another program. With --dry-run all is done but the filing.",
+            "For each game that is refused there is a line, `FILE:LINE:COLUMN: game INDEX ! N KIND reason: 'text'`, with the line of the file and a \
+             caret, as `menkhodur pgn` has them; nothing of the game is filed, and the next is looked at. N is the archive's number, - if it has \
+             none. KIND is large, of a game over the limit; variant, of a Variant tag that is not chess; start, of a FEN tag: 18, 19 or 20, what \
+             `menkhodur explain` warns about in its ranks or castling letters, a side without its one king, castling rights without king and rook at \
+             home, an en passant square that no pawn has come over, or a side in check that is not to move; text, 21, 22 or 23 as `menkhodur pgn` \
+             has them; move, 4, a text that is no move, or not one alone; or limit, 13, more than 4096 moves. Marks like !? behind a move are passed \
+             over. A move in a variation is looked at with --variations only; a game with more than 1048576 of them is refused then.",
+            "A game has a note, `FILE:LINE: game INDEX note: words`, and is filed all the same, if its Result tag and the result behind its moves \
+             differ, if it ends in mate or stalemate with another result than * and the right one, or if it equals one filed before, of any file: the same start, moves and \
+             seven tags. With --duplicates=skip an equal game is not filed and has no note; with keep it is filed without one.",
+            "With --loose a game that is refused as it stands is judged once more with what has one reading: zeros for O in castling, unless they end the text, `e.p.` and \
+             `ep` behind a pawn's capture, marks like ! and signs like += that stand alone, periods without a number, a hyphen between squares, an x \
+             too much or too few, ++, a promotion as e8Q, e8=q or e8(Q), and coordinates. If repairs come to two moves, the game is refused. A \
+             promotion without its man, small letters for men, null moves and letters of other languages are never taken. How much was taken of \
+             each kind is told at the end.",
+            "A store knows a file by its name as it is given here, with its size and a digest of its bytes, and standard input or a pipe by a digest \
+             of its first 65536 bytes. Whole games are filed in one transaction, with how far the file has come. If an import is broken off, the same \
+             command goes on behind the last game that was filed; the games before are cut once more, and must be the same. A file of the same name \
+             with other bytes is trouble. A game cut short by a failed read is not filed, and those before it are.",
+            "The last line of standard error is always `menkhodur: import: G games, A filed, B filed before, C skipped, R refused; M moves, P \
+             positions, N new`, with `; stopped: why` or `; input incomplete` behind it if that is so; B are the games that an earlier run was done \
+             with, refused or not, and nothing is counted that the store has not confirmed. That of a dry run is `menkhodur: import: dry run: G games, A \
+             accepted, R refused; M moves, P positions`. Moves and positions are those of the games that are filed. On a terminal it is told every \
+             second how far the import has come. If the reader of a pipe has gone, a dry run ends, and an import goes on without lines.",
+            "The command of --host is run by sh. For each position it is given a line, the full FEN, and answers a line: the legal moves in \
+             coordinates with single spaces between them, in any order.",
+            "An object of --json has file, game and line, then of a refused game number, null if there is none, kind, at (the line), column, token (the \
+             text that is refused), text (the line, or what of it is near the column, from text_column on) and reason; of a note note, which is \
+             result, mate, stalemate or duplicate, and reason, of a duplicate also source and of, the game that it equals. The last has the counts of the last line, notes, dry_run, with --loose loose, \
+             stopped, null if it was not, and complete.",
+        ],
+        statuses: &[
+            "every game was filed, now or before, without a note (with --dry-run: could be)",
+            "some game was refused, or has a note",
+        ],
+        trouble: "not one of --sqlite, --postgres and --dry-run; a store that cannot be used, or holds another file of that name; a host that does not \
+                  answer",
+        examples: &[
+            Example { command: "menkhodur import --dry-run games.pgn", about: "what would be refused, and nothing is filed" },
+            Example {
+                command: "menkhodur import --sqlite chess.db games.pgn",
+                about: "a store with its games; the same again goes on, or does nothing",
+            },
+            Example {
+                command: "zcat *.pgn.gz | menkhodur import --loose --postgres dbname=chess -",
+                about: "many files as one, by what can be read in one way",
+            },
+            Example {
+                command: "menkhodur import --dry-run --json games.pgn | jq -r 'select(.kind) | .kind' | sort | uniq -c",
+                about: "how many games are refused, by kind",
+            },
+        ],
+        run: import::run,
+    },
+    Command {
+        name: "export",
+        about: "the games of a store as a PGN file",
+        forms: &[&[]],
+        flags: &[shelf::SQLITE, shelf::POSTGRES, export::SOURCE, export::OUTPUT, roll::FORCE],
+        text: &[
+            "Writes the games that `menkhodur import` has filed, in the order of their files and numbers, in the export form of the PGN standard of \
+             1994: the seven tags, then the others by their names; an empty line; the moves, by the archive's names in the standard's form, with + \
+             behind a check and # behind mate, in lines of at most 79 characters; the result; an empty line. The text is UTF-8.",
+            "Moves and positions come from the rolls alone. A missing one of the seven is `?`, Date `????.??.??` and Result `*`. A game that does not \
+             start from the initial position, at move 1 with the clock 0, has SetUp and FEN. A FEN tag of its own stays, if it is the standard's and says \
+             the start; else it is the full FEN of the start. Which moves a position has is not proved, as for the import.",
+            "Imported again, into an empty store, the file gives the same games with the same rolls, and the same positions of their main lines. Lost \
+             are comments, glyphs, variations and their positions, lines and numbers in the file, and refused games. Tags come in another order, with \
+             the seven as above and with blanks for control characters of ASCII; SetUp without FEN goes, unless it is 0. Behind the moves stands the \
+             Result tag, or * if it is none of 1-0, 0-1, 1/2-1/2 and *. On a terminal all control characters are shown as \\xNN.",
+            WHOLE,
+            "If a roll is refused, or a move of one is none of its position's, that ends the export, with the game's file and number. The last line of \
+             standard error counts the games and moves that were written.",
+        ],
+        statuses: &["the games were written, all or those of --source"],
+        trouble: "not one of --sqlite and --postgres; a store that cannot be read; a roll that is refused; a NAME that the store has no games of; a \
+                  FILE that exists, without --force",
+        examples: &[
+            Example { command: "menkhodur export --sqlite chess.db -o all.pgn", about: "every game of a store" },
+            Example {
+                command: "menkhodur export --postgres dbname=chess --source games.pgn | menkhodur import --dry-run",
+                about: "whether what was filed from a file can be read again",
+            },
+        ],
+        run: export::run,
+    },
+    Command {
+        name: "games",
+        about: "which games of a store came to a position, and when",
+        forms: &[&[]],
+        flags: &[shelf::SQLITE, shelf::POSTGRES, found::POSITION, found::JSON],
+        text: &[
+            "Prints a line for each time that a game's main line came to the position, in the order of files, games and moves, with tabs between its \
+             ten columns: the file, the game's number in it, the line it begins in there, how many moves of either side were made (0: the game \
+             starts so), the number of the last of them as people write it, `4.` for white's and `4...` for black's, and its name in the form of \
+             the PGN standard, with + behind a check and # behind mate, both - if the game starts so; then White, Black, Date and Result, as \
+             `menkhodur export` has them. Control characters are shown as \\xNN, so that a line has ten columns always.",
+            "The position is that of the settled key of FEN (`menkhodur keys --settle`): counters do not matter, nor does an en passant square that no \
+             pawn can use. If FEN is refused, nothing is looked for, and standard error has the number, 18, 19 or 20, and the place. What \
+             `menkhodur explain` warns about in its ranks or castling letters is told there too, since it says another position than it seems to.",
+            "In a store that was filled with `menkhodur import --places` the places tell which games; in any other all rolls are played again, which \
+             takes a second or so for ten million moves, and gives the same lines. The last line of standard error counts games and places.",
+            "An object of --json has source, game, line, ply, number and side of the last move and move, its name, all three null if the game starts so, \
+             and white, black, date and result, each null if the game has no such tag.",
+        ],
+        statuses: &["some game came to the position", "none did"],
+        trouble: "no FEN, or one that is refused; not one of --sqlite and --postgres; a store that cannot be read; a roll that is refused, or that \
+                  does not come to the position where the places say so",
+        examples: &[
+            Example {
+                command: "menkhodur games --sqlite chess.db --position 'r1bqkbnr/pppp1ppp/2n5/1B2p3/4P3/5N2/PPPP1PPP/RNBQK2R b KQkq -'",
+                about: "who has played the Spanish Game, whatever moves led to it",
+            },
+            Example {
+                command: "menkhodur games --sqlite chess.db --position \"$FEN\" | cut -f 7-10 | sort | uniq -c",
+                about: "players, dates and results alone",
+            },
+        ],
+        run: found::run,
+    },
+    Command {
         name: "ruling",
         about: "a stored game, its result, and whether a draw may be claimed",
         forms: &[LOG],
@@ -297,21 +447,26 @@ pub const COMMANDS: &[Command] = &[
     },
     Command {
         name: "roll",
-        about: "the roll of a stored log",
-        forms: &[LOG],
-        flags: &[roll::OUTPUT, roll::FORCE],
+        about: "the roll of a stored log, or of a game of a PGN file",
+        forms: &[LOG, &[]],
+        flags: &[roll::PGN, roll::GAME, roll::OUTPUT, roll::FORCE],
         text: &[
-            "Writes the game of a log as a roll: the start with its counters and what was done, without the positions after it, to standard output \
+            "Writes the game of a log, or of a PGN file, as a roll: the start with its counters and what was done, without the positions after it, to standard output \
              or to the file of --output. `menkhodur show` shows it, and `menkhodur diff` compares it with another.",
             NOT_GOOD,
             "Of a log that is not good, nothing is written.",
+            "With --pgn no log is named. The game is read as `menkhodur import` reads it, moves of variations not looked at, and its roll is the one \
+             that the import files: the start, settled, and the moves of the main line. Games are numbered as there, refused ones counted. A game that \
+             is refused is told on standard error in the import's words, and nothing is written; what stands behind the game is not read.",
             WHOLE,
             "Where the actions are in a file named upgrade, ./upgrade names it: `menkhodur roll upgrade` is another command.",
         ],
         statuses: &["the roll was written"],
-        trouble: "a log that is not good; files that are not a log's parts by their size; a FILE that exists, without --force",
+        trouble: "a log that is not good; files that are not a log's parts by their size; a game of --pgn that is refused, or is not there; a FILE \
+                  that exists, without --force",
         examples: &[
             Example { command: "menkhodur roll -o game.roll game.actions game.positions", about: "a log's roll in a file" },
+            Example { command: "menkhodur roll --pgn games.pgn --game 7 | menkhodur show -", about: "the moves and positions of a game" },
             Example {
                 command: "menkhodur roll game.actions game.positions | menkhodur diff - there.roll",
                 about: "whether another site has the same game",

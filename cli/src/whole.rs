@@ -3,22 +3,59 @@
 use crate::input;
 use crate::options::Stop;
 use std::ffi::OsStr;
-use std::fs::{self, File};
+use std::fs::{self, File, Metadata};
 use std::io::{self, ErrorKind, Write};
 use std::path::{Path, PathBuf};
 
 /// Writes the file that a word names, which must not exist unless it is to be replaced. Whoever opens it sees what was there before or all of
 /// the bytes, and a failure leaves everything as it was.
 pub fn put(word: &OsStr, bytes: &[u8], replace: bool) -> Result<(), Stop> {
-    write(Path::new(word), bytes, replace).map_err(|error| match error.kind() {
-        ErrorKind::AlreadyExists => Stop::Trouble([input::shown(word), b": it exists; --force replaces it"].concat()),
-        _ => Stop::Trouble(input::failed(word, &error)),
-    })
+    let mut making = Making::begin(word, replace)?;
+    making.file.write_all(bytes).map_err(|error| failed(word, &error))?;
+    making.place()
 }
 
-fn write(path: &Path, bytes: &[u8], replace: bool) -> io::Result<()> {
+/// A file in the making, beside the one that it is to be.
+pub struct Making<'a> {
+    word: &'a OsStr,
+    path: PathBuf,
+    replace: bool,
+    /// What it takes the place of.
+    held: Option<Metadata>,
+    beside: Beside,
+    pub file: File,
+}
+
+impl Making<'_> {
+    pub fn begin(word: &OsStr, replace: bool) -> Result<Making<'_>, Stop> {
+        begun(word, replace).map_err(|error| failed(word, &error))
+    }
+
+    /// All is written: it takes its place.
+    pub fn place(mut self) -> Result<(), Stop> {
+        self.placed().map_err(|error| failed(self.word, &error))
+    }
+
+    fn placed(&mut self) -> io::Result<()> {
+        if let Some(held) = &self.held {
+            self.file.set_permissions(held.permissions())?;
+        }
+        // Some systems tell only here that there is no room left.
+        self.file.sync_all()?;
+        if self.replace { self.beside.rename(&self.path) } else { self.beside.link(&self.path) }
+    }
+}
+
+fn failed(word: &OsStr, error: &io::Error) -> Stop {
+    match error.kind() {
+        ErrorKind::AlreadyExists => Stop::Trouble([input::shown(word), b": it exists; --force replaces it"].concat()),
+        _ => Stop::Trouble(input::failed(word, error)),
+    }
+}
+
+fn begun(word: &OsStr, replace: bool) -> io::Result<Making<'_>> {
     // Where a link leads to a file, that file is replaced, not the link.
-    let path = fs::canonicalize(path).unwrap_or(path.to_path_buf());
+    let path = fs::canonicalize(word).unwrap_or(PathBuf::from(word));
     let held = fs::metadata(&path).ok();
     match &held {
         // A device or a pipe would be gone.
@@ -26,14 +63,8 @@ fn write(path: &Path, bytes: &[u8], replace: bool) -> io::Result<()> {
         Some(_) if !replace => return Err(ErrorKind::AlreadyExists.into()),
         _ => {}
     }
-    let (mut beside, mut file) = Beside::create(&path)?;
-    file.write_all(bytes)?;
-    if let Some(held) = held {
-        file.set_permissions(held.permissions())?;
-    }
-    // Some systems tell only here that there is no room left.
-    file.sync_all()?;
-    if replace { beside.rename(&path) } else { beside.link(&path) }
+    let (beside, file) = Beside::create(&path)?;
+    Ok(Making { word, path, replace, held, beside, file })
 }
 
 /// A file in the folder of another, removed at the end unless it took that one's place.

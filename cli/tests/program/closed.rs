@@ -7,7 +7,7 @@ use std::fs;
 use std::process::Command;
 
 /// Runs the program with streams as a shell redirects them.
-fn redirected(words: &[&str], how: &str) -> Ran {
+pub fn redirected(words: &[&str], how: &str) -> Ran {
     let mut shell = Command::new("sh");
     shell.args(["-c", &format!("exec \"$0\" \"$@\" {how}")]).arg(program().get_program()).args(words);
     Ran::of(shell.output().unwrap())
@@ -47,6 +47,7 @@ fn standard_output_that_is_not_open_is_trouble_in_every_command_that_writes() {
         &["explain", "-"],
         &["pgn", pgn],
         &["pgn", "--json", pgn],
+        &["import", "--dry-run", pgn],
         &["ruling", a, p],
         &["show", a, p],
         &["show", roll],
@@ -55,6 +56,7 @@ fn standard_output_that_is_not_open_is_trouble_in_every_command_that_writes() {
         &["diff", roll, old],
         &["roll", a, p],
         &["roll", "-o", "-", a, p],
+        &["roll", "--pgn", pgn],
         &["roll", "upgrade", old, "-"],
         &["completion", "bash"],
         &["man"],
@@ -94,6 +96,7 @@ fn standard_input_that_is_not_open_is_trouble_where_it_is_read() {
         &["diff", "-", roll],
         &["diff", roll, "-"],
         &["roll", "-", p],
+        &["roll", "--pgn", "-"],
         &["roll", "upgrade", "-", "-"],
         &["roll", "upgrade", "-", &new],
     ] {
@@ -114,12 +117,22 @@ fn standard_input_that_is_not_open_is_trouble_where_it_is_read() {
         ),
         (&["pgn"], "", "0 games, 0 accepted, 0 refused"),
         (&["pgn", "-", pgn], &format!("{pgn}: 1 1 1 0 *"), "1 game, 1 accepted, 0 refused"),
+        (&["import", "--dry-run", "-", pgn], "", "import: dry run: 1 games, 1 accepted, 0 refused; 1 moves, 2 positions"),
     ] {
         let ran = redirected(words, "<&-");
         let err = format!("menkhodur: standard input: it is not open\nmenkhodur: {counted}; input incomplete\n");
         assert_eq!((ran.text().trim_end(), ran.err.as_str(), ran.status), (out, err.as_str(), 2), "{words:?}");
     }
-    for words in [&["keys", fens][..], &["report", fens], &["explain", EMPTY], &["pgn", pgn], &["show", a, p], &["diff", roll, roll]] {
+    for words in [
+        &["keys", fens][..],
+        &["report", fens],
+        &["explain", EMPTY],
+        &["pgn", pgn],
+        &["import", "--dry-run", pgn],
+        &["show", a, p],
+        &["diff", roll, roll],
+        &["roll", "--pgn", pgn],
+    ] {
         assert_eq!(redirected(words, "<&-"), redirected(words, "</dev/null"), "{words:?}");
         assert_eq!(redirected(words, "<&-").status, 0, "{words:?}");
     }

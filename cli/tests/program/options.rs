@@ -4,8 +4,23 @@ use crate::common::{Folder, expect, run};
 use menkhodur::lent::{ACTION_BYTES, POSITION_BYTES};
 use std::process::Command;
 
-const COMMANDS: [&str; 12] =
-    ["keys", "explain", "report", "pgn", "ruling", "show", "diff", "roll", "roll upgrade", "completion", "man", "help"];
+const COMMANDS: [&str; 15] = [
+    "keys",
+    "explain",
+    "report",
+    "pgn",
+    "import",
+    "export",
+    "games",
+    "ruling",
+    "show",
+    "diff",
+    "roll",
+    "roll upgrade",
+    "completion",
+    "man",
+    "help",
+];
 
 /// Words behind those of a command.
 fn words<'a>(command: &'a str, more: &[&'a str]) -> Vec<&'a str> {
@@ -15,7 +30,10 @@ fn words<'a>(command: &'a str, more: &[&'a str]) -> Vec<&'a str> {
 #[test]
 fn what_is_not_known_is_trouble_and_named() {
     for (words, told) in [
-        (vec![], "a command is needed: keys, explain, report, pgn, ruling, show, diff, roll, completion, man, help; see menkhodur --help"),
+        (
+            vec![],
+            "a command is needed: keys, explain, report, pgn, import, export, games, ruling, show, diff, roll, completion, man, help; see menkhodur --help",
+        ),
         (vec!["nope"], "unknown command nope; see menkhodur --help"),
         (vec!["--nope"], "unknown option --nope; see menkhodur --help"),
         (vec!["keys", "--nope"], "unknown option --nope; see menkhodur keys --help"),
@@ -79,6 +97,9 @@ fn help_says_what_trouble_is() {
     for (command, here) in [
         ("keys", ""),
         ("report", "no memory for all positions, or for a page; "),
+        ("export", "not one of --sqlite and --postgres; a store that cannot be read; "),
+        ("games", "no FEN, or one that is refused; not one of --sqlite and --postgres; "),
+        ("import", "not one of --sqlite, --postgres and --dry-run; a store that cannot be used, "),
         ("ruling", "a log that is not good (with --at: up to N), or that has fewer actions than N; "),
         ("show", "a log that is not good; a roll that is refused, 5, 13 or 17 "),
         ("diff", "a roll that is refused; "),
@@ -160,6 +181,8 @@ fn bash_completes_commands_options_and_words() {
         (&["menkhodur", "rep"], &["report"]),
         (&["menkhodur", "report", "--j"], &["--json"]),
         (&["menkhodur", "report", "g"], &["game.roll"]),
+        (&["menkhodur", "import", "--d"], &["--dry-run", "--duplicates"]),
+        (&["menkhodur", "import", "g"], &["game.roll"]),
         (&["menkhodur", "ruling", "--a"], &["--at"]),
         (&["menkhodur", "completion", "z"], &["zsh"]),
         (&["menkhodur", "explain", "--j"], &["--json"]),

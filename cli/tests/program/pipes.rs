@@ -15,7 +15,7 @@ use std::time::Duration;
 const PATIENCE: Duration = Duration::from_secs(20);
 
 /// Runs a command on an input that gives a text and then an error, never an end.
-fn cut(command: &mut Command, text: &str) -> Ran {
+pub fn cut(command: &mut Command, text: &str) -> Ran {
     let (mut to, from) = UnixStream::pair().unwrap();
     from.set_nonblocking(true).unwrap();
     to.write_all(text.as_bytes()).unwrap();
@@ -48,7 +48,7 @@ fn a_line_that_a_failed_read_cut_is_dropped_and_the_next_file_is_read() {
     assert_eq!((ran.text(), ran.err.as_str(), ran.status), ("", "menkhodur: standard input: Resource temporarily unavailable\n", 2));
 }
 
-fn full(words: &[&str], input: &str) -> Ran {
+pub fn full(words: &[&str], input: &str) -> Ran {
     let mut command = program();
     command.args(words).stdin(Stdio::piped()).stdout(File::create("/dev/full").unwrap()).stderr(Stdio::piped());
     let mut child = command.spawn().unwrap();
@@ -172,7 +172,7 @@ fn lines_cut_by_the_end_of_a_read_are_put_together() {
 }
 
 /// Feeds lines without end to a command whose reader goes after one line.
-fn gone(words: &[&str], line: &str) -> (String, Option<i32>) {
+pub fn gone(words: &[&str], line: &str) -> (String, Option<i32>) {
     let mut child = piped(words);
     let (mut to, line) = (child.stdin.take().unwrap(), format!("{line}\n").repeat(1_000));
     let feeder = thread::spawn(move || while to.write_all(line.as_bytes()).is_ok() {});
