@@ -1,5 +1,6 @@
 //! The position that a game starts from: the initial one, or that of its FEN tag, if it is chess and a game can come from it.
 
+use super::numbered;
 use super::refused::{At, Refusal};
 use crate::games::{self, Game};
 use crate::options::Stop;
@@ -63,7 +64,7 @@ impl Starts {
             return Err(variant.refused("variant", 0, 0, "the game is of a variant, not of chess"));
         }
         let mut fens = values(game, b"FEN");
-        let Some(fen) = fens.next() else { return Ok(self.initial) };
+        let Some(fen) = fens.next() else { return numbered::judge(&game.text).map(|()| self.initial) };
         if let Some(other) = fens.find(|other| other.text != fen.text) {
             return Err(other.bad(0, "the game has another FEN tag, which says something else"));
         }

@@ -8,8 +8,8 @@ use std::sync::Arc;
 use std::sync::mpsc::{Receiver, Sender, SyncSender, channel, sync_channel};
 use std::thread::{self, JoinHandle};
 
-/// How many batches may wait to be written.
-const WAITING: usize = 2;
+/// How many batches wait between the one that is made and the one that is written: none, so that two at most are in memory.
+const WAITING: usize = 0;
 
 /// What is sent to be written: games of one input, with what is counted of them if they are filed.
 pub struct Load {
