@@ -1,20 +1,22 @@
--- What a byte's class says: a slash, a digit, a piece's letter, or none of these. And the table that the reader fills: it holds each byte's class.
+-- What a byte's mark and its class say: a slash, a digit, a piece's letter, or none of these. And the table that the reader fills: it holds each byte's mark.
 -- Assumes nothing.
 use mathlib.Core.Path.{_≡_, refl, sym, _∙_}
 use mathlib.Core.Bool.{Bool, true, false}
-use Prim.Native.Nat.{ℕ, _+_, _-_, _≤_, _<_}
+use Prim.Native.Nat.{ℕ, _+_, _*_, _-_, _≤_, _<_}
 use native.Mathlib.Decide.{decLe}
 use native.Mathlib.Omega.{arith}
 use lib.Dec.{eqb, eqb→eq}
-use lib.ListN.{length, getD, replicate}
-use borrow.Author.Tests.{eq-eqb, ne-eqb, le-leb, lt-leb}
+use lib.ListN.{length, getD}
+use borrow.Author.Tests.{eq-eqb, ne-eqb, eqb-false, lt-ltb, le-ltb, le-leb, lt-leb}
 use Rattle.answer.specs.Ascii.{ascii}
 use Rattle.answer.specs.Numbers.{between}
 use Rattle.answer.specs.Numbers.{among}
 use Rattle.square.specs.Piece.{pieceOf}
 use Rattle.answer.proofs.Below.{below, agree}
-use Rattle.fen_text.specs.Placement.{signs, isNoSign}
-use Rattle.fen_reader.specs.CodeClass.{noClass, classOf, noteAll}
+use Rattle.fen_text.specs.Placement.{isNoSign}
+use Rattle.fen_text.proofs.Keys.{piece-most}
+use Rattle.fen_reader.specs.CodeMarks.{slashMark, noMark, markOf, markAll, marked}
+use Rattle.fen_reader.specs.CodeClass.{noClass, classOf}
 
 -- what a byte is
 pub data Kind (b : ℕ) : Type 0 where
@@ -44,47 +46,70 @@ kind-slash b (no l) (no h) = kind-low b (λ e. omega arith) (decLe 49 b) (decLe 
 pub kind : (b : ℕ) → Kind b
 kind b = kind-slash b (decLe b 46) (decLe b 47)
 
-pub class-slash : (b : ℕ) → b ≡ 47 → classOf b ≡ 32
-unfolding classOf
-class-slash b e = simp (eq-eqb _ _ e)
+-- the marks of each
+pub mark-slash : (b : ℕ) → b ≡ 47 → markOf b ≡ slashMark
+unfolding markOf
+mark-slash b e = simp (eq-eqb _ _ e)
 
-pub class-digit : (b : ℕ) → 49 ≤ b → b ≤ 56 → classOf b ≡ b - 32
-unfolding classOf
-class-digit b l h =
+pub mark-digit : (b : ℕ) → 49 ≤ b → b ≤ 56 → markOf b ≡ b - 48
+unfolding markOf
+mark-digit b l h =
     let n : b ≡ 47 → ⊥ = λ e. omega arith in
     simp (ne-eqb _ _ n, le-leb _ _ l, le-leb _ _ h)
 
--- 16 more than the digit fits a byte
-pub digit-small : (b : ℕ) → b < 57 → 16 + (b - 48) < 256
-digit-small b h = omega arith
+pub mark-letter : (b : ℕ) → eqb b 47 ≡ false → between 49 56 b ≡ false → eqb (pieceOf b) 0 ≡ false → markOf b ≡ pieceOf b * 16 + 1
+unfolding markOf
+mark-letter b e f g = rw (e, f, g)
 
-pub class-letter : (b : ℕ) → eqb b 47 ≡ false → between 49 56 b ≡ false → eqb (pieceOf b) 0 ≡ false → classOf b ≡ pieceOf b
-unfolding classOf
-class-letter b e f g = rw (e, f, g)
+pub mark-other : (b : ℕ) → eqb b 47 ≡ false → between 49 56 b ≡ false → eqb (pieceOf b) 0 ≡ true → markOf b ≡ noMark
+unfolding markOf
+mark-other b e f g = rw (e, f, g)
 
-pub class-other : (b : ℕ) → eqb b 47 ≡ false → between 49 56 b ≡ false → eqb (pieceOf b) 0 ≡ true → classOf b ≡ noClass
+-- and their classes
+pub class-slash : (b : ℕ) → b ≡ 47 → classOf (markOf b) ≡ 32
 unfolding classOf
-class-other b e f g = rw (e, f, g)
+class-slash b e = rw (mark-slash b e)
+
+pub class-digit : (b : ℕ) → 49 ≤ b → b ≤ 56 → classOf (markOf b) ≡ b - 32
+unfolding classOf
+class-digit b l h =
+    let n : b - 48 ≡ slashMark → ⊥ = λ e. omega arith in
+    let m : b - 48 ≡ noMark → ⊥ = λ e. omega arith in
+    let few : b - 48 < 16 = omega arith in
+    rw (mark-digit b l h) (simp (ne-eqb _ _ n, ne-eqb _ _ m, lt-ltb _ _ few) (omega arith))
+
+pub class-letter : (b : ℕ) → eqb b 47 ≡ false → between 49 56 b ≡ false → eqb (pieceOf b) 0 ≡ false → classOf (markOf b) ≡ pieceOf b
+unfolding classOf
+class-letter b e f g =
+    let some : pieceOf b ≡ 0 → ⊥ = eqb-false _ _ g in
+    let n : pieceOf b * 16 + 1 ≡ slashMark → ⊥ = λ q. omega arith in
+    let m : pieceOf b * 16 + 1 ≡ noMark → ⊥ = λ q. omega (arith, piece-most b) in
+    let far : 16 ≤ pieceOf b * 16 + 1 = omega arith in
+    rw (mark-letter b e f g) (simp (ne-eqb _ _ n, ne-eqb _ _ m, le-ltb _ _ far) (omega arith))
+
+pub class-other : (b : ℕ) → eqb b 47 ≡ false → between 49 56 b ≡ false → eqb (pieceOf b) 0 ≡ true → classOf (markOf b) ≡ noClass
+unfolding classOf
+class-other b e f g = rw (mark-other b e f g)
 
 -- 256 bytes, each computed
 right : ℕ → Bool
-right b = eqb (getD (noteAll signs (replicate 256 noClass)) b 0) (classOf b)
+right b = eqb (getD marked b 0) (markOf b)
 
-pub class-at : (b : ℕ) → b < 256 → getD (noteAll signs (replicate 256 noClass)) b 0 ≡ classOf b
-unfolding right noteAll ascii classOf pieceOf
-class-at b h = eqb→eq (getD (noteAll signs (replicate 256 noClass)) b 0) (classOf b) (below right 256 tt b h)
+pub mark-at : (b : ℕ) → b < 256 → getD marked b 0 ≡ markOf b
+unfolding right markAll ascii markOf pieceOf
+mark-at b h = eqb→eq (getD marked b 0) (markOf b) (below right 256 tt b h)
 
-pub table-long : length (noteAll signs (replicate 256 noClass)) ≡ 256
-unfolding noteAll ascii
+pub table-long : length marked ≡ 256
+unfolding markAll ascii
 table-long = refl
 
--- a byte is bad exactly if its class is noClass
-bad-class : (b : ℕ) → b < 256 → isNoSign b ≡ eqb (classOf b) noClass
-unfolding among ascii classOf pieceOf
-bad-class b h = agree isNoSign (λ (x : ℕ). eqb (classOf x) noClass) 256 tt b h
+-- a byte is bad exactly if its mark is noMark
+bad-mark : (b : ℕ) → b < 256 → isNoSign b ≡ eqb (markOf b) noMark
+unfolding among ascii markOf pieceOf
+bad-mark b h = agree isNoSign (λ (x : ℕ). eqb (markOf x) noMark) 256 tt b h
 
-pub class-bad : (b c : ℕ) → b < 256 → c ≡ classOf b → c ≡ noClass → isNoSign b ≡ true
-class-bad b c h e r = bad-class b h ∙ eq-eqb _ _ (sym e ∙ r)
+pub mark-bad : (b m : ℕ) → b < 256 → m ≡ markOf b → m ≡ noMark → isNoSign b ≡ true
+mark-bad b m h e r = bad-mark b h ∙ eq-eqb _ _ (sym e ∙ r)
 
-pub class-good : (b c : ℕ) → b < 256 → c ≡ classOf b → (c ≡ noClass → ⊥) → isNoSign b ≡ false
-class-good b c h e n = bad-class b h ∙ ne-eqb _ _ (λ r. n (e ∙ r))
+pub mark-good : (b m : ℕ) → b < 256 → m ≡ markOf b → (m ≡ noMark → ⊥) → isNoSign b ≡ false
+mark-good b m h e n = bad-mark b h ∙ ne-eqb _ _ (λ r. n (e ∙ r))

@@ -1,6 +1,8 @@
 pub mod Blocks
 pub mod Classes
 pub mod Placing
+pub mod QuickWalk
+pub mod PlaceLoops
 pub mod Counting
 pub mod Reading
 pub mod FullCuts

@@ -1,17 +1,16 @@
--- How the reader walks a placement: a class for each byte, and what a class does to the square to fill next. For its inner functions; the public
+-- How the reader walks a placement: a class for each mark, and what a class does to the square to fill next. For its inner functions; the public
 -- contract does not speak of this.
 -- Assumes nothing.
-use Prim.Native.Nat.{ℕ, _+_, _-_, _%_}
+use Prim.Native.Nat.{ℕ, _+_, _-_, _/_, _%_}
 use mathlib.Core.Path.{_≡_}
 use mathlib.Core.Bool.{false, cond}
-use mathlib.Core.List.{List, [], _∷_}
+use mathlib.Core.List.{List}
 use lib.Dec.{eqb, ltb}
-use lib.ListN.{take, drop, set}
-use Rattle.answer.specs.Numbers.{between}
-use Rattle.square.specs.Piece.{pieceOf}
+use lib.ListN.{take, drop}
 use Rattle.fen_text.specs.Token.{placeOf}
 use Rattle.fen_text.specs.Placement.{start, placeAll}
 use Rattle.fen_text.specs.Read.{rightsOf}
+use Rattle.fen_reader.specs.CodeMarks.{slashMark, noMark}
 use Rattle.fen_reader.specs.declared.placement.Walked.{Walked}
 use Rattle.fen_reader.specs.declared.token.Sides.{Sides}
 
@@ -19,14 +18,9 @@ use Rattle.fen_reader.specs.declared.token.Sides.{Sides}
 abbrev pub noClass : ℕ
 noClass = 64
 
--- 32 for a slash, 16 more than a digit's number, a piece's code, noClass for any other byte
+-- a mark's class: 32 for a slash, 16 more than a digit's number, a piece's code, noClass for any other byte
 unfoldable pub classOf : ℕ → ℕ
-classOf b = cond (eqb b 47) 32 (cond (between 49 56 b) (b - 32) (cond (eqb (pieceOf b) 0) noClass (pieceOf b)))
-
--- a table in which the classes of some bytes are noted
-unfoldable pub noteAll : List ℕ → List ℕ → List ℕ
-noteAll [] table = table
-noteAll (b ∷ bs) table = noteAll bs (set table b (classOf b))
+classOf mark = cond (eqb mark slashMark) 32 (cond (eqb mark noMark) noClass (cond (ltb mark 16) (16 + mark) (mark / 16)))
 
 -- a piece is set down, or what stands there stays
 abbrev pub pieceAfter : ℕ → ℕ → ℕ

@@ -1,1 +1,3 @@
+pub mod CodeMarks
 pub mod CodeClass
+pub mod CodePlaces

@@ -1,8 +1,10 @@
 // The FEN reader, after board_builder.rs: a text of four tokens or more is read into a record.
 pub mod full;
 pub mod lines;
+mod marks;
 pub mod page;
 mod placement;
+mod places;
 mod token;
 
 use answer::ACCEPTED;

@@ -1,70 +1,36 @@
 // The placement, read in one pass: each byte decides what is set down and which square is filled next.
+use crate::marks;
+use crate::marks::NO_MARK;
+use crate::marks::SLASH_MARK;
+use crate::marks::wide;
+use crate::places;
+use crate::places::LAST;
 ghost use mathlib.Core.Path.{_≡_};
 ghost use Prim.Native.Nat.{_<_};
-ghost use lib.ListN.{set};
-ghost use Rattle.fen_text.specs.Placement.{signs, firstBad};
-ghost use Rattle.fen_reader.specs.CodeClass.{classOf, noteAll, pieceAfter, stepOf, fileNext, rankNext, PlacementWalk};
+ghost use Rattle.fen_text.specs.Placement.{firstBad};
+ghost use Rattle.fen_reader.specs.CodeMarks.{marked};
+ghost use Rattle.fen_reader.specs.CodeClass.{classOf, pieceAfter, stepOf, fileNext, rankNext, PlacementWalk};
 
-// A byte's class: a piece's code, DIGIT and how many files it adds, SLASH, or REFUSED, a bit that no other class has and that leaves the board as it is.
+// A mark's class: a piece's code, DIGIT and how many files it adds, SLASH, or REFUSED, a bit that no other class has and that leaves the board as it is.
 const DIGIT: u8 = 16;
 
 const SLASH: u8 = 32;
 
 pub(crate) const REFUSED: u8 = 64;
 
-fn class_of(b: u8) -> u8
-    ensures { λ r. ⌜ r ≡ classOf b ⌝ }
+fn class_of(mark: u8) -> u8
+    ensures { λ r. ⌜ r ≡ classOf mark ⌝ }
 {
-    match b {
-        b'1'..=b'8' => DIGIT + (b - b'0'),
-        b'/' => SLASH,
-        b'P' => 1,
-        b'N' => 2,
-        b'B' => 3,
-        b'R' => 4,
-        b'Q' => 5,
-        b'K' => 6,
-        b'p' => 7,
-        b'n' => 8,
-        b'b' => 9,
-        b'r' => 10,
-        b'q' => 11,
-        b'k' => 12,
-        _ => REFUSED,
+    if mark == SLASH_MARK {
+        return SLASH;
     }
-}
-
-fn note(classes: &mut [u8; 256], b: u8)
-    ensures { λ _. ⌜ now (classes .exit) ≡ set (now (classes .entry)) b (classOf b) ⌝ }
-{
-    classes[b as usize] = class_of(b);
-}
-
-// Notes the class of each byte that has one. The bytes are constants, so the compiler decides here and the loop over a text only looks up.
-fn note_all(classes: &mut [u8; 256])
-    ensures { λ _. ⌜ now (classes .exit) ≡ noteAll signs (now (classes .entry)) ⌝ }
-{
-    note(classes, b'/');
-    note(classes, b'1');
-    note(classes, b'2');
-    note(classes, b'3');
-    note(classes, b'4');
-    note(classes, b'5');
-    note(classes, b'6');
-    note(classes, b'7');
-    note(classes, b'8');
-    note(classes, b'P');
-    note(classes, b'N');
-    note(classes, b'B');
-    note(classes, b'R');
-    note(classes, b'Q');
-    note(classes, b'K');
-    note(classes, b'p');
-    note(classes, b'n');
-    note(classes, b'b');
-    note(classes, b'r');
-    note(classes, b'q');
-    note(classes, b'k');
+    if mark == NO_MARK {
+        return REFUSED;
+    }
+    if mark < 16 {
+        return DIGIT + mark;
+    }
+    mark / 16
 }
 
 fn piece_after(class: u8, old: u8) -> u8
@@ -77,12 +43,6 @@ fn step_of(class: u8) -> u8
     ensures { λ r. ⌜ r ≡ stepOf class ⌝ }
 {
     if class < DIGIT { 1 } else { class - DIGIT }
-}
-
-fn wide(x: u8) -> usize
-    ensures { λ r. ⌜ r ≡ x ⌝ }
-{
-    x as usize
 }
 
 fn file_after(file: usize, class: u8) -> usize
@@ -108,11 +68,11 @@ pub struct Walked {
     pub seen: u8,
 }
 
-pub(crate) fn place(text: &[u8]) -> Walked
+// The walk for any text.
+fn walk(text: &[u8], marks: &[u8; 256]) -> Walked
+    requires { ⌜ now marks ≡ marked ⌝ }
     ensures { λ r. ⌜ PlacementWalk (now (text .entry)) r ⌝ }
 {
-    let mut classes = [REFUSED; 256];
-    note_all(&mut classes);
     let mut pieces = [0u8; 64];
     let mut rank: usize = 7;
     let mut file: usize = 0;
@@ -127,7 +87,7 @@ pub(crate) fn place(text: &[u8]) -> Walked
                 seen,
             };
         }
-        let class = classes[wide(b)];
+        let class = class_of(marks[wide(b)]);
         let at = rank * 8 + file;
         pieces[at] = piece_after(class, pieces[at]);
         file = file_after(file, class);
@@ -142,13 +102,42 @@ pub(crate) fn place(text: &[u8]) -> Walked
     }
 }
 
+// By the quick walk if it can tell, else byte by byte.
+pub(crate) fn place(text: &[u8]) -> Walked
+    ensures { λ r. ⌜ PlacementWalk (now (text .entry)) r ⌝ }
+{
+    let mut marks = [NO_MARK; 256];
+    marks::mark_all(&mut marks);
+    let mut laid = [0u8; 128];
+    let stopped = places::lay(text, &marks, &mut laid);
+    let mut pieces = [0u8; 64];
+    places::files(&mut pieces, &laid);
+    if stopped.at != LAST {
+        return walk(text, &marks);
+    }
+    if !places::slashes(&laid) {
+        return walk(text, &marks);
+    }
+    if !answer::all_at_most(&pieces, 12) {
+        return walk(text, &marks);
+    }
+    if !places::ends(text, stopped.end) {
+        return walk(text, &marks);
+    }
+    Walked {
+        pieces,
+        end: stopped.end,
+        seen: 0,
+    }
+}
+
 // The place of the first byte that may not stand in a placement, or the length if there is none.
 pub(crate) fn first_bad(token: &[u8]) -> usize
     ensures { λ r. ⌜ r ≡ firstBad (now (token .entry)) ⌝ }
 {
     let mut i: usize = 0;
     while i < token.len() {
-        if class_of(token[i]) == REFUSED {
+        if marks::mark_of(token[i]) == NO_MARK {
             return i;
         }
         i += 1;

@@ -1,145 +1,28 @@
--- `class_of` of placement.rt meets its contract: r ≡ classOf b.
+-- `class_of` of placement.rt meets its contract: r ≡ classOf mark.
 use borrow.Author.Needs.{needs}
-use borrow.Author.Tests.{le-leb, lt-leb, ne-eqb}
-use mathlib.Core.Path.{_≡_, sym, ap, _∙_}
-use native.Mathlib.Omega.{arith}
-use Prim.Native.Nat.{_+_, _-_, _≤_}
-use Rattle.square.specs.Piece.{pieceOf}
+use borrow.Author.Tests.{eq-eqb, ne-eqb, lt-ltb, le-ltb}
 use Rattle.fen_reader.specs.CodeClass.{classOf}
-use Rattle.fen_reader.proofs.Classes.{class-digit, digit-small}
 use Rattle.fen_reader.proofs.placement.class_of.Statement.{statement}
 use Rattle.fen_reader.proofs.placement.class_of.Tie as tie
 
-sub-result : tie.Need-sub-result
-sub-result c = search needs
-
-add-result : tie.Need-add-result
-add-result c = record { fits = digit-small (c .before .before .before .args .b) (c .if2 .taken) }
-
 returns : tie.Need-returns
-unfolding classOf pieceOf
-returns c = sym (ap classOf (c .match .keys1))
+unfolding classOf
+returns c = simp (eq-eqb _ _ (c .if1 .taken))
 
 returns-2 : tie.Need-returns-2
-unfolding classOf pieceOf
-returns-2 c = sym (ap classOf (c .match .keys2))
+unfolding classOf
+returns-2 c = simp (ne-eqb _ _ (c .before .if1 .left), eq-eqb _ _ (c .if2 .taken))
+
+add-result : tie.Need-add-result
+add-result c = search needs
 
 returns-3 : tie.Need-returns-3
-unfolding classOf pieceOf
-returns-3 c = sym (ap classOf (c .match .keys3))
+unfolding classOf
+returns-3 c = simp (ne-eqb _ _ (c .before .before .if1 .left), ne-eqb _ _ (c .before .if2 .left), lt-ltb _ _ (c .if3 .taken))
 
 returns-4 : tie.Need-returns-4
-unfolding classOf pieceOf
-returns-4 c = sym (ap classOf (c .match .keys4))
-
-returns-5 : tie.Need-returns-5
-unfolding classOf pieceOf
-returns-5 c = sym (ap classOf (c .match .keys5))
-
-returns-6 : tie.Need-returns-6
-unfolding classOf pieceOf
-returns-6 c = sym (ap classOf (c .match .keys6))
-
-returns-7 : tie.Need-returns-7
-unfolding classOf pieceOf
-returns-7 c = sym (ap classOf (c .match .keys7))
-
-returns-8 : tie.Need-returns-8
-unfolding classOf pieceOf
-returns-8 c = sym (ap classOf (c .match .keys8))
-
-returns-9 : tie.Need-returns-9
-unfolding classOf pieceOf
-returns-9 c = sym (ap classOf (c .match .keys9))
-
-returns-10 : tie.Need-returns-10
-unfolding classOf pieceOf
-returns-10 c = sym (ap classOf (c .match .keys10))
-
-returns-11 : tie.Need-returns-11
-unfolding classOf pieceOf
-returns-11 c = sym (ap classOf (c .match .keys11))
-
-returns-12 : tie.Need-returns-12
-unfolding classOf pieceOf
-returns-12 c = sym (ap classOf (c .match .keys12))
-
-returns-13 : tie.Need-returns-13
-unfolding classOf pieceOf
-returns-13 c = sym (ap classOf (c .match .keys13))
-
-returns-14 : tie.Need-returns-14
-returns-14 c =
-    let b = c .before .before .before .args .b in
-    let l : 49 ≤ b = c .before .if1 .left in
-    let h : b ≤ 56 = omega arith in
-    let e : 16 + (b - 48) ≡ b - 32 = omega arith in
-    e ∙ sym (class-digit b l h)
-
-returns-15 : tie.Need-returns-15
-unfolding classOf pieceOf
-returns-15 c =
-    let black = c .before .match .rest in
-    let white = black .0 .0 .0 .0 .0 .0 in
-    simp (
-      lt-leb 49 _ (c .if1 .taken),
-      ne-eqb _ 47 (white .0 .0 .0 .0 .0 .0 .1),
-      ne-eqb _ 80 (white .0 .0 .0 .0 .0 .1),
-      ne-eqb _ 78 (white .0 .0 .0 .0 .1),
-      ne-eqb _ 66 (white .0 .0 .0 .1),
-      ne-eqb _ 82 (white .0 .0 .1),
-      ne-eqb _ 81 (white .0 .1),
-      ne-eqb _ 75 (white .1),
-      ne-eqb _ 112 (black .0 .0 .0 .0 .0 .1),
-      ne-eqb _ 110 (black .0 .0 .0 .0 .1),
-      ne-eqb _ 98 (black .0 .0 .0 .1),
-      ne-eqb _ 114 (black .0 .0 .1),
-      ne-eqb _ 113 (black .0 .1),
-      ne-eqb _ 107 (black .1),
-    )
-
-returns-16 : tie.Need-returns-16
-unfolding classOf pieceOf
-returns-16 c =
-    let black = c .before .before .match .rest in
-    let white = black .0 .0 .0 .0 .0 .0 in
-    simp (
-      le-leb 49 _ (c .before .if1 .left),
-      lt-leb _ 56 (c .if2 .left),
-      ne-eqb _ 47 (white .0 .0 .0 .0 .0 .0 .1),
-      ne-eqb _ 80 (white .0 .0 .0 .0 .0 .1),
-      ne-eqb _ 78 (white .0 .0 .0 .0 .1),
-      ne-eqb _ 66 (white .0 .0 .0 .1),
-      ne-eqb _ 82 (white .0 .0 .1),
-      ne-eqb _ 81 (white .0 .1),
-      ne-eqb _ 75 (white .1),
-      ne-eqb _ 112 (black .0 .0 .0 .0 .0 .1),
-      ne-eqb _ 110 (black .0 .0 .0 .0 .1),
-      ne-eqb _ 98 (black .0 .0 .0 .1),
-      ne-eqb _ 114 (black .0 .0 .1),
-      ne-eqb _ 113 (black .0 .1),
-      ne-eqb _ 107 (black .1),
-    )
+unfolding classOf
+returns-4 c = simp (ne-eqb _ _ (c .before .before .if1 .left), ne-eqb _ _ (c .before .if2 .left), le-ltb _ _ (c .if3 .left))
 
 pub class-of-spec : {M : Type 1} → statement M
-class-of-spec =
-    tie.close
-    (tie.spec
-    sub-result
-    add-result
-    returns
-    returns-2
-    returns-3
-    returns-4
-    returns-5
-    returns-6
-    returns-7
-    returns-8
-    returns-9
-    returns-10
-    returns-11
-    returns-12
-    returns-13
-    returns-14
-    returns-15
-    returns-16)
+class-of-spec = tie.close (tie.spec returns returns-2 add-result returns-3 returns-4)

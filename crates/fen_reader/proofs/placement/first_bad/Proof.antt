@@ -6,7 +6,7 @@ use Prim.Native.Nat.{_+_, _-_, _≤_, _<_, zero-le}
 use lib.ListN.{length, drop, getD}
 use Rattle.fen_text.specs.Placement.{isNoSign, firstBad}
 use Rattle.fen_text.proofs.Tokens.{where-hit, where-miss, where-end, where-start}
-use Rattle.fen_reader.proofs.Classes.{class-bad, class-good}
+use Rattle.fen_reader.proofs.Classes.{mark-bad, mark-good}
 use Rattle.fen_reader.proofs.placement.first_bad.Statement.{statement}
 use Rattle.fen_reader.proofs.placement.first_bad.Tie as tie
 
@@ -19,11 +19,11 @@ abbrev μ-loop : tie.MeasureT-loop
 loop-holds : tie.Need-loop-holds Inv-loop μ-loop
 loop-holds c = (zero-le, where-start _ _)
 
-shared-slice-read-class-of : tie.Need-shared-slice-read-class-of Inv-loop μ-loop
-shared-slice-read-class-of c = search needs
+shared-slice-read-mark-of : tie.Need-shared-slice-read-mark-of Inv-loop μ-loop
+shared-slice-read-mark-of c = search needs
 
-class-of-requires : tie.Need-class-of-requires Inv-loop μ-loop
-class-of-requires c κs = search needs
+mark-of-requires : tie.Need-mark-of-requires Inv-loop μ-loop
+mark-of-requires c κs = search needs
 
 returns : tie.Need-returns Inv-loop μ-loop
 returns c =
@@ -31,12 +31,12 @@ returns c =
     let at-loop = c .before .before .before .before .loop in
     let at-loop-test = c .before .before .before .loop-test in
     let at-shared-slice-known2 = c .before .before .shared-slice-known2 in
-    let at-class-of = c .before .class-of in
+    let at-mark-of = c .before .mark-of in
     let s = a .token .now in
     let i = at-loop .i in
     let byte : getD s i 0 < 256 = omega (arith, at-shared-slice-known2 .given i) in
     sym
-    (at-loop .inv .1 ∙ where-hit isNoSign s i (at-loop-test .taken) (class-bad (getD s i 0) (at-class-of .result) byte (at-class-of .ensures) (c .if1 .taken)))
+    (at-loop .inv .1 ∙ where-hit isNoSign s i (at-loop-test .taken) (mark-bad (getD s i 0) (at-mark-of .result) byte (at-mark-of .ensures) (c .if1 .taken)))
 
 add-i : tie.Need-add-i Inv-loop μ-loop
 add-i c = search needs
@@ -50,13 +50,13 @@ loop-again c =
     let at-loop = c .before .before .before .before .loop in
     let at-loop-test = c .before .before .before .loop-test in
     let at-shared-slice-known2 = c .before .before .shared-slice-known2 in
-    let at-class-of = c .before .class-of in
+    let at-mark-of = c .before .mark-of in
     let s = a .token .now in
     let i = at-loop .i in
     let byte : getD s i 0 < 256 = omega (arith, at-shared-slice-known2 .given i) in (
       search needs,
       at-loop .inv .1 ∙ where-miss isNoSign s i (at-loop-test .taken)
-          (class-good (getD s i 0) (at-class-of .result) byte (at-class-of .ensures) (c .if1 .left)),
+          (mark-good (getD s i 0) (at-mark-of .result) byte (at-mark-of .ensures) (c .if1 .left)),
     )
 
 returns-2 : tie.Need-returns-2 Inv-loop μ-loop
@@ -69,8 +69,8 @@ first-bad-spec =
     Inv-loop
     μ-loop
     loop-holds
-    shared-slice-read-class-of
-    class-of-requires
+    shared-slice-read-mark-of
+    mark-of-requires
     returns
     add-i
     loop-less

@@ -1,146 +1,105 @@
--- `place` of placement.rt meets its contract: Walk (now (text .entry)) r.
 use borrow.Author.Needs.{needs}
-use mathlib.Core.Path.{_≡_, refl, sym, ap, subst, _∙_}
-use native.Mathlib.Omega.{arith}
-use mathlib.Core.List.{List}
-use Prim.Native.Nat.{ℕ, _+_, _-_, _≤_, _<_, zero-le}
-use lib.Dec.{ltb, lit<}
-use lib.ListN.{length, take, drop, getD, length-set}
-use Rattle.fen_text.specs.Token.{placeOf}
-use Rattle.fen_text.specs.Placement.{Placement, placement, start, placeAll}
-use Rattle.fen_text.proofs.Tokens.{place-miss, where-start, place-hit, where-end}
-use Rattle.fen_reader.specs.CodeClass.{noClass, classOf}
-use Rattle.fen_reader.proofs.Classes.{class-at, table-long}
-use Rattle.fen_reader.proofs.Placing.{next, stored, turn, file-small, rank-small, at-start}
+use borrow.Author.Tests.{not-false}
+use mathlib.Core.Path.{_≡_, refl, sym, _∙_}
+use Rattle.fen_reader.proofs.QuickWalk.{quick}
 use Rattle.fen_reader.proofs.placement.place.Statement.{statement}
 use Rattle.fen_reader.proofs.placement.place.Tie as tie
+use Rattle.fen_reader.proofs.placement.place.Reads as reads
+use Rattle.fen_reader.proofs.placement.place.Lts as lts
+use Rattle.answer.proofs.all_at_most.Reads as all-at-most-reads
+use Rattle.fen_reader.proofs.marks.mark_all.Reads as mark-all-reads
+use Rattle.fen_reader.proofs.placement.walk.Reads as walk-reads
+use Rattle.fen_reader.proofs.places.ends.Reads as ends-reads
+use Rattle.fen_reader.proofs.places.files.Reads as files-reads
+use Rattle.fen_reader.proofs.places.lay.Reads as lay-reads
+use Rattle.fen_reader.proofs.places.slashes.Reads as slashes-reads
 
-abbrev Inv-loop : tie.InvT-loop
-Inv-loop text classes pieces₀ rank₀ file₀ seen₀ i₀ pieces rank file seen i =
-    (i ≤ length text) × (rank < 8) × (file < 8) × (length pieces ≡ 64)
-    × (placeAll start (take i text) ≡ placement pieces rank file (ltb seen noClass))
-    × (placeOf 32 text ≡ i + placeOf 32 (drop i text))
+-- src/placement.rt:110:5
+mark-all-requires : tie.Need-mark-all-requires
+mark-all-requires c κs = search needs
 
-abbrev μ-loop : tie.MeasureT-loop
-μ-loop text classes pieces₀ rank₀ file₀ seen₀ i₀ pieces rank file seen i = length text - i
+-- src/placement.rt:112:9
+lay-requires : tie.Need-lay-requires
+lay-requires c κs = (c .before .before .mark-all .ensures, refl)
 
-note-all-requires : tie.Need-note-all-requires Inv-loop μ-loop
-note-all-requires c κs = search needs
+-- src/placement.rt:114:5
+files-requires : tie.Need-files-requires
+files-requires c κs = (refl, c .before .before .lay .ensures .long)
 
-loop-holds : tie.Need-loop-holds Inv-loop μ-loop
-loop-holds c = (zero-le, lit< tt, lit< tt, refl, at-start, where-start _ _)
+-- src/placement.rt:116:9
+walk-requires : tie.Need-walk-requires
+walk-requires c κs = c .before .before .before .before .before .before .before .before .before .mark-all .ensures
 
-shared-slice-read-b : tie.Need-shared-slice-read-b Inv-loop μ-loop
-shared-slice-read-b c = search needs
+-- src/placement.rt:116:9
+returns : tie.Need-returns
+returns c = c .walk .ensures
 
-returns : tie.Need-returns Inv-loop μ-loop
-returns c =
-    let s = c .before .before .before .before .before .before .before .args .text .now in
-    let at = c .before .before .before .loop in
-    record {
-      place = sym (at .inv .5 ∙ place-hit 32 s (at .i) (c .before .before .loop-test .taken) (c .if1 .taken));
-      pieces = ap (λ (p : Placement). p .pieces) (at .inv .4);
-      good = ap (λ (p : Placement). p .good) (at .inv .4);
-    }
+-- src/placement.rt:118:9
+slashes-requires : tie.Need-slashes-requires
+slashes-requires c κs = c .before .before .before .before .before .before .lay .ensures .long
 
-wide-requires : tie.Need-wide-requires Inv-loop μ-loop
-wide-requires c κs = search needs
+-- src/placement.rt:119:9
+walk-requires-2 : tie.Need-walk-requires-2
+walk-requires-2 c κs = c .before .before .before .before .before .before .before .before .before .before .before .before .mark-all .ensures
 
-array-read-class : tie.Need-array-read-class Inv-loop μ-loop
-array-read-class c =
-    let s : List ℕ = c .before .before .before .before .before .before .before .before .args .text .now in
-    let i : ℕ = c .before .before .before .before .loop .i in
-    let b : ℕ = getD s i 0 in
-    let byte : b < 256 = omega (arith, c .before .before .shared-slice-known2 .given i) in
-    let place : c .wide .result ≡ b = c .wide .ensures in
-    let noted = c .before .before .before .before .before .note-all in
-    let long : length (noted .last .0) ≡ 256 = ap length (noted .ensures) ∙ table-long in
-    omega arith
+-- src/placement.rt:119:9
+returns-2 : tie.Need-returns-2
+returns-2 c = c .walk2 .ensures
 
-mul-at : tie.Need-mul-at Inv-loop μ-loop
-mul-at c = search needs
+-- src/placement.rt:121:29
+slice-aggregate-all-at-most : tie.Need-slice-aggregate-all-at-most
+slice-aggregate-all-at-most c = search needs
 
-add-at : tie.Need-add-at Inv-loop μ-loop
-add-at c = search needs
+-- src/placement.rt:121:9
+all-at-most-requires : tie.Need-all-at-most-requires
+all-at-most-requires c κs = search needs
 
-array-read-piece-after : tie.Need-array-read-piece-after Inv-loop μ-loop
-array-read-piece-after c = search needs
+-- src/placement.rt:122:9
+walk-requires-3 : tie.Need-walk-requires-3
+walk-requires-3 c κs = c .before .before .before .before .before .before .before .before .before .before .before .before .before .before .before .mark-all .ensures
 
-piece-after-requires : tie.Need-piece-after-requires Inv-loop μ-loop
-piece-after-requires c κs = search needs
+-- src/placement.rt:122:9
+returns-3 : tie.Need-returns-3
+returns-3 c = c .walk3 .ensures
 
-array-write-pieces : tie.Need-array-write-pieces Inv-loop μ-loop
-array-write-pieces c = search needs
+-- src/placement.rt:124:9
+ends-requires : tie.Need-ends-requires
+ends-requires c κs = search needs
 
-file-after-requires : tie.Need-file-after-requires Inv-loop μ-loop
-file-after-requires c κs = search needs
+-- src/placement.rt:125:9
+walk-requires-4 : tie.Need-walk-requires-4
+walk-requires-4 c κs = c .before .before .before .before .before .before .before .before .before .before .before .before .before .before .before .before .before .mark-all .ensures
 
-rank-after-requires : tie.Need-rank-after-requires Inv-loop μ-loop
-rank-after-requires c κs = search needs
+-- src/placement.rt:125:9
+returns-4 : tie.Need-returns-4
+returns-4 c = c .walk4 .ensures
 
-add-i : tie.Need-add-i Inv-loop μ-loop
-add-i c = search needs
-
-loop-less : tie.Need-loop-less Inv-loop μ-loop
-loop-less c = search needs
-
-loop-again : tie.Need-loop-again Inv-loop μ-loop
-loop-again c =
-    let s : List ℕ = c .before .before .before .before .before .before .before .before .before .before .before .args .text .now in
-    let at = c .before .before .before .before .before .before .before .loop in
-    let i : ℕ = at .i in
-    let r = at .rank in
-    let f = at .file in
-    let p = at .pieces in
-    let b : ℕ = getD s i 0 in
-    let byte : b < 256 = omega (arith, c .before .before .before .before .before .shared-slice-known2 .given i) in
-    let h : i < length s = c .before .before .before .before .before .before .loop-test .taken in
-    let noted = c .before .before .before .before .before .before .before .before .note-all in
-    let table : List ℕ = noted .last .0 in
-    let wide = c .before .before .before .wide in
-    let piece = c .before .before .piece-after in
-    let file = c .before .file-after in
-    let rank = c .rank-after in
-    let k = getD table (wide .result) 0 in
-    let class : k ≡ classOf b =
-    ap (λ (k : ℕ). getD table k 0) (wide .ensures) ∙ ap (λ (t : List ℕ). getD t b 0) (noted .ensures) ∙ class-at b byte in (
-      omega arith,
-      subst (λ (n : ℕ). n < 8) (sym (rank .ensures)) (rank-small r k (at .inv .1)),
-      subst (λ (n : ℕ). n < 8) (sym (file .ensures)) (file-small f k),
-      simp length-set (at .inv .3),
-      turn s i h (at .inv .4)
-          (next p r f (ltb (at .seen) noClass) b (at .inv .2)
-          ∙ stored p r f (at .seen) k (classOf b) (piece .result) (rank .result) (file .result) class (piece .ensures) (rank .ensures) (file .ensures)),
-      at .inv .5 ∙ place-miss 32 s i h (c .before .before .before .before .if1 .left),
-    )
-
-returns-2 : tie.Need-returns-2 Inv-loop μ-loop
-returns-2 c = record {
-  place = sym (c .before .loop .inv .5 ∙ where-end _ (c .before .before .before .before .before .args .text .now) (c .before .loop .i) (c .loop-test .left));
-  pieces = ap (λ (p : Placement). p .pieces) (c .before .loop .inv .4);
-  good = ap (λ (p : Placement). p .good) (c .before .loop .inv .4);
-}
+-- src/placement.rt:106:1
+returns-5 : tie.Need-returns-5
+returns-5 c = 
+    quick (c .before .before .before .before .before .before .before .before .before .before .before .before .before .before .before .before .before .before .before .args .text .now) (c .before .before .before .before .before .before .before .before .before .before .before .before .before .lay .last .1 .1 .0) (c .before .before .before .before .before .before .before .before .before .before .files .last .0) (c .before .before .before .before .before .before .before .before .before .before .before .before .before .lay .result) (c .before .before .before .before .before .before .before .before .before .before .before .before .before .lay .ensures) (c .before .before .before .before .before .before .before .before .if1 .left)
+    (c .before .before .before .before .before .before .slashes .ensures (not-false (c .before .before .before .before .before .before .slashes .result) (c .before .before .before .before .before .if2 .left)))
+    (c .before .before .before .before .before .before .before .before .before .before .files .ensures)
+    (sym (c .before .before .before .all-at-most .ensures) ∙ not-false (c .before .before .before .all-at-most .result) (c .before .before .if3 .left))
+    (c .before .ends .ensures (not-false (c .before .ends .result) (c .if4 .left)))
 
 pub place-spec : {M : Type 1} → statement M
 place-spec =
     tie.close
     (tie.spec
-    Inv-loop
-    μ-loop
-    note-all-requires
-    loop-holds
-    shared-slice-read-b
+    mark-all-requires
+    lay-requires
+    files-requires
+    walk-requires
     returns
-    wide-requires
-    array-read-class
-    mul-at
-    add-at
-    array-read-piece-after
-    piece-after-requires
-    array-write-pieces
-    file-after-requires
-    rank-after-requires
-    add-i
-    loop-less
-    loop-again
-    returns-2)
+    slashes-requires
+    walk-requires-2
+    returns-2
+    slice-aggregate-all-at-most
+    all-at-most-requires
+    walk-requires-3
+    returns-3
+    ends-requires
+    walk-requires-4
+    returns-4
+    returns-5)
