@@ -15,7 +15,7 @@ use Rattle.square.specs.Piece.{pieceOf}
 use Rattle.answer.proofs.Below.{below, agree}
 use Rattle.fen_text.specs.Placement.{isNoSign}
 use Rattle.fen_text.proofs.Keys.{piece-most}
-use Rattle.fen_reader.specs.CodeMarks.{slashMark, noMark, markOf, markAll, marked}
+use Rattle.fen_reader.specs.CodeMarks.{slashMark, noMark, byteMark, markAll, marked}
 use Rattle.fen_reader.specs.CodeClass.{noClass, classOf}
 
 -- what a byte is
@@ -47,30 +47,30 @@ pub kind : (b : ℕ) → Kind b
 kind b = kind-slash b (decLe b 46) (decLe b 47)
 
 -- the marks of each
-pub mark-slash : (b : ℕ) → b ≡ 47 → markOf b ≡ slashMark
-unfolding markOf
+pub mark-slash : (b : ℕ) → b ≡ 47 → byteMark b ≡ slashMark
+unfolding byteMark
 mark-slash b e = simp (eq-eqb _ _ e)
 
-pub mark-digit : (b : ℕ) → 49 ≤ b → b ≤ 56 → markOf b ≡ b - 48
-unfolding markOf
+pub mark-digit : (b : ℕ) → 49 ≤ b → b ≤ 56 → byteMark b ≡ b - 48
+unfolding byteMark
 mark-digit b l h =
     let n : b ≡ 47 → ⊥ = λ e. omega arith in
     simp (ne-eqb _ _ n, le-leb _ _ l, le-leb _ _ h)
 
-pub mark-letter : (b : ℕ) → eqb b 47 ≡ false → between 49 56 b ≡ false → eqb (pieceOf b) 0 ≡ false → markOf b ≡ pieceOf b * 16 + 1
-unfolding markOf
+pub mark-letter : (b : ℕ) → eqb b 47 ≡ false → between 49 56 b ≡ false → eqb (pieceOf b) 0 ≡ false → byteMark b ≡ pieceOf b * 16 + 1
+unfolding byteMark
 mark-letter b e f g = rw (e, f, g)
 
-pub mark-other : (b : ℕ) → eqb b 47 ≡ false → between 49 56 b ≡ false → eqb (pieceOf b) 0 ≡ true → markOf b ≡ noMark
-unfolding markOf
+pub mark-other : (b : ℕ) → eqb b 47 ≡ false → between 49 56 b ≡ false → eqb (pieceOf b) 0 ≡ true → byteMark b ≡ noMark
+unfolding byteMark
 mark-other b e f g = rw (e, f, g)
 
 -- and their classes
-pub class-slash : (b : ℕ) → b ≡ 47 → classOf (markOf b) ≡ 32
+pub class-slash : (b : ℕ) → b ≡ 47 → classOf (byteMark b) ≡ 32
 unfolding classOf
 class-slash b e = rw (mark-slash b e)
 
-pub class-digit : (b : ℕ) → 49 ≤ b → b ≤ 56 → classOf (markOf b) ≡ b - 32
+pub class-digit : (b : ℕ) → 49 ≤ b → b ≤ 56 → classOf (byteMark b) ≡ b - 32
 unfolding classOf
 class-digit b l h =
     let n : b - 48 ≡ slashMark → ⊥ = λ e. omega arith in
@@ -78,7 +78,7 @@ class-digit b l h =
     let few : b - 48 < 16 = omega arith in
     rw (mark-digit b l h) (simp (ne-eqb _ _ n, ne-eqb _ _ m, lt-ltb _ _ few) (omega arith))
 
-pub class-letter : (b : ℕ) → eqb b 47 ≡ false → between 49 56 b ≡ false → eqb (pieceOf b) 0 ≡ false → classOf (markOf b) ≡ pieceOf b
+pub class-letter : (b : ℕ) → eqb b 47 ≡ false → between 49 56 b ≡ false → eqb (pieceOf b) 0 ≡ false → classOf (byteMark b) ≡ pieceOf b
 unfolding classOf
 class-letter b e f g =
     let some : pieceOf b ≡ 0 → ⊥ = eqb-false _ _ g in
@@ -87,29 +87,29 @@ class-letter b e f g =
     let far : 16 ≤ pieceOf b * 16 + 1 = omega arith in
     rw (mark-letter b e f g) (simp (ne-eqb _ _ n, ne-eqb _ _ m, le-ltb _ _ far) (omega arith))
 
-pub class-other : (b : ℕ) → eqb b 47 ≡ false → between 49 56 b ≡ false → eqb (pieceOf b) 0 ≡ true → classOf (markOf b) ≡ noClass
+pub class-other : (b : ℕ) → eqb b 47 ≡ false → between 49 56 b ≡ false → eqb (pieceOf b) 0 ≡ true → classOf (byteMark b) ≡ noClass
 unfolding classOf
 class-other b e f g = rw (mark-other b e f g)
 
 -- 256 bytes, each computed
 right : ℕ → Bool
-right b = eqb (getD marked b 0) (markOf b)
+right b = eqb (getD marked b 0) (byteMark b)
 
-pub mark-at : (b : ℕ) → b < 256 → getD marked b 0 ≡ markOf b
-unfolding right markAll ascii markOf pieceOf
-mark-at b h = eqb→eq (getD marked b 0) (markOf b) (below right 256 tt b h)
+pub mark-at : (b : ℕ) → b < 256 → getD marked b 0 ≡ byteMark b
+unfolding right markAll ascii byteMark pieceOf
+mark-at b h = eqb→eq (getD marked b 0) (byteMark b) (below right 256 tt b h)
 
 pub table-long : length marked ≡ 256
 unfolding markAll ascii
 table-long = refl
 
 -- a byte is bad exactly if its mark is noMark
-bad-mark : (b : ℕ) → b < 256 → isNoSign b ≡ eqb (markOf b) noMark
-unfolding among ascii markOf pieceOf
-bad-mark b h = agree isNoSign (λ (x : ℕ). eqb (markOf x) noMark) 256 tt b h
+bad-mark : (b : ℕ) → b < 256 → isNoSign b ≡ eqb (byteMark b) noMark
+unfolding among ascii byteMark pieceOf
+bad-mark b h = agree isNoSign (λ (x : ℕ). eqb (byteMark x) noMark) 256 tt b h
 
-pub mark-bad : (b m : ℕ) → b < 256 → m ≡ markOf b → m ≡ noMark → isNoSign b ≡ true
+pub mark-bad : (b m : ℕ) → b < 256 → m ≡ byteMark b → m ≡ noMark → isNoSign b ≡ true
 mark-bad b m h e r = bad-mark b h ∙ eq-eqb _ _ (sym e ∙ r)
 
-pub mark-good : (b m : ℕ) → b < 256 → m ≡ markOf b → (m ≡ noMark → ⊥) → isNoSign b ≡ false
+pub mark-good : (b m : ℕ) → b < 256 → m ≡ byteMark b → (m ≡ noMark → ⊥) → isNoSign b ≡ false
 mark-good b m h e n = bad-mark b h ∙ ne-eqb _ _ (λ r. n (e ∙ r))

@@ -23,7 +23,7 @@ use Rattle.fen_text.proofs.Cases.{cond-both}
 use Rattle.fen_text.proofs.Faults.{four}
 use Rattle.fen_text.proofs.Placed.{place-append}
 use Rattle.fen_text.proofs.Keys.{piece-most}
-use Rattle.fen_reader.specs.CodeMarks.{markOf}
+use Rattle.fen_reader.specs.CodeMarks.{byteMark}
 use Rattle.fen_reader.specs.CodeClass.{NoPlacement, noClass, classOf, pieceAfter, stepOf, fileNext, rankNext}
 use Rattle.fen_reader.proofs.Classes.{Kind, slash, digit, letter, other, kind, class-slash, class-digit, class-letter, class-other}
 use Rattle.fen_reader.proofs.Reading.{first-token}
@@ -46,14 +46,14 @@ is-same l k r f g t u e p q = rw (e, p, q)
 
 -- one byte
 pub next : (pieces : List ℕ) (rank file : ℕ) (good : Bool) (b : ℕ) → file < 8
-    → placeByte (placement pieces rank file good) b ≡ after pieces rank file good (classOf (markOf b))
+    → placeByte (placement pieces rank file good) b ≡ after pieces rank file good (classOf (byteMark b))
 unfolding placeByte
 next pieces rank file good b small = by (kind b)
   where
     stays : pieces ≡ set pieces (squareOf rank file) (getD pieces (squareOf rank file) 0)
     stays = sym (set-getD pieces (squareOf rank file) 0)
 
-    by : Kind b → placeByte (placement pieces rank file good) b ≡ after pieces rank file good (classOf (markOf b))
+    by : Kind b → placeByte (placement pieces rank file good) b ≡ after pieces rank file good (classOf (byteMark b))
     by (slash e) = rw (class-slash b e) (simp (eq-eqb _ _ e) (is-same _ _ _ _ _ _ _ stays refl (sym (and-true good))))
     by (digit l m) =
         let n : b ≡ 47 → ⊥ = λ e. omega arith in

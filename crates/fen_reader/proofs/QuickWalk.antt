@@ -1,27 +1,25 @@
 -- The quick walk: where nothing is wrong with the places that were set down, it stands where the placement rule stands, and the files hold its pieces.
 -- Assumes nothing.
 use mathlib.Core.Path.{_≡_, refl, sym, ap, subst, _∙_}
-use mathlib.Core.Bool.{Bool, true, false, cond}
-use mathlib.Core.List.{List, [], _∷_}
+use mathlib.Core.Bool.{Bool, true, false}
+use mathlib.Core.List.{List}
 use Prim.Native.Nat.{ℕ, zero, suc, _+_, _*_, _-_, _/_, _%_, _≤_, _<_}
 use native.Mathlib.Decide.{decLe}
 use native.Mathlib.Omega.{arith}
 use lib.Dec.{eqb}
-use lib.ListN.{length, take, drop, getD, set, replicate, length-set}
+use lib.ListN.{length, take, getD, set, replicate, length-set}
 use lib.Seq.{getD-set-same, getD-set-other, ext-getD}
 use borrow.Author.Tests.{eq-eqb, ne-eqb, eqb-true, eqb-false, le-leb}
 use Rattle.answer.specs.Numbers.{between, allAtMost}
 use Rattle.answer.proofs.Bounds.{bound-at}
 use Rattle.square.specs.Piece.{pieceOf}
-use Rattle.fen_text.specs.Token.{placeOf}
 use Rattle.fen_text.specs.Placement.{Placement, start, down, skip, fill, placeByte, placeAll}
 use Rattle.fen_text.proofs.Keys.{piece-most}
 use Rattle.fen_text.proofs.Tokens.{place-miss, where-start}
-use Rattle.fen_reader.specs.declared.placement.Walked.{Walked}
 use Rattle.fen_reader.specs.declared.places.Stopped.{Stopped}
-use Rattle.fen_reader.specs.CodeMarks.{slashMark, noMark, markOf}
-use Rattle.fen_reader.specs.CodeClass.{PlacementWalk, foundFrom}
-use Rattle.fen_reader.specs.CodePlaces.{placeAt, Files, Right, Stands, Walks, Laid, Slashes}
+use Rattle.fen_reader.specs.CodeMarks.{slashMark, noMark, byteMark}
+use Rattle.fen_reader.specs.CodeClass.{PlacementWalk}
+use Rattle.fen_reader.specs.CodePlaces.{placeAt, Files, Right, Stands, Walks, Laid, Slashes, Tells}
 use Rattle.fen_reader.proofs.Classes.{Kind, slash, digit, letter, other, kind, mark-slash, mark-digit, mark-letter, mark-other}
 use Rattle.fen_reader.proofs.Placing.{turn}
 
@@ -81,11 +79,11 @@ module _ (places pieces : List ℕ) (at square rank gone column m c : ℕ) (here
 right-before : (places : List ℕ) (at m n : ℕ) → at ≤ n → Right (set places at m) n → Right places at
 right-before places at m n le ok = record {
   codes = λ k r f e hf h.
-    let n : k ≡ at → ⊥ = λ q. omega arith in
-    subst (λ (x : ℕ). x / 16 ≤ 12) (getD-set-other places at k m 0 n) (ok .codes k r f e hf (omega arith));
+      let n : k ≡ at → ⊥ = λ q. omega arith in
+      subst (λ (x : ℕ). x / 16 ≤ 12) (getD-set-other places at k m 0 n) (ok .codes k r f e hf (omega arith));
   slashes = λ k r e h.
-    let n : k ≡ at → ⊥ = λ q. omega arith in
-    sym (getD-set-other places at k m 0 n) ∙ ok .slashes k r e (omega arith);
+      let n : k ≡ at → ⊥ = λ q. omega arith in
+      sym (getD-set-other places at k m 0 n) ∙ ok .slashes k r e (omega arith);
 }
 
 -- one mark m, set down at a place, with n the place after it
@@ -201,16 +199,16 @@ module _ (p : Placement) (at n m : ℕ) (places : List ℕ) (low : at < 120) (lo
       omega (arith, here-slash (behind-files wide))
 
 -- every mark takes a place, and at most eight
-mark-places : (b : ℕ) → (1 ≤ markOf b % 16) × (markOf b % 16 ≤ 8)
+mark-places : (b : ℕ) → (1 ≤ byteMark b % 16) × (byteMark b % 16 ≤ 8)
 mark-places b = by (kind b)
   where
-    by : Kind b → (1 ≤ markOf b % 16) × (markOf b % 16 ≤ 8)
+    by : Kind b → (1 ≤ byteMark b % 16) × (byteMark b % 16 ≤ 8)
     by (slash e) = rw (mark-slash b e) (omega arith, omega arith)
     by (digit l h) = rw (mark-digit b l h) (omega arith, omega arith)
     by (letter e f g) = rw (mark-letter b e f g) (omega arith, omega arith)
     by (other e f g) = rw (mark-other b e f g) (omega arith, omega arith)
 
-pub places-taken : (b m : ℕ) → m ≡ markOf b → (1 ≤ m % 16) × (m % 16 ≤ 8)
+pub places-taken : (b m : ℕ) → m ≡ byteMark b → (1 ≤ m % 16) × (m % 16 ≤ 8)
 places-taken b m e = rw e (mark-places b)
 
 no-space : (b : ℕ) → eqb (pieceOf b) 0 ≡ false → b ≡ 32 → ⊥
@@ -220,7 +218,7 @@ no-space b g q = eqb-false (pieceOf b) 0 g (ap pieceOf q)
 -- one byte of the text
 module _ (s places : List ℕ) (i at m n : ℕ) (h : i < length s) (low : at < 120) (long : length places ≡ 128)
     (clear : (k : ℕ) → at ≤ k → getD places k 0 ≡ 0) (before : at ≤ 120 → Right places at → Walks s i at places)
-    (mark : m ≡ markOf (getD s i 0)) (next : n ≡ at + m % 16) where
+    (mark : m ≡ byteMark (getD s i 0)) (next : n ≡ at + m % 16) where
   pub still-clear : (k : ℕ) → n ≤ k → getD (set places at m) k 0 ≡ 0
   still-clear k le =
       let taken : 1 ≤ m % 16 = places-taken (getD s i 0) m mark .0 in
@@ -255,11 +253,11 @@ module _ (s places : List ℕ) (i at m n : ℕ) (h : i < length s) (low : at < 1
       by (digit l u) =
           let v : m ≡ b - 48 = mark ∙ mark-digit b l u in
           join (skip (b - 48) p) (rule-digit p b l u)
-              (after-digit p at n m places low long clear (w .stands) more short ok (b - 48) v (omega arith) (omega arith) (omega arith)) (λ q. omega arith)
+          (after-digit p at n m places low long clear (w .stands) more short ok (b - 48) v (omega arith) (omega arith) (omega arith)) (λ q. omega arith)
       by (letter e f g) =
           let v : m ≡ pieceOf b * 16 + 1 = mark ∙ mark-letter b e f g in
           join (fill (pieceOf b) p) (rule-letter p b e f g)
-              (after-letter p at n m places low long clear (w .stands) more short ok (pieceOf b) v (piece-most b) (omega arith)) (no-space b g)
+          (after-letter p at n m places low long clear (w .stands) more short ok (pieceOf b) v (piece-most b) (omega arith)) (no-space b g)
       by (other e f g) = absurd (no-other p at n m places low long clear (w .stands) more short ok (mark ∙ mark-other b e f g))
 
 -- before the first byte
@@ -288,10 +286,10 @@ walk-start s = record {
 right-behind : (places pieces : List ℕ) → Slashes places → Files places pieces → allAtMost 12 pieces ≡ true → Right places 120
 right-behind places pieces behind w few = record {
   codes = λ k r f e hf h.
-    let rank : 7 - r < 8 = omega arith in
-    let there : placeAt (7 - r) f ≡ k = omega arith in
-    let at : getD pieces ((7 - r) * 8 + f) 0 ≡ getD places k 0 / 16 = w .each (7 - r) f rank hf ∙ ap (λ (x : ℕ). getD places x 0 / 16) there in
-    omega (arith, bound-at 12 pieces ((7 - r) * 8 + f) few);
+      let rank : 7 - r < 8 = omega arith in
+      let there : placeAt (7 - r) f ≡ k = omega arith in
+      let at : getD pieces ((7 - r) * 8 + f) 0 ≡ getD places k 0 / 16 = w .each (7 - r) f rank hf ∙ ap (λ (x : ℕ). getD places x 0 / 16) there in
+      omega (arith, bound-at 12 pieces ((7 - r) * 8 + f) few);
   slashes = λ k r e h. ap (λ (x : ℕ). getD places x 0) e ∙ behind r (omega arith);
 }
 
@@ -306,13 +304,15 @@ one-board places a b v w = ext-getD 0 a b (v .long ∙ sym (w .long)) (λ k h. e
         let f : k % 8 < 8 = omega arith in
         ap (λ (x : ℕ). getD a x 0) (sym e) ∙ v .each (k / 8) (k % 8) r f ∙ sym (w .each (k / 8) (k % 8) r f) ∙ ap (λ (x : ℕ). getD b x 0) e
 
-pub quick : (s places pieces : List ℕ) (r : Stopped) → Laid s places r → r .at ≡ 120 → Slashes places → Files places pieces
-    → allAtMost 12 pieces ≡ true → foundFrom 32 s (r .end) ≡ r .end → PlacementWalk s (record { pieces = pieces; end = r .end; seen = 0 })
-quick s places pieces r laid last behind w few end =
-    let ok : Right places (r .at) = rw last (right-behind places pieces behind w few) in
+-- what the places tell is what the placement rule says
+pub quick : (s places pieces : List ℕ) (r : Stopped) → Laid s places r → Files places pieces → Tells s (r .at) (r .end) places pieces
+    → PlacementWalk s (record { pieces = pieces; end = r .end; seen = 0 })
+quick s places pieces r laid w t =
+    let last : r .at ≡ 120 = t .last in
+    let ok : Right places (r .at) = rw last (right-behind places pieces (t .slashes) w (t .codes)) in
     let there : Walks s (r .end) (r .at) places = laid .told (omega arith) ok in
     record {
-      place = sym (there .spaceless ∙ end);
+      place = sym (there .spaceless ∙ t .ends);
       pieces = one-board places _ pieces (there .stands .pieces) w;
       good = there .stands .good;
     }

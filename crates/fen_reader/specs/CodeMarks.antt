@@ -17,13 +17,13 @@ slashMark = 216
 abbrev pub noMark : ℕ
 noMark = 241
 
-unfoldable pub markOf : ℕ → ℕ
-markOf b = cond (eqb b 47) slashMark (cond (between 49 56 b) (b - 48) (cond (eqb (pieceOf b) 0) noMark (pieceOf b * 16 + 1)))
+unfoldable pub byteMark : ℕ → ℕ
+byteMark b = cond (eqb b 47) slashMark (cond (between 49 56 b) (b - 48) (cond (eqb (pieceOf b) 0) noMark (pieceOf b * 16 + 1)))
 
 -- a table in which the marks of some bytes are noted
 unfoldable pub markAll : List ℕ → List ℕ → List ℕ
 markAll [] table = table
-markAll (b ∷ bs) table = markAll bs (set table b (markOf b))
+markAll (b ∷ bs) table = markAll bs (set table b (byteMark b))
 
 -- the table that the walks look into
 abbrev pub marked : List ℕ

@@ -7,9 +7,11 @@ use mathlib.Core.Bool.{true, cond}
 use mathlib.Core.List.{List}
 use lib.Dec.{eqb}
 use lib.ListN.{length, take, drop, getD}
+use Rattle.answer.specs.Numbers.{allAtMost}
 use Rattle.fen_text.specs.Token.{placeOf}
 use Rattle.fen_text.specs.Placement.{Placement, start, placeAll}
 use Rattle.fen_reader.specs.CodeMarks.{slashMark}
+use Rattle.fen_reader.specs.CodeClass.{foundFrom}
 use Rattle.fen_reader.specs.declared.places.Stopped.{Stopped}
 
 -- the place of a file of a rank
@@ -60,3 +62,10 @@ missingAfter old mark = cond (eqb mark slashMark) old 1
 -- a slash stands behind each rank but the last
 abbrev pub Slashes : List ℕ → Type 0
 Slashes places = (r : ℕ) → r < 7 → getD places (r * 16 + 8) 0 ≡ slashMark
+
+-- the places tell the placement of a text: its last rank is full, nothing is wrong, and the first token ends where the walk did
+pub record Tells (s : List ℕ) (at end : ℕ) (places pieces : List ℕ) : Type 0 where
+  pub last : at ≡ 120
+  pub slashes : Slashes places
+  pub codes : allAtMost 12 pieces ≡ true
+  pub ends : foundFrom 32 s end ≡ end

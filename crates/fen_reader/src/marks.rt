@@ -3,14 +3,14 @@
 ghost use mathlib.Core.Path.{_≡_};
 ghost use lib.ListN.{set};
 ghost use Rattle.fen_text.specs.Placement.{signs};
-ghost use Rattle.fen_reader.specs.CodeMarks.{markOf, markAll};
+ghost use Rattle.fen_reader.specs.CodeMarks.{byteMark, markAll};
 
 pub(crate) const SLASH_MARK: u8 = 216;
 
 pub(crate) const NO_MARK: u8 = 241;
 
 pub(crate) fn mark_of(b: u8) -> u8
-    ensures { λ r. ⌜ r ≡ markOf b ⌝ }
+    ensures { λ r. ⌜ r ≡ byteMark b ⌝ }
 {
     match b {
         b'1'..=b'8' => b - b'0',
@@ -32,7 +32,7 @@ pub(crate) fn mark_of(b: u8) -> u8
 }
 
 fn mark(marks: &mut [u8; 256], b: u8)
-    ensures { λ _. ⌜ now (marks .exit) ≡ set (now (marks .entry)) b (markOf b) ⌝ }
+    ensures { λ _. ⌜ now (marks .exit) ≡ set (now (marks .entry)) b (byteMark b) ⌝ }
 {
     marks[b as usize] = mark_of(b);
 }

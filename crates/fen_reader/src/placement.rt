@@ -4,7 +4,6 @@ use crate::marks::NO_MARK;
 use crate::marks::SLASH_MARK;
 use crate::marks::wide;
 use crate::places;
-use crate::places::LAST;
 ghost use mathlib.Core.Path.{_≡_};
 ghost use Prim.Native.Nat.{_<_};
 ghost use Rattle.fen_text.specs.Placement.{firstBad};
@@ -112,23 +111,15 @@ pub(crate) fn place(text: &[u8]) -> Walked
     let stopped = places::lay(text, &marks, &mut laid);
     let mut pieces = [0u8; 64];
     places::files(&mut pieces, &laid);
-    if stopped.at != LAST {
-        return walk(text, &marks);
+    let end = stopped.end;
+    if places::tell(text, stopped.at, end, &laid, &pieces) {
+        return Walked {
+            pieces,
+            end,
+            seen: 0,
+        };
     }
-    if !places::slashes(&laid) {
-        return walk(text, &marks);
-    }
-    if !answer::all_at_most(&pieces, 12) {
-        return walk(text, &marks);
-    }
-    if !places::ends(text, stopped.end) {
-        return walk(text, &marks);
-    }
-    Walked {
-        pieces,
-        end: stopped.end,
-        seen: 0,
-    }
+    walk(text, &marks)
 }
 
 // The place of the first byte that may not stand in a placement, or the length if there is none.

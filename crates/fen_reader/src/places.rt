@@ -8,10 +8,10 @@ ghost use Prim.Native.Nat.{_<_};
 ghost use lib.ListN.{length, replicate};
 ghost use Rattle.fen_reader.specs.CodeMarks.{marked};
 ghost use Rattle.fen_reader.specs.CodeClass.{foundFrom};
-ghost use Rattle.fen_reader.specs.CodePlaces.{Laid, missingAfter, Slashes, RankSet, Files};
+ghost use Rattle.fen_reader.specs.CodePlaces.{Laid, missingAfter, Slashes, RankSet, Files, Tells};
 
 // The place behind the last rank's files.
-pub(crate) const LAST: usize = 120;
+const LAST: usize = 120;
 
 // Where a walk stopped: the place to set down next, and the byte.
 pub struct Stopped {
@@ -44,7 +44,7 @@ fn missing_after(old: u8, mark: u8) -> u8
 }
 
 // Whether a slash stands behind each rank but the last.
-pub(crate) fn slashes(places: &[u8; 128]) -> bool
+fn slashes(places: &[u8; 128]) -> bool
     requires { ⌜ length (now places) ≡ 128 ⌝ }
     ensures { λ r. ⌜ (r ≡ true → Slashes (now (places .entry))) ⌝ }
 {
@@ -81,11 +81,34 @@ pub(crate) fn files(pieces: &mut [u8; 64], places: &[u8; 128])
 }
 
 // Whether a token ends there.
-pub(crate) fn ends(text: &[u8], end: usize) -> bool
+fn ends(text: &[u8], end: usize) -> bool
     ensures { λ r. ⌜ (r ≡ true → foundFrom 32 (now (text .entry)) end ≡ end) ⌝ }
 {
     if text.len() <= end {
         return true;
     }
     text[end] == b' '
+}
+
+// Whether the places tell a text's placement: the last rank's files were passed, nothing is wrong with any place, and the token ends there.
+pub(crate) fn tell(
+    text: &[u8],
+    at: usize,
+    end: usize,
+    places: &[u8; 128],
+    pieces: &[u8; 64],
+) -> bool
+    requires { ⌜ length (now places) ≡ 128 ⌝ }
+    ensures { λ r. ⌜ (r ≡ true → Tells (now (text .entry)) at end (now (places .entry)) (now (pieces .entry))) ⌝ }
+{
+    if at != LAST {
+        return false;
+    }
+    if !slashes(places) {
+        return false;
+    }
+    if !answer::all_at_most(pieces, 12) {
+        return false;
+    }
+    ends(text, end)
 }

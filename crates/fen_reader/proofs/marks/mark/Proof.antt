@@ -1,4 +1,4 @@
--- `mark` of marks.rt meets its contract: now (marks .exit) ≡ set (now (marks .entry)) b (markOf b).
+-- `mark` of marks.rt meets its contract: now (marks .exit) ≡ set (now (marks .entry)) b (byteMark b).
 use borrow.Author.Needs.{needs}
 use mathlib.Core.Path.{ap}
 use lib.ListN.{set}

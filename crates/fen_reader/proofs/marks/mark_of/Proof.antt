@@ -1,11 +1,11 @@
--- `mark_of` of marks.rt meets its contract: r ≡ markOf b.
+-- `mark_of` of marks.rt meets its contract: r ≡ byteMark b.
 use borrow.Author.Needs.{needs}
 use borrow.Author.Tests.{le-leb, lt-leb, ne-eqb}
-use mathlib.Core.Path.{_≡_, sym, ap, _∙_}
+use mathlib.Core.Path.{sym, ap}
 use native.Mathlib.Omega.{arith}
-use Prim.Native.Nat.{_+_, _-_, _≤_}
+use Prim.Native.Nat.{_≤_}
 use Rattle.square.specs.Piece.{pieceOf}
-use Rattle.fen_reader.specs.CodeMarks.{markOf}
+use Rattle.fen_reader.specs.CodeMarks.{byteMark}
 use Rattle.fen_reader.proofs.Classes.{mark-digit}
 use Rattle.fen_reader.proofs.marks.mark_of.Statement.{statement}
 use Rattle.fen_reader.proofs.marks.mark_of.Tie as tie
@@ -14,56 +14,56 @@ sub-result : tie.Need-sub-result
 sub-result c = search needs
 
 returns : tie.Need-returns
-unfolding markOf pieceOf
-returns c = sym (ap markOf (c .match .keys1))
+unfolding byteMark pieceOf
+returns c = sym (ap byteMark (c .match .keys1))
 
 returns-2 : tie.Need-returns-2
-unfolding markOf pieceOf
-returns-2 c = sym (ap markOf (c .match .keys2))
+unfolding byteMark pieceOf
+returns-2 c = sym (ap byteMark (c .match .keys2))
 
 returns-3 : tie.Need-returns-3
-unfolding markOf pieceOf
-returns-3 c = sym (ap markOf (c .match .keys3))
+unfolding byteMark pieceOf
+returns-3 c = sym (ap byteMark (c .match .keys3))
 
 returns-4 : tie.Need-returns-4
-unfolding markOf pieceOf
-returns-4 c = sym (ap markOf (c .match .keys4))
+unfolding byteMark pieceOf
+returns-4 c = sym (ap byteMark (c .match .keys4))
 
 returns-5 : tie.Need-returns-5
-unfolding markOf pieceOf
-returns-5 c = sym (ap markOf (c .match .keys5))
+unfolding byteMark pieceOf
+returns-5 c = sym (ap byteMark (c .match .keys5))
 
 returns-6 : tie.Need-returns-6
-unfolding markOf pieceOf
-returns-6 c = sym (ap markOf (c .match .keys6))
+unfolding byteMark pieceOf
+returns-6 c = sym (ap byteMark (c .match .keys6))
 
 returns-7 : tie.Need-returns-7
-unfolding markOf pieceOf
-returns-7 c = sym (ap markOf (c .match .keys7))
+unfolding byteMark pieceOf
+returns-7 c = sym (ap byteMark (c .match .keys7))
 
 returns-8 : tie.Need-returns-8
-unfolding markOf pieceOf
-returns-8 c = sym (ap markOf (c .match .keys8))
+unfolding byteMark pieceOf
+returns-8 c = sym (ap byteMark (c .match .keys8))
 
 returns-9 : tie.Need-returns-9
-unfolding markOf pieceOf
-returns-9 c = sym (ap markOf (c .match .keys9))
+unfolding byteMark pieceOf
+returns-9 c = sym (ap byteMark (c .match .keys9))
 
 returns-10 : tie.Need-returns-10
-unfolding markOf pieceOf
-returns-10 c = sym (ap markOf (c .match .keys10))
+unfolding byteMark pieceOf
+returns-10 c = sym (ap byteMark (c .match .keys10))
 
 returns-11 : tie.Need-returns-11
-unfolding markOf pieceOf
-returns-11 c = sym (ap markOf (c .match .keys11))
+unfolding byteMark pieceOf
+returns-11 c = sym (ap byteMark (c .match .keys11))
 
 returns-12 : tie.Need-returns-12
-unfolding markOf pieceOf
-returns-12 c = sym (ap markOf (c .match .keys12))
+unfolding byteMark pieceOf
+returns-12 c = sym (ap byteMark (c .match .keys12))
 
 returns-13 : tie.Need-returns-13
-unfolding markOf pieceOf
-returns-13 c = sym (ap markOf (c .match .keys13))
+unfolding byteMark pieceOf
+returns-13 c = sym (ap byteMark (c .match .keys13))
 
 returns-14 : tie.Need-returns-14
 returns-14 c =
@@ -72,7 +72,7 @@ returns-14 c =
     sym (mark-digit b (c .before .if1 .left) h)
 
 returns-15 : tie.Need-returns-15
-unfolding markOf pieceOf
+unfolding byteMark pieceOf
 returns-15 c =
     let black = c .before .match .rest in
     let white = black .0 .0 .0 .0 .0 .0 in
@@ -94,7 +94,7 @@ returns-15 c =
     )
 
 returns-16 : tie.Need-returns-16
-unfolding markOf pieceOf
+unfolding byteMark pieceOf
 returns-16 c =
     let black = c .before .before .match .rest in
     let white = black .0 .0 .0 .0 .0 .0 in

@@ -1,18 +1,15 @@
 -- `files` of places.rt meets its contract: the pieces are what stands in the files.
 use borrow.Author.Needs.{needs}
-use mathlib.Core.Path.{_≡_, refl}
+use mathlib.Core.Path.{_≡_}
 use native.Mathlib.Omega.{arith}
 use Prim.Native.Nat.{_-_, _≤_}
 use lib.ListN.{length}
 use Rattle.fen_reader.proofs.PlaceLoops.{RanksTo, ranks-next}
 use Rattle.fen_reader.proofs.places.files.Statement.{statement}
 use Rattle.fen_reader.proofs.places.files.Tie as tie
-use Rattle.fen_reader.proofs.places.files.Reads as reads
-use Rattle.fen_reader.proofs.places.files.Lts as lts
-use Rattle.fen_reader.proofs.places.rank_of.Reads as rank-of-reads
 
 abbrev Inv-loop : tie.InvT-loop
-Inv-loop pieces₀ places rank₀ pieces rank = 
+Inv-loop pieces₀ places rank₀ pieces rank =
     (rank ≤ 8) × (length pieces ≡ 64) × (length places ≡ 128) × RanksTo places pieces rank
 
 abbrev μ-loop : tie.MeasureT-loop

@@ -6,19 +6,16 @@ use native.Mathlib.Omega.{arith}
 use Prim.Native.Nat.{ℕ, _+_, _-_, _%_, _≤_, _<_, zero-le}
 use lib.Dec.{lit<}
 use lib.ListN.{length, getD, replicate, length-set, length-replicate}
-use Rattle.fen_reader.specs.CodeMarks.{markOf, marked}
+use Rattle.fen_reader.specs.CodeMarks.{byteMark}
 use Rattle.fen_reader.specs.CodePlaces.{Right, Walks}
-use Rattle.fen_reader.proofs.Classes.{mark-at, table-long}
+use Rattle.fen_reader.proofs.Classes.{mark-at}
 use Rattle.fen_reader.proofs.QuickWalk.{empty, walk-start, walk-next, still-clear, places-taken}
 use Rattle.fen_reader.proofs.places.lay.Statement.{statement}
 use Rattle.fen_reader.proofs.places.lay.Tie as tie
-use Rattle.fen_reader.proofs.places.lay.Reads as reads
-use Rattle.fen_reader.proofs.places.lay.Lts as lts
-use Rattle.fen_reader.proofs.marks.wide.Reads as wide-reads
 
 abbrev Inv-loop : tie.InvT-loop
-Inv-loop text marks places₀ at₀ i₀ places at i = 
-    (i ≤ length text) × (at < 128) × (length places ≡ 128) × (marks ≡ marked)
+Inv-loop text marks places₀ at₀ i₀ places at i =
+    (i ≤ length text) × (at < 128) × (length places ≡ 128)
     × ((k : ℕ) → at ≤ k → getD places k 0 ≡ 0) × (at ≤ 120 → Right places at → Walks text i at places)
 
 abbrev μ-loop : tie.MeasureT-loop
@@ -32,7 +29,6 @@ loop-holds c =
       zero-le,
       lit< tt,
       ap length none ∙ length-replicate {A = ℕ} 128 0,
-      pre .0,
       λ k h. ap (λ (l : List ℕ). getD l k 0) none ∙ empty 128 k,
       λ _ _. subst (λ (l : List ℕ). Walks (a .text .now) 0 0 l) (sym none) (walk-start (a .text .now)),
     )
@@ -48,7 +44,6 @@ wide-requires c κs = search needs
 
 element-copy-out-mark : tie.Need-element-copy-out-mark Inv-loop μ-loop
 element-copy-out-mark c =
-    let s = c .before .before .before .before .before .before .args .text .now in
     let i = c .before .before .before .before .loop .i in
     omega (arith, c .wide .ensures, c .before .shared-slice-known2 .given i)
 
@@ -69,7 +64,8 @@ loop-less c = search needs
 
 loop-again : tie.Need-loop-again Inv-loop μ-loop
 loop-again c =
-    let a = c .before .before .before .before .before .before .before .before .args in
+    let head = c .before .before .before .before .before .before .before .before in
+    let a = head .args in
     let at = c .before .before .before .before .before .before .loop in
     let wide = c .before .before .wide in
     let s : List ℕ = a .text .now in
@@ -79,16 +75,15 @@ loop-again c =
     let b : ℕ = getD s i 0 in
     let byte : b < 256 = omega (arith, c .before .before .before .shared-slice-known2 .given i) in
     let m : ℕ = getD (a .marks .now) (wide .result) 0 in
-    let mark : m ≡ markOf b =
-    ap (λ (k : ℕ). getD (a .marks .now) k 0) (wide .ensures) ∙ ap (λ (t : List ℕ). getD t b 0) (at .inv .3) ∙ mark-at b byte in
+    let mark : m ≡ byteMark b =
+    ap (λ (k : ℕ). getD (a .marks .now) k 0) (wide .ensures) ∙ ap (λ (t : List ℕ). getD t b 0) (head .pre .0) ∙ mark-at b byte in
     let next : at .at + c .wide2 .result ≡ at .at + m % 16 = ap (λ (k : ℕ). at .at + k) (c .wide2 .ensures) in
     let n : ℕ = at .at + c .wide2 .result in (
       omega arith,
       omega (arith, places-taken b m mark),
       simp length-set (at .inv .2),
-      at .inv .3,
-      still-clear s (at .places) i (at .at) m n h low (at .inv .2) (at .inv .4) (at .inv .5) mark next,
-      walk-next s (at .places) i (at .at) m n h low (at .inv .2) (at .inv .4) (at .inv .5) mark next,
+      still-clear s (at .places) i (at .at) m n h low (at .inv .2) (at .inv .3) (at .inv .4) mark next,
+      walk-next s (at .places) i (at .at) m n h low (at .inv .2) (at .inv .3) (at .inv .4) mark next,
     )
 
 returns-2 : tie.Need-returns-2 Inv-loop μ-loop

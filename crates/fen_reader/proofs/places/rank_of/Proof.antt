@@ -2,16 +2,14 @@
 use borrow.Author.Needs.{needs}
 use mathlib.Core.Path.{_≡_, refl}
 use native.Mathlib.Omega.{arith}
-use Prim.Native.Nat.{ℕ, _+_, _*_, _-_, _≤_, _<_}
+use Prim.Native.Nat.{ℕ, _*_, _-_, _≤_, _<_}
 use lib.ListN.{length, getD, length-set}
 use Rattle.fen_reader.proofs.PlaceLoops.{FilesTo, files-next, below-stays}
 use Rattle.fen_reader.proofs.places.rank_of.Statement.{statement}
 use Rattle.fen_reader.proofs.places.rank_of.Tie as tie
-use Rattle.fen_reader.proofs.places.rank_of.Reads as reads
-use Rattle.fen_reader.proofs.places.rank_of.Lts as lts
 
 abbrev Inv-loop : tie.InvT-loop
-Inv-loop pieces₀ rank places file₀ pieces file = 
+Inv-loop pieces₀ rank places file₀ pieces file =
     (file ≤ 8) × (length pieces ≡ 64) × (length places ≡ 128) × FilesTo places pieces rank file
     × ((k : ℕ) → k < rank * 8 → getD pieces k 0 ≡ getD pieces₀ k 0)
 

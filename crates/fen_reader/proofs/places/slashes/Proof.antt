@@ -3,17 +3,14 @@ use borrow.Author.Needs.{needs}
 use borrow.Author.Tests.{eqb-true}
 use mathlib.Core.Path.{_≡_, refl}
 use native.Mathlib.Omega.{arith}
-use Prim.Native.Nat.{ℕ, _+_, _*_, _-_, _%_, _≤_, _<_}
-use lib.ListN.{length, getD}
+use Prim.Native.Nat.{_-_, _%_, _≤_}
+use lib.ListN.{length}
 use Rattle.fen_reader.proofs.PlaceLoops.{SlashesTo, slashes-next}
 use Rattle.fen_reader.proofs.places.slashes.Statement.{statement}
 use Rattle.fen_reader.proofs.places.slashes.Tie as tie
-use Rattle.fen_reader.proofs.places.slashes.Reads as reads
-use Rattle.fen_reader.proofs.places.slashes.Lts as lts
-use Rattle.fen_reader.proofs.places.missing_after.Reads as missing-after-reads
 
 abbrev Inv-loop : tie.InvT-loop
-Inv-loop places missing₀ from₀ missing from = 
+Inv-loop places missing₀ from₀ missing from =
     (from % 16 ≡ 8) × (from ≤ 120) × (length places ≡ 128) × (missing ≡ 0 → SlashesTo places from)
 
 abbrev μ-loop : tie.MeasureT-loop
