@@ -12,11 +12,12 @@ use borrow.Author.Tests.{eq-eqb, ne-eqb, lt-ltb, le-ltb, le-leb, ltb-true, ltb-f
 use lib.ListN.{length, take, getD, set, replicate}
 use lib.Seq.{set-getD, take-suc, length-take-le}
 use Rattle.answer.specs.Answer.{badPlacement, badSide}
+use Rattle.answer.specs.Numbers.{between}
 use Rattle.square.specs.Square.{squareOf}
 use Rattle.square.specs.Piece.{pieceOf}
 use Rattle.board_builder.specs.BoardBuilder.{board}
 use Rattle.fen_text.specs.Token.{tokens}
-use Rattle.fen_text.specs.Placement.{Placement, placement, start, placeByte, placeAll, firstBad}
+use Rattle.fen_text.specs.Placement.{Placement, placement, start, down, skip, fill, spoil, placeByte, placeAll, firstBad}
 use Rattle.fen_text.specs.Read.{sideOf, rightsOf, enPassantOf, refusedAt, fenOf, sided, assembled, readFen}
 use Rattle.fen_text.specs.Faults.{nthToken}
 use Rattle.fen_text.proofs.Cases.{cond-both}
@@ -44,33 +45,53 @@ after pieces rank file good c =
 is-same : (l k : List ℕ) (r f g : ℕ) (t u : Bool) → l ≡ k → f ≡ g → t ≡ u → placement l r f t ≡ placement k r g u
 is-same l k r f g t u e p q = rw (e, p, q)
 
+-- what the placement rule does with a byte of each kind
+pub rule-slash : (p : Placement) (b : ℕ) → b ≡ 47 → placeByte p b ≡ down p
+unfolding placeByte
+rule-slash p b e = simp (eq-eqb _ _ e)
+
+pub rule-digit : (p : Placement) (b : ℕ) → 49 ≤ b → b ≤ 56 → placeByte p b ≡ skip (b - 48) p
+unfolding placeByte
+rule-digit p b l h =
+    let n : b ≡ 47 → ⊥ = λ e. omega arith in
+    simp (ne-eqb _ _ n, le-leb _ _ l, le-leb _ _ h)
+
+pub rule-letter : (p : Placement) (b : ℕ) → eqb b 47 ≡ false → between 49 56 b ≡ false → eqb (pieceOf b) 0 ≡ false → placeByte p b ≡ fill (pieceOf b) p
+unfolding placeByte
+rule-letter p b e f g = rw (e, f, g)
+
+rule-other : (p : Placement) (b : ℕ) → eqb b 47 ≡ false → between 49 56 b ≡ false → eqb (pieceOf b) 0 ≡ true → placeByte p b ≡ spoil p
+unfolding placeByte
+rule-other p b e f g = rw (e, f, g)
+
 -- one byte
 pub next : (pieces : List ℕ) (rank file : ℕ) (good : Bool) (b : ℕ) → file < 8
     → placeByte (placement pieces rank file good) b ≡ after pieces rank file good (classOf (byteMark b))
-unfolding placeByte
 next pieces rank file good b small = by (kind b)
   where
+    p : Placement
+    p = placement pieces rank file good
+
     stays : pieces ≡ set pieces (squareOf rank file) (getD pieces (squareOf rank file) 0)
     stays = sym (set-getD pieces (squareOf rank file) 0)
 
-    by : Kind b → placeByte (placement pieces rank file good) b ≡ after pieces rank file good (classOf (byteMark b))
-    by (slash e) = rw (class-slash b e) (simp (eq-eqb _ _ e) (is-same _ _ _ _ _ _ _ stays refl (sym (and-true good))))
+    by : Kind b → placeByte p b ≡ after pieces rank file good (classOf (byteMark b))
+    by (slash e) = rule-slash p b e ∙ rw (class-slash b e) (is-same _ _ _ _ _ _ _ stays refl (sym (and-true good)))
     by (digit l m) =
-        let n : b ≡ 47 → ⊥ = λ e. omega arith in
         let c : b - 32 ≡ 32 → ⊥ = λ e. omega arith in
         let far : 16 ≤ b - 32 = omega arith in
         let low : b - 32 < noClass = omega arith in
         let less : b - 48 ≡ b - 32 - 16 = omega arith in
-        rw (class-digit b l m)
-        (simp (ne-eqb _ _ n, le-leb _ _ l, le-leb _ _ m, ne-eqb _ _ c, le-ltb _ _ far, lt-ltb _ _ low)
+        rule-digit p b l m
+        ∙ rw (class-digit b l m) (simp (ne-eqb _ _ c, le-ltb _ _ far, lt-ltb _ _ low)
         (is-same _ _ _ _ _ _ _ stays (ap (λ (m : ℕ). (file + m) % 8) less) (sym (and-true good))))
     by (letter e f g) =
         let few : pieceOf b < 16 = omega (arith, piece-most b) in
         let low : pieceOf b < noClass = omega (arith, piece-most b) in
         let c : pieceOf b ≡ 32 → ⊥ = λ q. omega (arith, piece-most b) in
-        rw (class-letter b e f g) (simp (e, f, g, ne-eqb _ _ c, lt-ltb _ _ few, lt-ltb _ _ low) (is-same _ _ _ _ _ _ _ refl refl (sym (and-true good))))
-    by (other e f g) =
-        rw (class-other b e f g) (simp (e, f, g) (is-same _ _ _ _ _ _ _ stays (omega arith) (sym (and-false good))))
+        rule-letter p b e f g
+        ∙ rw (class-letter b e f g) (simp (ne-eqb _ _ c, lt-ltb _ _ few, lt-ltb _ _ low) (is-same _ _ _ _ _ _ _ refl refl (sym (and-true good))))
+    by (other e f g) = rule-other p b e f g ∙ rw (class-other b e f g) (is-same _ _ _ _ _ _ _ stays (omega arith) (sym (and-false good)))
 
 -- the classes put together have the bit exactly if one of them has it
 low-both : (a c : ℕ) → ltb a noClass && ltb c noClass ≡ ltb (bitOr a c) noClass

@@ -9,8 +9,8 @@ use native.Mathlib.Omega.{arith}
 use lib.Dec.{eqb}
 use lib.ListN.{length, take, getD, set, replicate, length-set}
 use lib.Seq.{getD-set-same, getD-set-other, ext-getD}
-use borrow.Author.Tests.{eq-eqb, ne-eqb, eqb-true, eqb-false, le-leb}
-use Rattle.answer.specs.Numbers.{between, allAtMost}
+use borrow.Author.Tests.{eqb-true, eqb-false}
+use Rattle.answer.specs.Numbers.{allAtMost}
 use Rattle.answer.proofs.Bounds.{bound-at}
 use Rattle.square.specs.Piece.{pieceOf}
 use Rattle.fen_text.specs.Placement.{Placement, start, down, skip, fill, placeByte, placeAll}
@@ -21,22 +21,7 @@ use Rattle.fen_reader.specs.CodeMarks.{slashMark, noMark, byteMark}
 use Rattle.fen_reader.specs.CodeClass.{PlacementWalk}
 use Rattle.fen_reader.specs.CodePlaces.{placeAt, Files, Right, Stands, Walks, Laid, Slashes, Tells}
 use Rattle.fen_reader.proofs.Classes.{Kind, slash, digit, letter, other, kind, mark-slash, mark-digit, mark-letter, mark-other}
-use Rattle.fen_reader.proofs.Placing.{turn}
-
--- what the placement rule does with a byte of each kind
-rule-slash : (p : Placement) (b : ℕ) → b ≡ 47 → placeByte p b ≡ down p
-unfolding placeByte
-rule-slash p b e = simp (eq-eqb _ _ e)
-
-rule-digit : (p : Placement) (b : ℕ) → 49 ≤ b → b ≤ 56 → placeByte p b ≡ skip (b - 48) p
-unfolding placeByte
-rule-digit p b l h =
-    let n : b ≡ 47 → ⊥ = λ e. omega arith in
-    simp (ne-eqb _ _ n, le-leb _ _ l, le-leb _ _ h)
-
-rule-letter : (p : Placement) (b : ℕ) → eqb b 47 ≡ false → between 49 56 b ≡ false → eqb (pieceOf b) 0 ≡ false → placeByte p b ≡ fill (pieceOf b) p
-unfolding placeByte
-rule-letter p b e f g = rw (e, f, g)
+use Rattle.fen_reader.proofs.Placing.{rule-slash, rule-digit, rule-letter, turn}
 
 -- a mark is set down on a place that has the same code, or on none of the files
 same-code : (places : List ℕ) (at m k : ℕ) → at < length places → (k ≡ at → m / 16 ≡ getD places at 0 / 16)
