@@ -1,5 +1,5 @@
 pub mod Blocks
-pub mod Classes
+pub mod ByteMarks
 pub mod Placing
 pub mod QuickWalk
 pub mod PlaceLoops

@@ -1,14 +1,13 @@
--- The placement in one pass: a byte's class says what `placeByte` does, and the classes put together whether every byte may stand in a placement.
+-- The placement in one pass: a byte's mark says what `placeByte` does, and whether it may stand in a placement.
 -- Assumes nothing.
 use mathlib.Core.Path.{_≡_, refl, sym, ap, _∙_}
-use mathlib.Core.Bool.{Bool, true, false, _&&_, and-true, and-false}
+use mathlib.Core.Bool.{Bool, true, false, _&&_, not, cond, and-true, and-false}
 use mathlib.Core.List.{List, [], _∷_}
-use Prim.Native.Nat.{ℕ, _+_, _-_, _%_, _≤_, _<_}
+use Prim.Native.Nat.{ℕ, _+_, _*_, _-_, _/_, _%_, _≤_, _<_}
 use native.Mathlib.Numerals.{add-one}
 use native.Mathlib.Omega.{arith}
-use lib.Bits.{bitOr, or-lt, or-add-and, and-le-l, and-le-r}
 use lib.Dec.{eqb, ltb, lit<}
-use borrow.Author.Tests.{eq-eqb, ne-eqb, lt-ltb, le-ltb, le-leb, ltb-true, ltb-false}
+use borrow.Author.Tests.{eq-eqb, ne-eqb, eqb-false, lt-ltb, le-ltb, le-leb}
 use lib.ListN.{length, take, getD, set, replicate}
 use lib.Seq.{set-getD, take-suc, length-take-le}
 use Rattle.answer.specs.Answer.{badPlacement, badSide}
@@ -24,23 +23,23 @@ use Rattle.fen_text.proofs.Cases.{cond-both}
 use Rattle.fen_text.proofs.Faults.{four}
 use Rattle.fen_text.proofs.Placed.{place-append}
 use Rattle.fen_text.proofs.Keys.{piece-most}
-use Rattle.fen_reader.specs.CodeMarks.{byteMark}
-use Rattle.fen_reader.specs.CodeClass.{NoPlacement, noClass, classOf, pieceAfter, stepOf, fileNext, rankNext}
-use Rattle.fen_reader.proofs.Classes.{Kind, slash, digit, letter, other, kind, class-slash, class-digit, class-letter, class-other}
+use Rattle.fen_reader.specs.CodeMarks.{slashMark, noMark, byteMark}
+use Rattle.fen_reader.specs.CodeClass.{NoPlacement, noClass, pieceAfter, stepOf, fileNext, rankNext, seenAfter}
+use Rattle.fen_reader.proofs.ByteMarks.{Kind, slash, digit, letter, other, kind, mark-slash, mark-digit, mark-letter, mark-other}
 use Rattle.fen_reader.proofs.Reading.{first-token}
 
 -- the square to fill next stays on the board
 pub file-small : (file c : ℕ) → fileNext file c < 8
-file-small file c = cond-both (λ (x : ℕ). x < 8) (eqb c 32) {x = 0} {y = (file + stepOf c) % 8} (lit< tt) (omega arith)
+file-small file c = cond-both (λ (x : ℕ). x < 8) (eqb c slashMark) {x = 0} {y = (file + stepOf c) % 8} (lit< tt) (omega arith)
 
 pub rank-small : (rank c : ℕ) → rank < 8 → rankNext rank c < 8
-rank-small rank c h = cond-both (λ (x : ℕ). x < 8) (eqb c 32) {x = (rank + 7) % 8} {y = rank} (omega arith) h
+rank-small rank c h = cond-both (λ (x : ℕ). x < 8) (eqb c slashMark) {x = (rank + 7) % 8} {y = rank} (omega arith) h
 
--- the placement after a byte of this class
+-- the placement after a byte of this mark
 abbrev pub after : List ℕ → ℕ → ℕ → Bool → ℕ → Placement
-after pieces rank file good c =
-    placement (set pieces (squareOf rank file) (pieceAfter c (getD pieces (squareOf rank file) 0)))
-    (rankNext rank c) (fileNext file c) (good && ltb c noClass)
+after pieces rank file good m =
+    placement (set pieces (squareOf rank file) (pieceAfter m (getD pieces (squareOf rank file) 0)))
+    (rankNext rank m) (fileNext file m) (good && not (eqb m noMark))
 
 is-same : (l k : List ℕ) (r f g : ℕ) (t u : Bool) → l ≡ k → f ≡ g → t ≡ u → placement l r f t ≡ placement k r g u
 is-same l k r f g t u e p q = rw (e, p, q)
@@ -66,7 +65,7 @@ rule-other p b e f g = rw (e, f, g)
 
 -- one byte
 pub next : (pieces : List ℕ) (rank file : ℕ) (good : Bool) (b : ℕ) → file < 8
-    → placeByte (placement pieces rank file good) b ≡ after pieces rank file good (classOf (byteMark b))
+    → placeByte (placement pieces rank file good) b ≡ after pieces rank file good (byteMark b)
 next pieces rank file good b small = by (kind b)
   where
     p : Placement
@@ -75,38 +74,43 @@ next pieces rank file good b small = by (kind b)
     stays : pieces ≡ set pieces (squareOf rank file) (getD pieces (squareOf rank file) 0)
     stays = sym (set-getD pieces (squareOf rank file) 0)
 
-    by : Kind b → placeByte p b ≡ after pieces rank file good (classOf (byteMark b))
-    by (slash e) = rule-slash p b e ∙ rw (class-slash b e) (is-same _ _ _ _ _ _ _ stays refl (sym (and-true good)))
-    by (digit l m) =
-        let c : b - 32 ≡ 32 → ⊥ = λ e. omega arith in
-        let far : 16 ≤ b - 32 = omega arith in
-        let low : b - 32 < noClass = omega arith in
-        let less : b - 48 ≡ b - 32 - 16 = omega arith in
-        rule-digit p b l m
-        ∙ rw (class-digit b l m) (simp (ne-eqb _ _ c, le-ltb _ _ far, lt-ltb _ _ low)
-        (is-same _ _ _ _ _ _ _ stays (ap (λ (m : ℕ). (file + m) % 8) less) (sym (and-true good))))
+    by : Kind b → placeByte p b ≡ after pieces rank file good (byteMark b)
+    by (slash e) = rule-slash p b e ∙ rw (mark-slash b e) (is-same _ _ _ _ _ _ _ stays refl (sym (and-true good)))
+    by (digit l u) =
+        let few : b - 48 < 16 = omega arith in
+        let n : b - 48 ≡ slashMark → ⊥ = λ e. omega arith in
+        let o : b - 48 ≡ noMark → ⊥ = λ e. omega arith in
+        let same : b - 48 ≡ (b - 48) % 16 = omega arith in
+        rule-digit p b l u
+        ∙ rw (mark-digit b l u) (simp (ne-eqb _ _ n, ne-eqb _ _ o, lt-ltb _ _ few)
+        (is-same _ _ _ _ _ _ _ stays (ap (λ (m : ℕ). (file + m) % 8) same) (sym (and-true good))))
     by (letter e f g) =
-        let few : pieceOf b < 16 = omega (arith, piece-most b) in
-        let low : pieceOf b < noClass = omega (arith, piece-most b) in
-        let c : pieceOf b ≡ 32 → ⊥ = λ q. omega (arith, piece-most b) in
+        let m : ℕ = pieceOf b * 16 + 1 in
+        let some : pieceOf b ≡ 0 → ⊥ = eqb-false _ _ g in
+        let far : 16 ≤ m = omega arith in
+        let few : m < 208 = omega (arith, piece-most b) in
+        let n : m ≡ slashMark → ⊥ = λ q. omega arith in
+        let o : m ≡ noMark → ⊥ = λ q. omega arith in
+        let code : pieceOf b ≡ m / 16 = omega arith in
+        let one : 1 ≡ m % 16 = omega arith in
         rule-letter p b e f g
-        ∙ rw (class-letter b e f g) (simp (ne-eqb _ _ c, lt-ltb _ _ few, lt-ltb _ _ low) (is-same _ _ _ _ _ _ _ refl refl (sym (and-true good))))
-    by (other e f g) = rule-other p b e f g ∙ rw (class-other b e f g) (is-same _ _ _ _ _ _ _ stays (omega arith) (sym (and-false good)))
+        ∙ rw (mark-letter b e f g) (simp (ne-eqb _ _ n, ne-eqb _ _ o, le-ltb _ _ far, lt-ltb _ _ few)
+        (is-same _ _ _ _ _ _ _ (ap (λ (c : ℕ). set pieces (squareOf rank file) c) code) (ap (λ (m : ℕ). (file + m) % 8) one) (sym (and-true good))))
+    by (other e f g) = rule-other p b e f g ∙ rw (mark-other b e f g) (is-same _ _ _ _ _ _ _ stays (omega arith) (sym (and-false good)))
 
--- the classes put together have the bit exactly if one of them has it
-low-both : (a c : ℕ) → ltb a noClass && ltb c noClass ≡ ltb (bitOr a c) noClass
-low-both a c = go (ltb a noClass) refl (ltb c noClass) refl
+-- no byte so far was refused exactly if nothing is seen
+seen-next : (seen m : ℕ) → ltb seen noClass && not (eqb m noMark) ≡ ltb (seenAfter seen m) noClass
+seen-next seen m = by (eqb m noMark)
   where
-    go : (t : Bool) → ltb a noClass ≡ t → (u : Bool) → ltb c noClass ≡ u → t && u ≡ ltb (bitOr a c) noClass
-    go true e true f = sym (lt-ltb (bitOr a c) noClass (or-lt 6 a c (ltb-true a noClass e) (ltb-true c noClass f)))
-    go true e false f = sym (le-ltb (bitOr a c) noClass (omega (arith, ltb-false c noClass f, or-add-and a c, and-le-l a c)))
-    go false e u f = sym (le-ltb (bitOr a c) noClass (omega (arith, ltb-false a noClass e, or-add-and a c, and-le-r a c)))
+    by : (t : Bool) → ltb seen noClass && not t ≡ ltb (cond t noClass seen) noClass
+    by true = and-false (ltb seen noClass)
+    by false = and-true (ltb seen noClass)
 
--- the same, as the code has it: the class as it was looked up, what the three functions gave, and the classes so far
-pub stored : (pieces : List ℕ) (rank file a c d x r f : ℕ)
-    → c ≡ d → x ≡ pieceAfter c (getD pieces (squareOf rank file) 0) → r ≡ rankNext rank c → f ≡ fileNext file c
-    → after pieces rank file (ltb a noClass) d ≡ placement (set pieces (squareOf rank file) x) r f (ltb (bitOr a c) noClass)
-stored pieces rank file a c d x r f e g h k = rw (g, h, k, ← low-both a c, e)
+-- the same, as the code has it: the mark as it was looked up, and what the four functions gave
+pub stored : (pieces : List ℕ) (rank file seen m d x r f t : ℕ)
+    → m ≡ d → x ≡ pieceAfter m (getD pieces (squareOf rank file) 0) → r ≡ rankNext rank m → f ≡ fileNext file m → t ≡ seenAfter seen m
+    → after pieces rank file (ltb seen noClass) d ≡ placement (set pieces (squareOf rank file) x) r f (ltb t noClass)
+stored pieces rank file seen m d x r f t e g h k l = rw (g, h, k, l, ← seen-next seen m, e)
 
 -- one more byte
 pub turn : (s : List ℕ) (i : ℕ) {p q : Placement} → i < length s → placeAll start (take i s) ≡ p → placeByte p (getD s i 0) ≡ q

@@ -20,7 +20,7 @@ use Rattle.fen_reader.specs.declared.places.Stopped.{Stopped}
 use Rattle.fen_reader.specs.CodeMarks.{slashMark, noMark, byteMark}
 use Rattle.fen_reader.specs.CodeClass.{PlacementWalk}
 use Rattle.fen_reader.specs.CodePlaces.{placeAt, Files, Right, Stands, Walks, Laid, Slashes, Tells}
-use Rattle.fen_reader.proofs.Classes.{Kind, slash, digit, letter, other, kind, mark-slash, mark-digit, mark-letter, mark-other}
+use Rattle.fen_reader.proofs.ByteMarks.{Kind, slash, digit, letter, other, kind, mark-slash, mark-digit, mark-letter, mark-other}
 use Rattle.fen_reader.proofs.Placing.{rule-slash, rule-digit, rule-letter, turn}
 
 -- a mark is set down on a place that has the same code, or on none of the files

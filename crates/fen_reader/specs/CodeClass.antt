@@ -1,7 +1,7 @@
--- How the reader walks a placement: a class for each mark, and what a class does to the square to fill next. For its inner functions; the public
+-- How the reader walks any placement, byte by byte: what a mark does to the square to fill next. For its inner functions; the public
 -- contract does not speak of this.
 -- Assumes nothing.
-use Prim.Native.Nat.{ℕ, _+_, _-_, _/_, _%_}
+use Prim.Native.Nat.{ℕ, _+_, _/_, _%_}
 use mathlib.Core.Path.{_≡_}
 use mathlib.Core.Bool.{false, cond}
 use mathlib.Core.List.{List}
@@ -14,26 +14,25 @@ use Rattle.fen_reader.specs.CodeMarks.{slashMark, noMark}
 use Rattle.fen_reader.specs.declared.placement.Walked.{Walked}
 use Rattle.fen_reader.specs.declared.token.Sides.{Sides}
 
--- a class that no byte of a placement has
+-- what was seen in a token once one of its bytes may not stand in a placement
 abbrev pub noClass : ℕ
 noClass = 64
 
--- a mark's class: 32 for a slash, 16 more than a digit's number, a piece's code, noClass for any other byte
-unfoldable pub classOf : ℕ → ℕ
-classOf mark = cond (eqb mark slashMark) 32 (cond (eqb mark noMark) noClass (cond (ltb mark 16) (16 + mark) (mark / 16)))
-
 -- a piece is set down, or what stands there stays
 abbrev pub pieceAfter : ℕ → ℕ → ℕ
-pieceAfter class old = cond (ltb class 16) class old
+pieceAfter mark old = cond (ltb mark 16) old (cond (ltb mark 208) (mark / 16) old)
 
 abbrev pub stepOf : ℕ → ℕ
-stepOf class = cond (ltb class 16) 1 (class - 16)
+stepOf mark = cond (eqb mark noMark) 0 (mark % 16)
 
 abbrev pub fileNext : ℕ → ℕ → ℕ
-fileNext file class = cond (eqb class 32) 0 ((file + stepOf class) % 8)
+fileNext file mark = cond (eqb mark slashMark) 0 ((file + stepOf mark) % 8)
 
 abbrev pub rankNext : ℕ → ℕ → ℕ
-rankNext rank class = cond (eqb class 32) ((rank + 7) % 8) rank
+rankNext rank mark = cond (eqb mark slashMark) ((rank + 7) % 8) rank
+
+abbrev pub seenAfter : ℕ → ℕ → ℕ
+seenAfter seen mark = cond (eqb mark noMark) noClass seen
 
 -- the walk over a text: it ends at the first space or with the text, with the pieces of the first token, and tells whether that is a placement
 pub record PlacementWalk (s : List ℕ) (r : Walked) : Type 0 where

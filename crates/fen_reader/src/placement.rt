@@ -8,66 +8,64 @@ ghost use mathlib.Core.Path.{_≡_};
 ghost use Prim.Native.Nat.{_<_};
 ghost use Rattle.fen_text.specs.Placement.{firstBad};
 ghost use Rattle.fen_reader.specs.CodeMarks.{marked};
-ghost use Rattle.fen_reader.specs.CodeClass.{classOf, pieceAfter, stepOf, fileNext, rankNext, PlacementWalk};
+ghost use Rattle.fen_reader.specs.CodeClass.{pieceAfter, stepOf, fileNext, rankNext, seenAfter, PlacementWalk};
 
-// A mark's class: a piece's code, DIGIT and how many files it adds, SLASH, or REFUSED, a bit that no other class has and that leaves the board as it is.
-const DIGIT: u8 = 16;
-
-const SLASH: u8 = 32;
-
+// What was seen in a token once one of its bytes may not stand in a placement.
 pub(crate) const REFUSED: u8 = 64;
 
-fn class_of(mark: u8) -> u8
-    ensures { λ r. ⌜ r ≡ classOf mark ⌝ }
+// The marks of men lie between a digit's and a slash's.
+const LEAST_MAN: u8 = 16;
+
+const PAST_MEN: u8 = 208;
+
+fn piece_after(mark: u8, old: u8) -> u8
+    ensures { λ r. ⌜ r ≡ pieceAfter mark old ⌝ }
+{
+    if mark < LEAST_MAN {
+        return old;
+    }
+    if mark < PAST_MEN { mark / 16 } else { old }
+}
+
+fn step_of(mark: u8) -> u8
+    ensures { λ r. ⌜ r ≡ stepOf mark ⌝ }
+{
+    if mark == NO_MARK { 0 } else { mark % 16 }
+}
+
+fn file_after(file: usize, mark: u8) -> usize
+    requires { ⌜ file < 8 ⌝ }
+    ensures { λ r. ⌜ r ≡ fileNext file mark ⌝ }
+{
+    let next = (file + wide(step_of(mark))) % 8;
+    if mark == SLASH_MARK { 0 } else { next }
+}
+
+fn rank_after(rank: usize, mark: u8) -> usize
+    requires { ⌜ rank < 8 ⌝ }
+    ensures { λ r. ⌜ r ≡ rankNext rank mark ⌝ }
 {
     if mark == SLASH_MARK {
-        return SLASH;
+        (rank + 7) % 8
+    } else {
+        rank
     }
-    if mark == NO_MARK {
-        return REFUSED;
-    }
-    if mark < 16 {
-        return DIGIT + mark;
-    }
-    mark / 16
 }
 
-fn piece_after(class: u8, old: u8) -> u8
-    ensures { λ r. ⌜ r ≡ pieceAfter class old ⌝ }
+fn seen_after(seen: u8, mark: u8) -> u8
+    ensures { λ r. ⌜ r ≡ seenAfter seen mark ⌝ }
 {
-    if class < DIGIT { class } else { old }
+    if mark == NO_MARK { REFUSED } else { seen }
 }
 
-fn step_of(class: u8) -> u8
-    ensures { λ r. ⌜ r ≡ stepOf class ⌝ }
-{
-    if class < DIGIT { 1 } else { class - DIGIT }
-}
-
-fn file_after(file: usize, class: u8) -> usize
-    requires { ⌜ file < 8 ⌝ }
-    ensures { λ r. ⌜ r ≡ fileNext file class ⌝ }
-{
-    let next = (file + wide(step_of(class))) % 8;
-    if class == SLASH { 0 } else { next }
-}
-
-fn rank_after(rank: usize, class: u8) -> usize
-    requires { ⌜ rank < 8 ⌝ }
-    ensures { λ r. ⌜ r ≡ rankNext rank class ⌝ }
-{
-    if class == SLASH { (rank + 7) % 8 } else { rank }
-}
-
-// The pieces that a text's first token places, where the token ends, and the classes of its bytes put together: by `|`, so that no branch depends on a byte
-// except at the token's end.
+// The pieces that a text's first token places, where the token ends, and REFUSED if one of its bytes may not stand in a placement, else less.
 pub struct Walked {
     pub pieces: [u8; 64],
     pub end: usize,
     pub seen: u8,
 }
 
-// The walk for any text.
+// The walk for any text. No branch depends on a byte except at the token's end.
 fn walk(text: &[u8], marks: &[u8; 256]) -> Walked
     requires { ⌜ now marks ≡ marked ⌝ }
     ensures { λ r. ⌜ PlacementWalk (now (text .entry)) r ⌝ }
@@ -86,12 +84,12 @@ fn walk(text: &[u8], marks: &[u8; 256]) -> Walked
                 seen,
             };
         }
-        let class = class_of(marks[wide(b)]);
+        let mark = marks[wide(b)];
         let at = rank * 8 + file;
-        pieces[at] = piece_after(class, pieces[at]);
-        file = file_after(file, class);
-        rank = rank_after(rank, class);
-        seen = seen | class;
+        pieces[at] = piece_after(mark, pieces[at]);
+        file = file_after(file, mark);
+        rank = rank_after(rank, mark);
+        seen = seen_after(seen, mark);
         i += 1;
     }
     Walked {

@@ -6,7 +6,7 @@ use native.Mathlib.Omega.{arith}
 use Prim.Native.Nat.{_≤_}
 use Rattle.square.specs.Piece.{pieceOf}
 use Rattle.fen_reader.specs.CodeMarks.{byteMark}
-use Rattle.fen_reader.proofs.Classes.{mark-digit}
+use Rattle.fen_reader.proofs.ByteMarks.{mark-digit}
 use Rattle.fen_reader.proofs.marks.mark_of.Statement.{statement}
 use Rattle.fen_reader.proofs.marks.mark_of.Tie as tie
 

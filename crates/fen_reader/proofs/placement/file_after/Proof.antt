@@ -1,4 +1,4 @@
--- `file_after` of placement.rt meets its contract: r ≡ fileNext file class.
+-- `file_after` of placement.rt meets its contract: r ≡ fileNext file mark.
 use borrow.Author.Needs.{needs}
 use borrow.Author.Tests.{eq-eqb, ne-eqb}
 use mathlib.Core.Path.{sym, ap, _∙_}

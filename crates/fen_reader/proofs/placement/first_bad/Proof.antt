@@ -6,7 +6,7 @@ use Prim.Native.Nat.{_+_, _-_, _≤_, _<_, zero-le}
 use lib.ListN.{length, drop, getD}
 use Rattle.fen_text.specs.Placement.{isNoSign, firstBad}
 use Rattle.fen_text.proofs.Tokens.{where-hit, where-miss, where-end, where-start}
-use Rattle.fen_reader.proofs.Classes.{mark-bad, mark-good}
+use Rattle.fen_reader.proofs.ByteMarks.{mark-bad, mark-good}
 use Rattle.fen_reader.proofs.placement.first_bad.Statement.{statement}
 use Rattle.fen_reader.proofs.placement.first_bad.Tie as tie
 

@@ -1,4 +1,4 @@
--- `piece_after` of placement.rt meets its contract: r ≡ pieceAfter class old.
+-- `piece_after` of placement.rt meets its contract: r ≡ pieceAfter mark old.
 use borrow.Author.Tests.{lt-ltb, le-ltb}
 use Rattle.fen_reader.proofs.placement.piece_after.Statement.{statement}
 use Rattle.fen_reader.proofs.placement.piece_after.Tie as tie
@@ -7,7 +7,10 @@ returns : tie.Need-returns
 returns c = simp (lt-ltb _ _ (c .if1 .taken))
 
 returns-2 : tie.Need-returns-2
-returns-2 c = simp (le-ltb _ _ (c .if1 .left))
+returns-2 c = simp (le-ltb _ _ (c .before .if1 .left), lt-ltb _ _ (c .if2 .taken))
+
+returns-3 : tie.Need-returns-3
+returns-3 c = simp (le-ltb _ _ (c .before .if1 .left), le-ltb _ _ (c .if2 .left))
 
 pub piece-after-spec : {M : Type 1} → statement M
-piece-after-spec = tie.close (tie.spec returns returns-2)
+piece-after-spec = tie.close (tie.spec returns returns-2 returns-3)

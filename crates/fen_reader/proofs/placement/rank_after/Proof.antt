@@ -1,4 +1,4 @@
--- `rank_after` of placement.rt meets its contract: r ≡ rankNext rank class.
+-- `rank_after` of placement.rt meets its contract: r ≡ rankNext rank mark.
 use borrow.Author.Needs.{needs}
 use borrow.Author.Tests.{eq-eqb, ne-eqb}
 use Rattle.fen_reader.proofs.placement.rank_after.Statement.{statement}

@@ -10,8 +10,8 @@ use Rattle.fen_text.specs.Token.{placeOf}
 use Rattle.fen_text.specs.Placement.{Placement, placement, start, placeAll}
 use Rattle.fen_text.proofs.Tokens.{place-miss, where-start, place-hit, where-end}
 use Rattle.fen_reader.specs.CodeMarks.{byteMark}
-use Rattle.fen_reader.specs.CodeClass.{noClass, classOf}
-use Rattle.fen_reader.proofs.Classes.{mark-at}
+use Rattle.fen_reader.specs.CodeClass.{noClass}
+use Rattle.fen_reader.proofs.ByteMarks.{mark-at}
 use Rattle.fen_reader.proofs.Placing.{next, stored, turn, file-small, rank-small, at-start}
 use Rattle.fen_reader.proofs.placement.walk.Statement.{statement}
 use Rattle.fen_reader.proofs.placement.walk.Tie as tie
@@ -44,13 +44,10 @@ returns c =
 wide-requires : tie.Need-wide-requires Inv-loop μ-loop
 wide-requires c κs = search needs
 
-element-copy-out-class-of : tie.Need-element-copy-out-class-of Inv-loop μ-loop
-element-copy-out-class-of c =
+element-copy-out-mark : tie.Need-element-copy-out-mark Inv-loop μ-loop
+element-copy-out-mark c =
     let i : ℕ = c .before .before .before .before .loop .i in
     omega (arith, c .wide .ensures, c .before .before .shared-slice-known2 .given i)
-
-class-of-requires : tie.Need-class-of-requires Inv-loop μ-loop
-class-of-requires c κs = search needs
 
 mul-at : tie.Need-mul-at Inv-loop μ-loop
 mul-at c = search needs
@@ -73,6 +70,9 @@ file-after-requires c κs = search needs
 rank-after-requires : tie.Need-rank-after-requires Inv-loop μ-loop
 rank-after-requires c κs = search needs
 
+seen-after-requires : tie.Need-seen-after-requires Inv-loop μ-loop
+seen-after-requires c κs = search needs
+
 add-i : tie.Need-add-i Inv-loop μ-loop
 add-i c = search needs
 
@@ -81,38 +81,34 @@ loop-less c = search needs
 
 loop-again : tie.Need-loop-again Inv-loop μ-loop
 loop-again c =
-    let at-loop = c .before .before .before .before .before .before .before .before .before .loop in
-    let at-loop-test = c .before .before .before .before .before .before .before .before .loop-test in
-    let at-shared-slice-known2 = c .before .before .before .before .before .before .before .shared-slice-known2 in
-    let at-if1 = c .before .before .before .before .before .before .if1 in
-    let at-wide = c .before .before .before .before .before .wide in
-    let at-class-of = c .before .before .before .class-of in
-    let at-piece-after = c .before .before .piece-after in
-    let at-file-after = c .before .file-after in
     let head = c .before .before .before .before .before .before .before .before .before .before .before in
+    let at = c .before .before .before .before .before .before .before .before .before .loop in
     let s : List ℕ = head .args .text .now in
     let table : List ℕ = head .args .marks .now in
-    let i : ℕ = at-loop .i in
-    let r = at-loop .rank in
-    let f = at-loop .file in
-    let p = at-loop .pieces in
+    let i : ℕ = at .i in
+    let r = at .rank in
+    let f = at .file in
+    let p = at .pieces in
     let b : ℕ = getD s i 0 in
-    let byte : b < 256 = omega (arith, at-shared-slice-known2 .given i) in
-    let h : i < length s = at-loop-test .taken in
-    let rank = c .rank-after in
-    let mark : getD table (at-wide .result) 0 ≡ byteMark b =
-    ap (λ (k : ℕ). getD table k 0) (at-wide .ensures) ∙ ap (λ (t : List ℕ). getD t b 0) (head .pre) ∙ mark-at b byte in
-    let k : ℕ = at-class-of .result in
-    let known : k ≡ classOf (byteMark b) = at-class-of .ensures ∙ ap classOf mark in (
+    let byte : b < 256 = omega (arith, c .before .before .before .before .before .before .before .shared-slice-known2 .given i) in
+    let h : i < length s = c .before .before .before .before .before .before .before .before .loop-test .taken in
+    let wide = c .before .before .before .before .before .wide in
+    let piece = c .before .before .before .piece-after in
+    let file = c .before .before .file-after in
+    let rank = c .before .rank-after in
+    let seen = c .seen-after in
+    let m : ℕ = getD table (wide .result) 0 in
+    let mark : m ≡ byteMark b =
+    ap (λ (k : ℕ). getD table k 0) (wide .ensures) ∙ ap (λ (t : List ℕ). getD t b 0) (head .pre) ∙ mark-at b byte in (
       omega arith,
-      subst (λ (n : ℕ). n < 8) (sym (rank .ensures)) (rank-small r k (at-loop .inv .1)),
-      subst (λ (n : ℕ). n < 8) (sym (at-file-after .ensures)) (file-small f k),
-      simp length-set (at-loop .inv .3),
-      turn s i h (at-loop .inv .4)
-          (next p r f (ltb (at-loop .seen) noClass) b (at-loop .inv .2)
-          ∙ stored p r f (at-loop .seen) k (classOf (byteMark b)) (at-piece-after .result) (rank .result) (at-file-after .result) known
-          (at-piece-after .ensures) (rank .ensures) (at-file-after .ensures)),
-      at-loop .inv .5 ∙ place-miss 32 s i h (at-if1 .left),
+      subst (λ (n : ℕ). n < 8) (sym (rank .ensures)) (rank-small r m (at .inv .1)),
+      subst (λ (n : ℕ). n < 8) (sym (file .ensures)) (file-small f m),
+      simp length-set (at .inv .3),
+      turn s i h (at .inv .4)
+          (next p r f (ltb (at .seen) noClass) b (at .inv .2)
+          ∙ stored p r f (at .seen) m (byteMark b) (piece .result) (rank .result) (file .result) (seen .result) mark
+          (piece .ensures) (rank .ensures) (file .ensures) (seen .ensures)),
+      at .inv .5 ∙ place-miss 32 s i h (c .before .before .before .before .before .before .if1 .left),
     )
 
 returns-2 : tie.Need-returns-2 Inv-loop μ-loop
@@ -132,8 +128,7 @@ walk-spec =
     shared-slice-read-b
     returns
     wide-requires
-    element-copy-out-class-of
-    class-of-requires
+    element-copy-out-mark
     mul-at
     add-at
     array-read-piece-after
@@ -141,6 +136,7 @@ walk-spec =
     array-write-pieces
     file-after-requires
     rank-after-requires
+    seen-after-requires
     add-i
     loop-less
     loop-again

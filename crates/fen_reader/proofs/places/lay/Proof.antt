@@ -8,7 +8,7 @@ use lib.Dec.{lit<}
 use lib.ListN.{length, getD, replicate, length-set, length-replicate}
 use Rattle.fen_reader.specs.CodeMarks.{byteMark}
 use Rattle.fen_reader.specs.CodePlaces.{Right, Walks}
-use Rattle.fen_reader.proofs.Classes.{mark-at}
+use Rattle.fen_reader.proofs.ByteMarks.{mark-at}
 use Rattle.fen_reader.proofs.QuickWalk.{empty, walk-start, walk-next, still-clear, places-taken}
 use Rattle.fen_reader.proofs.places.lay.Statement.{statement}
 use Rattle.fen_reader.proofs.places.lay.Tie as tie

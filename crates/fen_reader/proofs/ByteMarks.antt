@@ -1,4 +1,4 @@
--- What a byte's mark and its class say: a slash, a digit, a piece's letter, or none of these. And the table that the reader fills: it holds each byte's mark.
+-- What a byte's mark says: a slash, a digit, a piece's letter, or none of these. And the table that the reader fills: it holds each byte's mark.
 -- Assumes nothing.
 use mathlib.Core.Path.{_≡_, refl, sym, _∙_}
 use mathlib.Core.Bool.{Bool, true, false}
@@ -7,16 +7,14 @@ use native.Mathlib.Decide.{decLe}
 use native.Mathlib.Omega.{arith}
 use lib.Dec.{eqb, eqb→eq}
 use lib.ListN.{length, getD}
-use borrow.Author.Tests.{eq-eqb, ne-eqb, eqb-false, lt-ltb, le-ltb, le-leb, lt-leb}
+use borrow.Author.Tests.{eq-eqb, ne-eqb, le-leb, lt-leb}
 use Rattle.answer.specs.Ascii.{ascii}
 use Rattle.answer.specs.Numbers.{between}
 use Rattle.answer.specs.Numbers.{among}
 use Rattle.square.specs.Piece.{pieceOf}
 use Rattle.answer.proofs.Below.{below, agree}
 use Rattle.fen_text.specs.Placement.{isNoSign}
-use Rattle.fen_text.proofs.Keys.{piece-most}
 use Rattle.fen_reader.specs.CodeMarks.{slashMark, noMark, byteMark, markAll, marked}
-use Rattle.fen_reader.specs.CodeClass.{noClass, classOf}
 
 -- what a byte is
 pub data Kind (b : ℕ) : Type 0 where
@@ -64,32 +62,6 @@ mark-letter b e f g = rw (e, f, g)
 pub mark-other : (b : ℕ) → eqb b 47 ≡ false → between 49 56 b ≡ false → eqb (pieceOf b) 0 ≡ true → byteMark b ≡ noMark
 unfolding byteMark
 mark-other b e f g = rw (e, f, g)
-
--- and their classes
-pub class-slash : (b : ℕ) → b ≡ 47 → classOf (byteMark b) ≡ 32
-unfolding classOf
-class-slash b e = rw (mark-slash b e)
-
-pub class-digit : (b : ℕ) → 49 ≤ b → b ≤ 56 → classOf (byteMark b) ≡ b - 32
-unfolding classOf
-class-digit b l h =
-    let n : b - 48 ≡ slashMark → ⊥ = λ e. omega arith in
-    let m : b - 48 ≡ noMark → ⊥ = λ e. omega arith in
-    let few : b - 48 < 16 = omega arith in
-    rw (mark-digit b l h) (simp (ne-eqb _ _ n, ne-eqb _ _ m, lt-ltb _ _ few) (omega arith))
-
-pub class-letter : (b : ℕ) → eqb b 47 ≡ false → between 49 56 b ≡ false → eqb (pieceOf b) 0 ≡ false → classOf (byteMark b) ≡ pieceOf b
-unfolding classOf
-class-letter b e f g =
-    let some : pieceOf b ≡ 0 → ⊥ = eqb-false _ _ g in
-    let n : pieceOf b * 16 + 1 ≡ slashMark → ⊥ = λ q. omega arith in
-    let m : pieceOf b * 16 + 1 ≡ noMark → ⊥ = λ q. omega (arith, piece-most b) in
-    let far : 16 ≤ pieceOf b * 16 + 1 = omega arith in
-    rw (mark-letter b e f g) (simp (ne-eqb _ _ n, ne-eqb _ _ m, le-ltb _ _ far) (omega arith))
-
-pub class-other : (b : ℕ) → eqb b 47 ≡ false → between 49 56 b ≡ false → eqb (pieceOf b) 0 ≡ true → classOf (byteMark b) ≡ noClass
-unfolding classOf
-class-other b e f g = rw (mark-other b e f g)
 
 -- 256 bytes, each computed
 right : ℕ → Bool
