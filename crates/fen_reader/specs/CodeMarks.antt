@@ -10,7 +10,7 @@ use Rattle.answer.specs.Numbers.{between}
 use Rattle.square.specs.Piece.{pieceOf}
 use Rattle.fen_text.specs.Placement.{signs}
 
--- a mark in its low half: how many places the byte takes. In its high half: a piece's code, 0 of a digit, 13 of a slash, 15 of any other byte
+-- a mark's low half says how many places the byte takes; its high half is a piece's code, 0 of a digit, 13 of a slash, 15 of any other byte
 abbrev pub slashMark : ℕ
 slashMark = 216
 
