@@ -1,7 +1,7 @@
 /* How long a read and a write of a FEN take through the archive, on the positions of a file, each different: the crate's pair on the lines as they are,
  * the full pair on the same positions with the counters of a game.
  *
- *     rt staticlib menkhodur
+ *     host/archive --if-older
  *     gcc -std=c11 -O2 bench/fen.c target/staticlib/libmenkhodur.a -o target/bench_fen && target/bench_fen examples/positions.fen
  */
 #define _POSIX_C_SOURCE 199309L

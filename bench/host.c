@@ -1,7 +1,7 @@
 /* How long each function takes through the archive: nanoseconds per call, the best of several rounds. A call goes through a pointer,
  * which is in the time.
  *
- *     rt staticlib menkhodur
+ *     host/archive --if-older
  *     gcc -std=c11 -O2 bench/host.c target/staticlib/libmenkhodur.a -o target/bench_host && target/bench_host examples/positions.fen
  *
  * FEN: the positions of the file, each different; for the full pair with the counters of a game. Page and report: the file's lines, and the lines twice as

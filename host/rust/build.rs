@@ -1,28 +1,21 @@
-//! Finds the archive that the package links, or has it built from the repository that the package stands in, and refuses one of another
-//! version than the package was written for.
+//! Finds the archive that the package links, or has `host/archive` make it in the repository that the package stands in, and refuses one
+//! of another version than the package was written for.
 
 use std::env;
-use std::fs::{self, File};
-use std::io::{self, ErrorKind};
+use std::fs;
+use std::io::{BufRead, BufReader};
 use std::path::{Path, PathBuf};
-use std::process::Command;
-use std::time::SystemTime;
+use std::process::{Command, Stdio};
 use version::VERSION;
 
 #[path = "src/version.rs"]
 mod version;
 
 const ARCHIVE: &str = "libmenkhodur.a";
+const MAKER: &str = "host/archive";
 const DIRECTORY_VARIABLE: &str = "MENKHODUR_ARCHIVE_DIR";
 const VERSION_FUNCTION: &str = "menkhodur_version";
 const PROBE: &str = r#"unsafe extern "C" { safe fn menkhodur_version() -> u64; } fn main() { println!("{}", menkhodur_version()); }"#;
-
-/// A file or directory that the archive is made from, as a path in the repository.
-struct Source {
-    path: PathBuf,
-    is_file: bool,
-    modified: SystemTime,
-}
 
 fn main() {
     println!("cargo::rerun-if-env-changed={DIRECTORY_VARIABLE}");
@@ -57,94 +50,37 @@ fn named_directory(named: &Path) -> Result<PathBuf, String> {
     }
 }
 
+/// The repository's own, which `host/archive` has made, or makes now: it alone says what the archive is made from and whether it is older.
 fn repository_directory() -> Result<PathBuf, String> {
     let apart = |_| format!("the package does not stand in its repository: set {DIRECTORY_VARIABLE} to a directory with {ARCHIVE}");
     let repository = fs::canonicalize(Path::new(&told("CARGO_MANIFEST_DIR")?).join("../..")).map_err(apart)?;
-    fs::metadata(repository.join("crates/menkhodur")).map_err(apart)?;
-    let listing = fs::read_to_string(repository.join("crates.txt")).map_err(apart)?;
-    let sources = sources(&repository, &listing).map_err(|error| format!("the sources of {ARCHIVE} cannot be read: {error}"))?;
-    let directory = repository.join("target/staticlib");
-    let reason = match fs::metadata(directory.join(ARCHIVE)).and_then(|archive| archive.modified()) {
-        Ok(built) => newer(&sources, built).map(|source| format!("{} is newer", source.path.display())),
-        Err(_) => Some("it is missing".to_string()),
-    };
-    if let Some(reason) = reason {
-        // The archive is dated by what it is made from: a source that is changed while the proofs run is then newer, and one whose date
-        // is still to come is not newer for ever.
-        let date = sources.iter().fold(SystemTime::now(), |date, source| date.max(source.modified));
-        build_archive(&repository, &reason)?;
-        let dated = File::options().append(true).open(directory.join(ARCHIVE)).and_then(|archive| archive.set_modified(date));
-        dated.map_err(|error| format!("`rt staticlib menkhodur` ended well, but {}: {error}", directory.join(ARCHIVE).display()))?;
+    for owed in ["crates/menkhodur", "crates.txt", MAKER] {
+        fs::metadata(repository.join(owed)).map_err(apart)?;
     }
-    Ok(directory)
+    for source in written(Command::new(repository.join(MAKER)).arg("--sources"))?.lines() {
+        println!("cargo::rerun-if-changed={}", repository.join(source).display());
+    }
+    make_archive(&repository)?;
+    Ok(repository.join("target/staticlib"))
 }
 
-/// Everything that the archive is made from, which cargo is told to watch. Directories count: one that has lost a file is newer, and none
-/// of its files is.
-fn sources(repository: &Path, listing: &str) -> io::Result<Vec<Source>> {
-    let mut left = vec![PathBuf::from("crates.txt")];
-    println!("cargo::rerun-if-changed={}", repository.join("crates.txt").display());
-    // Libraries of the toolchain are named too, and cargo would take a path that is not there for one that has changed.
-    for name in crates(listing).into_iter().map(|name| Path::new("crates").join(name)).filter(|name| repository.join(name).is_dir()) {
-        println!("cargo::rerun-if-changed={}", repository.join(&name).display());
-        left.extend(["src", "specs", "proofs"].map(|part| name.join(part)));
+fn make_archive(repository: &Path) -> Result<(), String> {
+    // Standard output is cargo's, and `--if-older` leaves it alone.
+    let begun = Command::new(repository.join(MAKER)).arg("--if-older").stderr(Stdio::piped()).spawn();
+    let mut maker = begun.map_err(|error| format!("`{MAKER}` could not be started: {error}"))?;
+    let mut told = Vec::new();
+    for line in BufReader::new(maker.stderr.take().expect("a pipe")).split(b'\n').map_while(Result::ok) {
+        let line = String::from_utf8_lossy(&line).into_owned();
+        eprintln!("{line}");
+        told.extend(line.starts_with(MAKER).then_some(line));
     }
-    let mut sources = Vec::new();
-    while let Some(path) = left.pop() {
-        let found = match fs::symlink_metadata(repository.join(&path)) {
-            // Not every crate has all three, and a file of an editor may be gone again.
-            Err(error) if error.kind() == ErrorKind::NotFound => continue,
-            found => found?,
-        };
-        if found.is_dir() {
-            let entries = fs::read_dir(repository.join(&path))?;
-            left.extend(entries.map(|entry| Ok(path.join(entry?.file_name()))).collect::<io::Result<Vec<_>>>()?);
-        }
-        sources.push(Source { path, is_file: found.is_file(), modified: found.modified()? });
+    let status = maker.wait().map_err(|error| format!("`{MAKER}` could not be waited for: {error}"))?;
+    if !status.success() {
+        told.push(format!("`{MAKER}` failed ({status}): run it in {} to see why", repository.display()));
+        return Err(told.join("\n"));
     }
-    Ok(sources)
-}
-
-/// The crate `menkhodur` and those that it reaches, by the lines `NAME: DEP DEP ..` of crates.txt.
-fn crates(listing: &str) -> Vec<&str> {
-    let lines = || listing.lines().filter_map(|line| line.split('#').next()?.split_once(':'));
-    let mut reached = vec!["menkhodur"];
-    let mut known = 0;
-    while known < reached.len() {
-        let needed = lines().find(|(name, _)| name.trim() == reached[known]).map_or("", |(_, needed)| needed);
-        for name in needed.split_whitespace() {
-            if !reached.contains(&name) {
-                reached.push(name);
-            }
-        }
-        known += 1;
-    }
-    reached
-}
-
-/// A source that is newer than the archive; a file sooner than its directory, since it says more.
-fn newer(sources: &[Source], built: SystemTime) -> Option<&Source> {
-    sources.iter().filter(|source| source.modified > built).max_by_key(|source| (source.is_file, source.modified))
-}
-
-fn build_archive(repository: &Path, reason: &str) -> Result<(), String> {
-    let begun = Command::new("rt").args(["staticlib", "menkhodur"]).current_dir(repository).spawn();
-    let mut rt = begun.map_err(|error| match error.kind() {
-        ErrorKind::NotFound => format!(
-            "target/staticlib/{ARCHIVE} must be built, because {reason}, and there is no `rt` on the PATH: \
-             build it where there is one, with `rt staticlib menkhodur`, and set {DIRECTORY_VARIABLE} to its directory"
-        ),
-        _ => format!("`rt` could not be started: {error}"),
-    })?;
-    println!(
-        "cargo::warning=building target/staticlib/{ARCHIVE} with `rt staticlib menkhodur`, because {reason}; \
-         this proves what has changed and can take minutes"
-    );
-    match rt.wait() {
-        Ok(status) if status.success() => Ok(()),
-        Ok(status) => Err(format!("`rt staticlib menkhodur` failed ({status}): run it in {} to see why", repository.display())),
-        Err(error) => Err(format!("`rt` could not be waited for: {error}")),
-    }
+    told.iter().for_each(|line| println!("cargo::warning={line}"));
+    Ok(())
 }
 
 fn judge_version(directory: &Path) -> Result<(), String> {

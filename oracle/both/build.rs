@@ -1,4 +1,4 @@
-//! Tells the linker where `rt staticlib menkhodur` leaves the archive.
+//! Tells the linker where `host/archive` leaves the archive.
 
 use std::{env, path::Path};
 

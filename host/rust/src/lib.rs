@@ -1,6 +1,6 @@
 //! Chess positions, move texts, game logs and rolls, done by a proved archive: one position has one name, and one game has one roll.
 //!
-//! This package is a safe cover for `libmenkhodur.a`, which `rt staticlib menkhodur` writes. "Document 01" is the repository's
+//! This package is a safe cover for `libmenkhodur.a`, which `host/archive` makes. "Document 01" is the repository's
 //! `docs/papers/01-scope.md`, "document 02" is `02-change-requests.md` beside it, and "the original" is the Rust crate chess 3.2.0, whose
 //! names are kept where the meaning is the same. There is no move generator: whoever calls lends the list of moves that a position has.
 //!
@@ -24,7 +24,7 @@
 //! [`Board::to_fen`], does not have them: a position is filed once, however it was reached.
 //!
 //! The archive is linked at build time and is part of the program from then on. `build.rs` takes the one in the directory that
-//! `MENKHODUR_ARCHIVE_DIR` names; without that variable it takes the repository's own, and first has `rt staticlib menkhodur` build it if
+//! `MENKHODUR_ARCHIVE_DIR` names; without that variable it takes the repository's own, and first has `host/archive` make it if
 //! it is missing or older than a source. An archive of another version than [`VERSION`] is refused there.
 //!
 //! Two layers: the types here, whose numbers are in range by construction, and [`lent`], the archive's functions over slices that the
