@@ -32,7 +32,7 @@ servers_needed() {
     [ "$(id -u)" -ne 0 ] || for user in postgres nobody; do
         if [ -z "$owner" ] && id "$user" >/dev/null 2>&1; then owner=$user; fi
     done
-    [ "$(id -u)" -ne 0 ] || [ -n "$owner" ] || skip "no user to run a server as: a server does not run as root"
+    [ "$(id -u)" -ne 0 ] || [ -n "$owner" ] || skip "no user to run a server as, for root may not: postgres is of the Debian package postgresql-15"
 }
 
 servers_begin() {

@@ -124,7 +124,10 @@ mod tests {
 
     #[test]
     fn texts_blobs_numbers_and_null_are_told_apart() {
-        let Ok(store) = Connection::memory() else { return };
+        let store = match Connection::memory() {
+            Ok(store) => store,
+            Err(missing) => return crate::import::stores::skipped(&missing.to_string()),
+        };
         create(&store).unwrap();
         let zero = [EMPTY, b"\0"].concat();
         for (value, key, settled) in [

@@ -1,6 +1,6 @@
 use super::*;
 use crate::import::made;
-use crate::import::stores::{Own, TELL};
+use crate::import::stores::{Own, TELL, skipped};
 
 /// What is told of a database that other SQL has made.
 fn told_of(sql: &str) -> Option<String> {
@@ -40,8 +40,8 @@ fn what_is_no_store_is_told() {
 
 #[test]
 fn a_server_that_is_away_and_what_it_lacks_are_told() {
-    if Connection::open("").is_err_and(|error| error.to_string().contains("libpq5")) {
-        return;
+    if let Some(missing) = Connection::open("").err().map(|error| error.to_string()).filter(|told| told.contains("libpq5")) {
+        return skipped(&missing);
     }
     let told = Postgres::open("host=/nonexistent dbname=x user=x", TELL).err().unwrap();
     assert!(told.starts_with("PostgreSQL: ") && told.contains("/nonexistent"), "{told}");

@@ -1,6 +1,6 @@
 use super::*;
 use crate::import::made;
-use crate::import::stores::{BARE, Own, TELL};
+use crate::import::stores::{BARE, Own, TELL, skipped};
 use std::process::Command;
 
 /// What is told of a database that other SQL has made.
@@ -75,7 +75,7 @@ fn the_log_is_brought_over() {
 fn the_shell_reads_it_meanwhile() {
     let Some(own) = Own::sqlite() else { return };
     if Command::new("sqlite3").arg("-version").output().is_err() {
-        return println!("skipped: sqlite3 is missing, of the Debian package sqlite3");
+        return skipped("sqlite3 is missing, of the Debian package sqlite3");
     }
     let mut store = Sqlite::open(&own.file(), TELL).unwrap();
     store.begin(&made::source("a.pgn")).unwrap();

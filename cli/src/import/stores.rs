@@ -13,6 +13,11 @@ use std::{env, fs, process, thread};
 pub const TELL: Options = Options { places: true, duplicates: Duplicates::Tell };
 pub const BARE: Options = Options { places: false, ..TELL };
 
+/// Says that the test that runs was skipped, by its name: tools/cargo-test shows it, and the gate tells it again.
+pub fn skipped(why: &str) {
+    println!("skipped: cli/run-tests: {}: {why}", thread::current().name().unwrap_or("a test"));
+}
+
 /// A place for a store of a test's own, which is removed.
 pub enum Own {
     Folder(PathBuf),
@@ -28,7 +33,7 @@ impl Own {
 
     /// None where SQLite is not installed.
     pub fn sqlite() -> Option<Own> {
-        sqlite::Connection::memory().map_err(|error| println!("skipped: {error}")).ok()?;
+        sqlite::Connection::memory().map_err(|error| skipped(&error.to_string())).ok()?;
         let folder = env::temp_dir().join(Own::name());
         fs::create_dir_all(&folder).unwrap();
         Some(Own::Folder(folder))
@@ -36,7 +41,7 @@ impl Own {
 
     pub fn postgres() -> Option<Own> {
         let Ok(server) = env::var("MENKHODUR_TEST_POSTGRES") else {
-            println!("skipped: MENKHODUR_TEST_POSTGRES names no server");
+            println!("MENKHODUR_TEST_POSTGRES names no server; that of host/import/postgres-test does");
             return None;
         };
         let base = Own::name();

@@ -5,6 +5,7 @@ use super::played::{Form, Player};
 use super::run::{Import, Setup};
 use super::said::Said;
 use super::store::{Batch, Begun, Duplicates, Filed, Refused, Source, Store, Twin, Written};
+use super::stores::skipped;
 use super::tally::{End, Tally};
 use crate::games::Games;
 use crate::options::Status;
@@ -491,7 +492,7 @@ fn the_positions_are_those_of_pgn_extract() {
     let mut compared = 0;
     for file in ["/usr/share/pgn-extract/eco.pgn".to_string(), own] {
         let (true, Some(owed)) = (fs::exists(&file).unwrap(), extracted(&file)) else {
-            eprintln!("skipped: pgn-extract or {file} is not installed");
+            skipped(&format!("pgn-extract or {file} is missing, of the Debian package pgn-extract"));
             continue;
         };
         let held = fresh();

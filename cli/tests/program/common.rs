@@ -24,6 +24,11 @@ pub fn empty_position() -> [u8; POSITION_BYTES] {
     position
 }
 
+/// Says that the test that runs was skipped, by its name: tools/cargo-test shows it, and the gate tells it again.
+pub fn skipped(why: &str) {
+    println!("skipped: cli/run-tests: {}: {why}", std::thread::current().name().unwrap_or("a test"));
+}
+
 pub fn program() -> Command {
     Command::new(env!("CARGO_BIN_EXE_menkhodur"))
 }

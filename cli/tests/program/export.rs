@@ -2,7 +2,7 @@
 //! and the moves' names by pgn-extract.
 
 use crate::closed::redirected;
-use crate::common::{Folder, INITIAL, Ran, expect, program, run};
+use crate::common::{Folder, INITIAL, Ran, expect, program, run, skipped};
 use crate::pipes;
 use crate::stores::{self, Store};
 use menkhodur::{Board, Color, Lent};
@@ -101,7 +101,7 @@ fn odd_games_come_back() {
 fn openings_come_back() {
     let folder = Folder::new();
     if !fs::exists(OPENINGS).unwrap_or(false) {
-        return eprintln!("skipped: {OPENINGS} is missing, of the Debian package pgn-extract");
+        return skipped(&format!("{OPENINGS} is missing, of the Debian package pgn-extract"));
     }
     for store in Store::each(&folder) {
         store.file(&[OPENINGS]);
@@ -163,7 +163,7 @@ fn pgn_extract_takes_every_game_without_a_word() {
 fn pgn_extract_tells_of_openings_only_what_their_results_are() {
     let folder = Folder::new();
     if !fs::exists(OPENINGS).unwrap_or(false) {
-        return eprintln!("skipped: {OPENINGS} is missing, of the Debian package pgn-extract");
+        return skipped(&format!("{OPENINGS} is missing, of the Debian package pgn-extract"));
     }
     for store in Store::each(&folder) {
         // `*` is no result that mate contradicts, and pgn-extract tells of it.
@@ -219,8 +219,8 @@ fn a_file_is_written_whole_or_not_at_all() {
 fn a_store_is_never_replaced_by_its_games() {
     let folder = Folder::new();
     let (file, store) = (folder.file("a", "e4 *"), folder.path("store"));
-    if run(&["import", "--sqlite", &store, &file], b"").status != 0 {
-        return eprintln!("skipped: SQLite is missing, of the Debian package libsqlite3-0");
+    if run(&["import", "--sqlite", &store, &file], b"").err.contains("libsqlite3-0") {
+        return skipped("SQLite is missing, of the Debian package libsqlite3-0");
     }
     let ran = run(&["export", "--sqlite", &store, "--force", "-o", &format!("{}/./store", folder.0.display())], b"");
     assert!(ran.err.ends_with("/./store: it is the store\n") && ran.status == 2, "{ran:?}");
@@ -231,8 +231,8 @@ fn a_store_is_never_replaced_by_its_games() {
 fn a_reader_who_goes_ends_it_quietly_and_a_full_device_is_trouble() {
     let folder = Folder::new();
     let (many, store) = (folder.file("many", "e4 *\n".repeat(20_000)), folder.path("store"));
-    if run(&["import", "--sqlite", &store, "--duplicates=keep", &many], b"").status != 0 {
-        return eprintln!("skipped: SQLite is missing, of the Debian package libsqlite3-0");
+    if run(&["import", "--sqlite", &store, "--duplicates=keep", &many], b"").err.contains("libsqlite3-0") {
+        return skipped("SQLite is missing, of the Debian package libsqlite3-0");
     }
     let head = format!("{} export --sqlite {store} | head -n 1; echo ${{PIPESTATUS[0]}}", program().get_program().to_str().unwrap());
     let ran = Ran::of(std::process::Command::new("bash").args(["-c", &head]).output().unwrap());
@@ -247,8 +247,8 @@ fn a_reader_who_goes_ends_it_quietly_and_a_full_device_is_trouble() {
 fn a_terminal_gets_no_control_characters_and_a_closed_output_is_trouble() {
     let folder = Folder::new();
     let (file, store, new) = (folder.file("a", b"[White \"a\x1bb\xc2\x9bc\"]\n\ne4 *\n"), folder.path("store"), folder.path("new"));
-    if run(&["import", "--sqlite", &store, &file], b"").status != 0 {
-        return eprintln!("skipped: SQLite is missing, of the Debian package libsqlite3-0");
+    if run(&["import", "--sqlite", &store, &file], b"").err.contains("libsqlite3-0") {
+        return skipped("SQLite is missing, of the Debian package libsqlite3-0");
     }
     let words = ["export", "--sqlite", &store];
     assert_eq!(pipes::seen_by(program().args(words))[4], "[White \"a b\\xc2\\x9bc\"]");

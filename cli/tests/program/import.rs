@@ -1,6 +1,6 @@
 //! `menkhodur import` without a database. What is expected is by the words of the command's help and of its issue.
 
-use crate::common::{Folder, Ran, expect, program, run};
+use crate::common::{Folder, Ran, expect, program, run, skipped};
 use crate::pipes::{self, lines_of, next_line};
 use std::collections::BTreeSet;
 use std::fs;
@@ -88,7 +88,7 @@ fn each_odd_file_is_answered_as_the_table_says() {
 #[test]
 fn the_table_says_what_pgn_extract_does() {
     if extracted(&odd("plain.pgn")).is_none() {
-        return eprintln!("skipped: pgn-extract is not installed");
+        return skipped("pgn-extract is missing, of the Debian package pgn-extract");
     }
     for row in rows() {
         assert_eq!(extracted(&odd(&format!("{}.pgn", row[0]))).unwrap(), row[3], "{}", row[0]);

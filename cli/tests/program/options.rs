@@ -1,6 +1,6 @@
 //! Options, help, man page and completion.
 
-use crate::common::{Folder, expect, run};
+use crate::common::{Folder, expect, run, skipped};
 use menkhodur::lent::{ACTION_BYTES, POSITION_BYTES};
 use std::process::Command;
 
@@ -200,14 +200,14 @@ fn bash_completes_commands_options_and_words() {
     }
 }
 
-// Only where they are installed.
 #[test]
 fn the_scripts_of_other_shells_are_read_without_a_complaint() {
     let folder = Folder::new();
     for (shell, options) in [("zsh", &["-n"][..]), ("fish", &["--no-execute"]), ("bash", &["-n"])] {
         let script = folder.file(shell, &run(&["completion", shell], b"").out);
-        if let Ok(ran) = Command::new(shell).args(options).arg(&script).output() {
-            assert_eq!((String::from_utf8_lossy(&ran.stderr).as_ref(), ran.status.code()), ("", Some(0)), "{shell}");
+        match Command::new(shell).args(options).arg(&script).output() {
+            Ok(ran) => assert_eq!((String::from_utf8_lossy(&ran.stderr).as_ref(), ran.status.code()), ("", Some(0)), "{shell}"),
+            Err(_) => skipped(&format!("{shell} is missing, of the Debian package {shell}")),
         }
     }
 }
@@ -216,8 +216,8 @@ fn the_scripts_of_other_shells_are_read_without_a_complaint() {
 fn the_man_page_is_read_without_a_warning() {
     let folder = Folder::new();
     let page = folder.file("menkhodur.1", &run(&["man"], b"").out);
-    // Only where there is a groff.
-    if let Ok(ran) = Command::new("groff").args(["-man", "-Tascii", "-ww", "-z", &page]).output() {
-        assert_eq!((String::from_utf8_lossy(&ran.stderr).as_ref(), ran.status.code()), ("", Some(0)));
+    match Command::new("groff").args(["-man", "-Tascii", "-ww", "-z", &page]).output() {
+        Ok(ran) => assert_eq!((String::from_utf8_lossy(&ran.stderr).as_ref(), ran.status.code()), ("", Some(0))),
+        Err(_) => skipped("groff is missing, of the Debian package groff-base"),
     }
 }

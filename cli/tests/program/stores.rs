@@ -1,7 +1,7 @@
 //! Stores that the program itself has filled: in SQLite, and in PostgreSQL where `MENKHODUR_TEST_POSTGRES` names a server with the extension. The
 //! shells of both tell what is in them. What is missing is skipped by name.
 
-use crate::common::{Folder, Ran, run};
+use crate::common::{Folder, Ran, run, skipped};
 use std::process::Command;
 use std::sync::atomic::{AtomicUsize, Ordering};
 
@@ -35,7 +35,7 @@ impl Store {
         let named = folder.path(&format!("{}.db", COUNT.fetch_add(1, Ordering::Relaxed)));
         let ran = run(&["import", "--sqlite", &folder.path("tried.db"), "-"], b"");
         if ran.err.contains("libsqlite3-0") || !has("sqlite3") {
-            eprintln!("skipped: SQLite is missing, of the Debian packages libsqlite3-0 and sqlite3");
+            skipped("SQLite is missing, of the Debian packages libsqlite3-0 and sqlite3");
             return None;
         }
         Some(Store { option: "--sqlite", named, server: None })
@@ -44,7 +44,7 @@ impl Store {
     fn postgres() -> Option<Store> {
         static COUNT: AtomicUsize = AtomicUsize::new(0);
         let Ok(server) = std::env::var("MENKHODUR_TEST_POSTGRES") else {
-            eprintln!("skipped: MENKHODUR_TEST_POSTGRES names no server");
+            eprintln!("MENKHODUR_TEST_POSTGRES names no server; that of host/import/postgres-test does");
             return None;
         };
         let base = format!("menkhodur_out_{}_{}", std::process::id(), COUNT.fetch_add(1, Ordering::Relaxed));
@@ -100,7 +100,7 @@ fn told(command: &mut Command) -> String {
 pub fn extracted(words: &[&str], file: &str) -> Option<(String, String)> {
     let run = |name: &str| Command::new(name).arg("-s").args(words).arg(file).output().ok();
     let Some(ran) = run("pgn-extract").or_else(|| run("/usr/games/pgn-extract")) else {
-        eprintln!("skipped: pgn-extract is missing, of the Debian package pgn-extract");
+        skipped("pgn-extract is missing, of the Debian package pgn-extract");
         return None;
     };
     let text = |bytes: Vec<u8>| String::from_utf8_lossy(&bytes).into_owned();

@@ -19,6 +19,11 @@ fn shown(statement: &str) -> String {
 
 #[cfg(test)]
 mod tests {
+    /// Says that the test that runs was skipped, by its name: tools/cargo-test shows it, and the gate tells it again.
+    pub fn skipped(why: &str) {
+        println!("skipped: host/databases: {}: {why}", std::thread::current().name().unwrap_or("a test"));
+    }
+
     #[test]
     fn a_statement_is_shown_on_one_line_and_not_whole_if_it_is_long() {
         assert_eq!(super::shown("SELECT 1,\n    2"), "SELECT 1, 2");

@@ -4,14 +4,16 @@ use super::*;
 fn server() -> Option<Connection> {
     let named = env::var("MENKHODUR_TEST_POSTGRES").ok();
     if named.is_none() {
-        println!("skipped: MENKHODUR_TEST_POSTGRES names no server");
+        println!("MENKHODUR_TEST_POSTGRES names no server; that of host/import/postgres-test does");
     }
     named.map(|conninfo| Connection::open(&conninfo).unwrap())
 }
 
 #[test]
 fn a_server_that_is_not_there_is_told() {
-    let Ok(_) = calls() else { return };
+    if let Err(missing) = calls() {
+        return crate::tests::skipped(&missing.to_string());
+    }
     let told = |conninfo: &str| Connection::open(conninfo).err().unwrap();
     let missing = told("host=/nonexistent dbname=x user=x");
     assert!(missing.is_lost() && missing.sqlstate().is_empty());

@@ -6,7 +6,7 @@ use std::{fs, process, thread};
 
 /// None, with a word about it, where SQLite is not installed.
 fn memory() -> Option<Connection> {
-    Connection::memory().map_err(|error| println!("skipped: {error}")).ok()
+    Connection::memory().map_err(|error| crate::tests::skipped(&error.to_string())).ok()
 }
 
 /// A file of a test's own, which is removed with what SQLite has put beside it.
