@@ -110,7 +110,7 @@ static void check_counter_numbers(void)
     menkhodur_board b = initial;
     b.half_moves = 500;
     b.full_moves = 7;
-    for (uint64_t number = 0; number < 65536 + 9999 + 2; number += exact ? 101 : 1) check_counter_steps(b, true, number);
+    for (uint64_t number = 0; number < 65536 + 9999 + 2; number += few ? 101 : 1) check_counter_steps(b, true, number);
     check_counter_steps(b, true, 65536);
     check_counter_steps(b, true, 65537);
     for (unsigned i = 0; i < WIDE; i++) {

@@ -6,9 +6,9 @@
 #include <stdlib.h>
 #include <string.h>
 
-enum { ROWS = 64, TOLD = 20, GUARD = 64, FILL = 0xA5 };
+enum { ROWS = 64, TOLD = 20, GUARD = 64, ENDS = 16384, FILL = 0xA5 };
 
-bool exact = false;
+bool exact = false, few = false;
 
 static struct { const char *function; unsigned long checks; uint32_t numbers; } rows[ROWS];
 static unsigned row;
@@ -67,6 +67,7 @@ static bool judge(bool passed)
 {
     rows[row].checks++;
     failed += !passed;
+    if (few && failed > TOLD) exit(1);
     return passed || failed > TOLD;
 }
 
@@ -198,7 +199,12 @@ void put_byte(struct part *p, size_t at, uint8_t byte)
 
 void expect_unchanged(const char *what, const struct part *p)
 {
-    expect_bytes(what, p->want, p->block, p->length + 2 * guard(), guard());
+    static unsigned turn;
+    size_t all = p->length + 2 * guard(), end = all - ENDS;
+    if (few && all > 2 * ENDS && turn++ % 16) {
+        expect_bytes(what, p->want, p->block, ENDS, guard());
+        expect_bytes(what, p->want + end, p->block + end, ENDS, guard());
+    } else expect_bytes(what, p->want, p->block, all, guard());
 }
 
 void expect_written(const char *what, struct part *p, size_t at, const void *bytes, size_t length)

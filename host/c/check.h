@@ -34,6 +34,10 @@ struct part {
 /* With `exact` set, parts have no guards and end where their memory ends, so that valgrind sees a read past them too. */
 extern bool exact;
 
+/* With `few` set, for valgrind and for a machine that is emulated, there are fewer cases, of a long part only its two ends are compared, all of it now
+ * and then, and the checks end when twenty have failed. */
+extern bool few;
+
 struct part lend(size_t length);
 struct part lend_bytes(const void *bytes, size_t length);
 struct part lend_text(const char *text);

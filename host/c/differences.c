@@ -5,7 +5,7 @@
 #include <stdio.h>
 #include <string.h>
 
-enum { MOST = 1500, PAIRS = 400, PAIRS_EXACT = 20, LINE = 40, SPARE = 9 };
+enum { MOST = 1500, PAIRS = 400, PAIRS_FEW = 20, LINE = 40, SPARE = 9 };
 
 /* A start, and actions as a part has them. */
 struct side {
@@ -122,7 +122,7 @@ static void change(struct side *s)
 static void check_games_that_differ(void)
 {
     static struct side first, second;
-    for (unsigned i = 0; i < (exact ? PAIRS_EXACT : PAIRS); i++) {
+    for (unsigned i = 0; i < (few ? PAIRS_FEW : PAIRS); i++) {
         any_side(&first);
         second = first;
         for (unsigned changes = any(4); changes; changes--) change(&second);

@@ -270,7 +270,7 @@ static void check_every_byte(void)
 /* Every number as either counter, as it is and with a 0 before it; from 10,000 on both are refused. */
 static void check_every_number(void)
 {
-    for (unsigned n = 0; n < 10100; n += exact ? 89 : 1) {
+    for (unsigned n = 0; n < 10100; n += few ? 89 : 1) {
         char text[40];
         check_text(text, (size_t)sprintf(text, "8 w - - %u 1", n));
         check_text(text, (size_t)sprintf(text, "8 w - - 0%u 1", n));
@@ -363,7 +363,7 @@ static size_t damage(char *text, size_t length)
 /* Random records, and their texts damaged. */
 static void check_random(void)
 {
-    for (unsigned i = 0; i < (exact ? 200u : 20000u); i++) {
+    for (unsigned i = 0; i < (few ? 200u : 20000u); i++) {
         menkhodur_board b;
         char text[SPELT + 1];
         size_t length;
@@ -397,9 +397,9 @@ void check_full(const char *positions)
 {
     check_accepted();
     check_refused();
-    check_short_texts("8 w - -", " 019x", exact ? 3 : 6);
-    check_short_texts("8 w - - 7", "0 9", exact ? 4 : 8);
-    check_short_texts("", " bw81x", exact ? 3 : 6);
+    check_short_texts("8 w - -", " 019x", few ? 3 : 6);
+    check_short_texts("8 w - - 7", "0 9", few ? 4 : 8);
+    check_short_texts("", " bw81x", few ? 3 : 6);
     check_every_byte();
     check_every_number();
     check_long_texts();

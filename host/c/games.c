@@ -1,7 +1,7 @@
 /* Games of random actions, good and bad, beside document 01's "Draws and endings" written out once more. */
 #include "game.h"
 
-enum { TRIES = 60, GAMES = 300, GAMES_EXACT = 20 };
+enum { TRIES = 60, GAMES = 300, GAMES_FEW = 20 };
 
 /* ---- Document 01 ---- */
 
@@ -186,5 +186,5 @@ static void check_game(void)
 
 void check_games(void)
 {
-    for (unsigned i = 0; i < (exact ? GAMES_EXACT : GAMES); i++) check_game();
+    for (unsigned i = 0; i < (few ? GAMES_FEW : GAMES); i++) check_game();
 }

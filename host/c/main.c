@@ -1,8 +1,10 @@
 /* Checks every function of the archive through the header: accepted answers, every refused answer that it can give, and every byte
  * that it was lent.
  *
- *     check POSITIONS PAGES PASSING [exact]      a file of FEN texts, one of pages with what they are owed, and one of FEN texts with en
- *                                                passant squares; with `exact`, parts without guards, for valgrind
+ *     check POSITIONS PAGES PASSING SETTLED [exact | few]
+ *
+ * A file of FEN texts, one of pages with what they are owed, one of FEN texts with en passant squares, and one of records with what they settle to. With
+ * `few`, fewer cases, for a machine that is emulated; with `exact`, also parts without guards, for valgrind.
  */
 #include "check.h"
 
@@ -66,8 +68,9 @@ static const struct answers all[] = {
 int main(int argc, char **argv)
 {
     exact = argc > 5 && strcmp(argv[5], "exact") == 0;
+    few = exact || (argc > 5 && strcmp(argv[5], "few") == 0);
     if (argc < 5) {
-        fputs("usage: check POSITIONS PAGES PASSING SETTLED [exact]\n", stderr);
+        fputs("usage: check POSITIONS PAGES PASSING SETTLED [exact | few]\n", stderr);
         return 2;
     }
     check_base();

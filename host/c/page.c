@@ -218,7 +218,7 @@ static size_t any_page(uint8_t *text)
 static void check_random(void)
 {
     uint8_t text[9 * LONGEST_LINE];
-    for (unsigned i = 0; i < (exact ? 300 : 3000); i++) {
+    for (unsigned i = 0; i < (few ? 300 : 3000); i++) {
         size_t length = any_page(text);
         about(page, "random page %u, `%.*s`", i, (int)length, (const char *)text);
         check_page_of(text, length);
@@ -229,7 +229,7 @@ static void check_random(void)
 static void check_joined(void)
 {
     uint8_t text[18 * LONGEST_LINE + 1];
-    for (unsigned i = 0; i < (exact ? 100 : 1000); i++) {
+    for (unsigned i = 0; i < (few ? 100 : 1000); i++) {
         size_t front = any_page(text), length, first, count;
         struct part records, numbers;
         uint64_t *told;

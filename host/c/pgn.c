@@ -4,7 +4,7 @@
 
 #include <string.h>
 
-enum { DEEP = 8, LONGEST = 4, LONGEST_EXACT = 2, SOUPS = 4000, SOUPS_EXACT = 150, MOST = 400 };
+enum { DEEP = 8, LONGEST = 4, LONGEST_FEW = 2, SOUPS = 4000, SOUPS_FEW = 150, MOST = 400 };
 
 /* A walker of one's own: the place, and where each bracket that is open was opened, the place's own offset for those before it; and the
  * lowest level that was met. */
@@ -247,8 +247,8 @@ void check_pgn(void)
     check_words("e4 {x");
     check_words("((((((((e4)))))))) *");
     check_text("e4\0e5", 5);
-    check_short_texts(text, 0, exact ? LONGEST_EXACT : LONGEST);
-    for (unsigned i = 0; i < (exact ? SOUPS_EXACT : SOUPS); i++) check_soup();
+    check_short_texts(text, 0, few ? LONGEST_FEW : LONGEST);
+    for (unsigned i = 0; i < (few ? SOUPS_FEW : SOUPS); i++) check_soup();
     for (unsigned opened = 0; opened <= DEEP + 2; opened++) {
         for (unsigned closed = 0; closed <= DEEP + 2; closed++) check_nesting(opened, closed);
     }

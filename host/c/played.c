@@ -371,7 +371,7 @@ static void check_tales(void)
 {
     static struct tale t;
     menkhodur_board start = board_with(0, 4, (uint8_t[]){ B1, G1, B8, G8 }, (uint8_t[]){ 2, 2, 8, 8 });
-    for (unsigned i = 0; i < (exact ? 3u : 60u); i++) {
+    for (unsigned i = 0; i < (few ? 3u : 60u); i++) {
         t.length = t.moves = 0;
         tell(&t, start, 0, 1 + any(20));
         append(&t, any(2) ? "*" : "");
@@ -470,5 +470,5 @@ void check_played(void)
     g.alone = true;
     check_ranges_of(g);
     for (unsigned faults = 0; faults < 32; faults++) check_order(faults);
-    for (unsigned i = 0; i < (exact ? 100u : 20000u); i++) check_soup();
+    for (unsigned i = 0; i < (few ? 100u : 20000u); i++) check_soup();
 }

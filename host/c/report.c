@@ -291,7 +291,7 @@ static size_t any_repeating_page(uint8_t *text)
 static void check_random(void)
 {
     uint8_t text[16 * LONGEST_LINE];
-    for (unsigned i = 0; i < (exact ? 300 : 3000); i++) {
+    for (unsigned i = 0; i < (few ? 300 : 3000); i++) {
         size_t length = any_repeating_page(text);
         about(reporting, "random page %u, `%.*s`", i, (int)length, (const char *)text);
         check_page_of(text, length);

@@ -4,7 +4,7 @@
 
 #include <string.h>
 
-enum { RECORD = KEY_NUMBERS, BEHIND = 64, GAMES = 150, GAMES_EXACT = 5, CHANGES = 40 };
+enum { RECORD = KEY_NUMBERS, BEHIND = 64, GAMES = 150, GAMES_FEW = 5, CHANGES = 40 };
 
 /* A roll has both counters behind the record's old numbers; an old one, from before order 12, has neither, and a reader of its own. */
 struct kind {
@@ -308,7 +308,7 @@ static void check_changes(const struct kind *kind)
         add_bytes(&r, (uint8_t[]){ (uint8_t)byte }, 1);
         check_number(&r, MENKHODUR_BAD_ROLL);
     }
-    for (unsigned i = 0; i < 256 * whole.length; i += exact ? 7 : 1) {
+    for (unsigned i = 0; i < 256 * whole.length; i += few ? 7 : 1) {
         r = whole;
         r.bytes[i / 256] = (uint8_t)i;
         check_roll(&r);
@@ -635,7 +635,7 @@ static void check_longest(const struct kind *kind)
     expect("longest", kind->counted ? MENKHODUR_LONGEST_ROLL : MENKHODUR_LONGEST_ROLL - 4, r.length);
     if (kind->counted) check_write(&f, MENKHODUR_ACTIONS_LENGTH, r.length - 1, MENKHODUR_OUTPUT_TOO_SHORT, &r);
     while (r.length > 0) {
-        r.length -= exact && r.length > 97 ? 97 : kind->counted || r.length < 97 ? 1 : 11;
+        r.length -= few && r.length > 97 ? 97 : kind->counted || r.length < 97 ? 1 : 11;
         check_number(&r, MENKHODUR_BAD_ROLL);
     }
 }
@@ -730,5 +730,5 @@ void check_rolls(void)
     check_moves_counted(MENKHODUR_MAX_MOVES, MENKHODUR_BAD_ROLL);
     check_moves_counted(MENKHODUR_MAX_MOVES + 1, MENKHODUR_LOG_FULL);
     check_logs();
-    for (unsigned i = 0; i < (exact ? GAMES_EXACT : GAMES); i++) check_some();
+    for (unsigned i = 0; i < (few ? GAMES_FEW : GAMES); i++) check_some();
 }

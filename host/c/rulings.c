@@ -170,7 +170,7 @@ static void check_runs(bool fresh)
     struct plan none = quiet;
     none.fresh = fresh;
     check_run(&none, 98, 102);
-    for (unsigned i = 0; i < (exact ? 2 : sizeof at / sizeof *at); i++) check_emptied(at[i], fresh);
+    for (unsigned i = 0; i < (few ? 2 : sizeof at / sizeof *at); i++) check_emptied(at[i], fresh);
 }
 
 /* The same in figures: white loses its right with the first move, black with the second. */

@@ -152,7 +152,7 @@ static void check_refused(void)
 
 static void check_one_man(void)
 {
-    for (unsigned i = 0; i < 64 * 12; i += exact ? 7 : 1) {
+    for (unsigned i = 0; i < 64 * 12; i += few ? 7 : 1) {
         menkhodur_board b = empty_board;
         b.pieces[i % 64] = (uint8_t)(1 + i / 64);
         check_files(b);
@@ -163,7 +163,7 @@ static void check_one_man(void)
 static void check_random(void)
 {
     static const uint8_t men[] = { 0, 0, 1, 1, 7, 7, 6, 12 };
-    for (unsigned i = 0; i < (exact ? 500u : 50000u); i++) {
+    for (unsigned i = 0; i < (few ? 500u : 50000u); i++) {
         menkhodur_board b;
         for (unsigned which = 0; which < ALL_NUMBERS; which++) set_number(&b, which, any_number(which));
         for (unsigned square = 24; square < 40; square++) b.pieces[square] = men[any(sizeof men)];
@@ -188,7 +188,7 @@ static void check_bad_records(void)
 static void check_short_texts(void)
 {
     static const char bytes[] = " bw8x";
-    for (unsigned length = 0, count = 1; length <= (exact ? 4u : 6u); length++, count *= 5)
+    for (unsigned length = 0, count = 1; length <= (few ? 4u : 6u); length++, count *= 5)
         for (unsigned n = 0; n < count; n++) {
             uint8_t text[6];
             for (unsigned i = 0, left = n; i < length; i++, left /= 5) text[i] = (uint8_t)bytes[left % 5];
@@ -206,7 +206,7 @@ static void check_file(const char *path)
     expect("can be opened", 1, f != NULL);
     while (f && fgets(line, sizeof line, f)) {
         size_t length = strcspn(line, "\n");
-        if (exact && count++ % 64) continue;
+        if (few && count++ % 64) continue;
         check_text(line, length);
         check_files(owed_of_four((const uint8_t *)line, length).board);
     }
@@ -223,7 +223,7 @@ static void check_crate(const char *path)
     expect("can be opened", 1, f != NULL);
     while (f && fgets(row, sizeof row, f)) {
         char *arrow = strstr(row, " -> ");
-        if (row[0] == '#' || !arrow || (exact && count++ % 64)) continue;
+        if (row[0] == '#' || !arrow || (few && count++ % 64)) continue;
         arrow[strcspn(arrow, "\n")] = 0;
         check_key(row, (size_t)(arrow - row), arrow + 4);
     }

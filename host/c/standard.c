@@ -299,7 +299,7 @@ static void check_short(const struct scene *s)
 {
     const unsigned base = sizeof bytes - 1;
     unsigned long texts = 1;
-    for (unsigned length = 1; length <= (exact ? 2 : 4); length++) {
+    for (unsigned length = 1; length <= (few ? 2 : 4); length++) {
         texts *= base;
         for (unsigned long i = 0; i < texts; i++) {
             char text[5] = "";
@@ -362,7 +362,7 @@ static void check_by_judge(void)
     check_short(&knights);
     check_short(&pawns);
     check_short(&king);
-    for (unsigned i = 0; i < (exact ? 20u : 500u); i++) {
+    for (unsigned i = 0; i < (few ? 20u : 500u); i++) {
         struct scene s = any_scene();
         for (size_t at = 0; at < s.entries; at++) check_entry(&s, s.list[at]);
         check_around(&s, "O-O");

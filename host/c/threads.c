@@ -7,7 +7,7 @@
 #include <stdlib.h>
 #include <string.h>
 
-enum { THREADS = 4, ROUNDS = 400, ROUNDS_EXACT = 10, OWN_MOVES = 4 };
+enum { THREADS = 4, ROUNDS = 400, ROUNDS_FEW = 10, OWN_MOVES = 4 };
 
 #define KEY "rnbqkbnr/pppppppp/8/8/8/8/PPPPPPPP/RNBQKBNR w KQkq - 0 1"
 
@@ -255,7 +255,7 @@ static unsigned wrong_own(struct game *g)
 static void *work(void *worker)
 {
     struct worker *w = worker;
-    for (unsigned i = 0; i < (exact ? ROUNDS_EXACT : ROUNDS); i++) {
+    for (unsigned i = 0; i < (few ? ROUNDS_FEW : ROUNDS); i++) {
         w->wrong += wrong_numbers() + wrong_texts() + wrong_full_texts() + wrong_standard_texts() + wrong_queries(&log_of_all, MENKHODUR_GOES_ON, 1);
         w->wrong += wrong_settled_texts() + wrong_pages() + wrong_reports();
         w->wrong += wrong_rolls() + wrong_old_rolls() + wrong_differences() + wrong_move_text() + wrong_steps() + wrong_own(&w->own);
