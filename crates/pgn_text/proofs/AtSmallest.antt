@@ -16,11 +16,14 @@ tokens-at-smallest = record {
   numbers = (refl, refl, refl, refl);
   starts = (refl, refl, refl, refl, refl);
   runs = (refl, refl);
+  letters = (refl, refl, refl, refl, refl);
+  colon = refl;
   braces = (refl, refl, refl, refl, refl);
   lines = (refl, refl);
+  breaks = (refl, refl, refl, refl);
   glyphs = (refl, refl, refl);
   results = (refl, refl, refl, refl, refl);
-  no-results = (refl, refl, refl);
+  no-results = (refl, refl, refl, refl);
   in-brackets = (refl, refl);
 }
 

@@ -4,7 +4,7 @@ use Prim.Native.Nat.{ℕ}
 use Prim.Native.String.{String}
 use mathlib.Core.Path.{_≡_}
 use Rattle.answer.specs.Ascii.{ascii}
-use Rattle.pgn_text.specs.Walk.{check, nextMove, noMoveFound, moveFound}
+use Rattle.pgn_text.specs.Walk.{check, nextMove}
 
 -- a text that is accepted, with its number of moves
 abbrev pub Accepts : String → ℕ → Type 0
@@ -16,11 +16,13 @@ Refuses text number at = check (ascii text) ≡ record { number = number; offset
 
 -- an answer without a move: the number and the offset
 abbrev pub NoMove : String → ℕ → ℕ → ℕ → ℕ → Type 0
-NoMove text offset level number at = nextMove (ascii text) offset level ≡ noMoveFound number at
+NoMove text offset level number at =
+    nextMove (ascii text) offset level ≡ record { number = number; offset = at; found = 0; start = 0; length = 0; level = 0 }
 
 -- a move's start, length and level
 abbrev pub NextMove : String → ℕ → ℕ → ℕ → ℕ → ℕ → Type 0
-NextMove text offset level start size at-level = nextMove (ascii text) offset level ≡ moveFound start size at-level
+NextMove text offset level start size at-level =
+    nextMove (ascii text) offset level ≡ record { number = 0; offset = 0; found = 1; start = start; length = size; level = at-level }
 
 pub record TokensAtSmallest : Type 0 where
   -- move numbers: digits, then any periods; a period that follows no digits is unknown
@@ -28,14 +30,20 @@ pub record TokensAtSmallest : Type 0 where
   -- moves: the bytes that start one, and the bytes that continue one
   pub starts : (Accepts "a b c d e f g h N B R Q K O" 14) × (Refuses "i" 23 0) × (Refuses "P" 23 0) × (Refuses "x" 23 0) × (Refuses "-" 23 0)
   pub runs : (Accepts "e8=Q+!? exd6# O-O-O KzZ09" 4) × (Refuses "e4." 23 2)
+  -- the letters at their edges: `A` and `a` continue a move, the bytes before them and behind `Z` do not, and none of those before `a` starts one
+  pub letters : (Accepts "eA aa" 2) × (Refuses "e@" 23 1) × (Refuses "e[" 23 1) × (Refuses "e`" 23 1) × (Refuses "`" 23 0)
+  -- and `:`, the byte behind `9`, is no digit
+  pub colon : Refuses "1:" 23 1
   -- comments: a brace comment to its brace, not nested; a semicolon comment to LF or the end; brackets in them are not counted
   pub braces : (Accepts "{(} e4 {)}" 1) × (Accepts "e4{}e5" 2) × (Refuses "{{}}" 23 3) × (Refuses "}" 23 0) × (Refuses "e4 {e5" 21 3)
   pub lines : (Accepts "; (e4" 0) × (Accepts "e4 ;{e5" 1)
+  -- white space is space, tab, CR and LF; a semicolon comment ends at LF and not at CR, and what stands right behind LF is read
+  pub breaks : (Accepts "e4 ;x\ne5" 2) × (Accepts "e4\te5\r\ne6\rd4\nd5" 5) × (Accepts ";x\re4" 0) × (Accepts ";x\te4" 0)
   -- `$` and digits; `$` without a digit is unknown, at the `$`
   pub glyphs : (Accepts "e4$1$23" 1) × (Refuses "e4 $" 23 3) × (Refuses "$e4" 23 0)
   -- results: tried at the place itself, before numbers, without a look at what follows; outside brackets one ends the walk
   pub results : (Accepts "e4 1-0 )}" 1) × (Accepts "0-1 e4" 0) × (Accepts "1/2-1/2x" 0) × (Accepts "* $" 0) × (Accepts "1-00" 0)
-  pub no-results : (Refuses "10-1" 23 2) × (Refuses "1/2" 23 1) × (Refuses "0-2" 23 1)
+  pub no-results : (Refuses "10-1" 23 2) × (Refuses "1/2" 23 1) × (Refuses "0-2" 23 1) × (Refuses "2-0" 23 1)
   pub in-brackets : (Refuses "(*)" 23 1) × (Refuses "(e4 1-0)" 23 4)
 
 pub record LevelsAtSmallest : Type 0 where

@@ -39,4 +39,18 @@ standard-rows = record {
   castling = refl;
   rook-named = record { answer = refl; text = refl };
   no-resort = refl;
+  black-castles = refl;
+  five-before-six = refl;
+  six-before-four = refl;
+  name-five-first = refl;
+  name-six-next = refl;
+  name-eleven-next = refl;
+  name-eight-next = refl;
+  mate-mark = refl;
+  queen-side-mark = refl;
+  straight-no-x = refl;
+  without-x = refl;
+  rank-alone = refl;
+  bare-equals = refl;
+  suffix = refl;
 }

@@ -4,11 +4,12 @@ use Prim.Native.Nat.{ℕ}
 use Prim.Native.String.{String}
 use mathlib.Core.Path.{_≡_}
 use mathlib.Core.List.{List, [], _∷_}
-use lib.ListN.{length, replicate, take}
-use Rattle.answer.specs.Answer.{accepted, refused, invalidSanMove, noName}
+use lib.ListN.{length, replicate, take, set}
+use Rattle.answer.specs.Answer.{accepted, refused, invalidSanMove, noName, outOfRange, badList, notListed}
 use Rattle.answer.specs.Ascii.{ascii}
 use Rattle.board_builder.specs.declared.BoardBuilder.{BoardBuilder}
 use Rattle.board_builder.specs.Steps.{withPiece}
+use Rattle.board_builder.specs.BoardBuilder.{board}
 use Rattle.san_text.specs.Standard.{fromSanStandard, standardNameAnswer, standardNameBytes}
 use Rattle.san_text.specs.Slips.{knight, knightAndPawn, rook, blackKing, onlyPawn, promoting}
 
@@ -50,3 +51,17 @@ pub record StandardRows : Type 0 where
   pub rook-named : StandardNamed rook (388 ∷ []) 388 "Rg1"
   -- and no last resort: document 01's namer says `O-O` here
   pub no-resort : standardNameAnswer rook (388 ∷ 388 ∷ []) 388 8 ≡ refused noName
+  pub black-castles : StandardReads (board (set (replicate 64 0) 60 12) 1 0 0 0) (4028 ∷ []) "O-O" 4028
+  pub five-before-six : fromSanStandard (board (replicate 64 0) 2 0 0 0) (28672 ∷ []) [] ≡ refused outOfRange
+  pub six-before-four : fromSanStandard (board (replicate 64 0) 0 0 0 0) (28672 ∷ []) [] ≡ refused badList
+  pub name-five-first : standardNameAnswer (board (replicate 64 0) 2 0 0 0) (28672 ∷ []) 1 0 ≡ refused outOfRange
+  pub name-six-next : standardNameAnswer (board (replicate 64 0) 0 0 0 0) (28672 ∷ []) 1 0 ≡ refused badList
+  pub name-eleven-next : standardNameAnswer (board (replicate 64 0) 0 0 0 0) (0 ∷ []) 1 0 ≡ refused notListed
+  pub name-eight-next : standardNameAnswer (board (replicate 64 0) 0 0 0 0) (0 ∷ []) 0 0 ≡ refused noName
+  pub mate-mark : StandardReads blackKing (388 ∷ []) "O-O#" 388
+  pub queen-side-mark : StandardReads blackKing (132 ∷ []) "O-O-O+" 132
+  pub straight-no-x : StandardRefuses onlyPawn (2852 ∷ []) "exe6"
+  pub without-x : StandardRefuses straight (2788 ∷ []) "ed6"
+  pub rank-alone : StandardRefuses straight (2788 ∷ []) "5xd6"
+  pub bare-equals : StandardRefuses promoting (3892 ∷ []) "e8="
+  pub suffix : StandardRefuses knight (1153 ∷ []) "Nc3!"
