@@ -29,6 +29,7 @@ lines-at-smallest =
       full = refl;
       in-order = refl;
       counters-in-order = refl;
+      action-last = refl;
       equal = refl;
       an-action = refl;
       the-first = refl;

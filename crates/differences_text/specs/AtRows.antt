@@ -48,6 +48,8 @@ pub record LinesAtSmallest : Type 0 where
   -- "`half` and `full` after `ep`", before the action
   pub counters-in-order : tells (with 67 3) (replicate recordSize 0 ++ (5 ∷ 2 ∷ 1 ∷ 4 ∷ []))
       ≡ withNewline (ascii "ep 3 0") ++ (withNewline (ascii "half 0 5") ++ (withNewline (ascii "full 1 2") ++ withNewline (ascii "action 0 0 4")))
+  -- the start's lines, then the action's
+  pub action-last : tells (set (replicate recordSize 0) 28 1 ++ (0 ∷ 1 ∷ 1 ∷ 4 ∷ [])) plain ≡ withNewline (ascii "28 1 0") ++ withNewline (ascii "action 0 4 0")
   pub equal : tells (doing (1 ∷ 4 ∷ [])) (doing (1 ∷ 4 ∷ [])) ≡ []
   -- an offer by white, 4, and then move 300, 2 + 16 × 300; where both actions differ the first is told
   pub an-action : tells (doing (2 ∷ 4 ∷ 2 ∷ 172 ∷ 2 ∷ [])) (doing (2 ∷ 4 ∷ 6 ∷ [])) ≡ withNewline (ascii "action 1 4802 6")

@@ -18,6 +18,8 @@ use Rattle.ending.specs.Ending.{resultOf, offerIn}
 use Rattle.game_rules.specs.Rules.{current, actions, moves, lastMade, lastButOne, result, offerStands, ruling, claimStands, firstRefusal, answer}
 use Rattle.game_rules.specs.Good.{callAt, historyOf, nextSound, sound, isGood}
 use Rattle.game_rules.specs.Calls.{logCheck, callAnswer, startAnswer}
+use Rattle.claim.specs.Claim.{claimIn}
+use Rattle.position.specs.Repeats.{equalsTwoEarlier}
 use Rattle.game_rules.specs.CallOrder.{ChecksInOrder, CountersInOrder}
 
 pub checks-in-order : ChecksInOrder
@@ -25,7 +27,7 @@ unfolding same allAtMost among kindOf numbers inRange numbersInRange castles roo
     rightsAfter twoApart stepsTwice fileAfter afterParts recordAfter restarts oneMore halfAfter fullAfter countersFrom
     listInRange movesIn movesFrom positionOf times moveBytes positionBytes positionCheck isPosition
     resultOf offerIn current actions lastMade lastButOne result offerStands ruling claimStands firstRefusal answer historyOf sound isGood logCheck
-    callAnswer
+    callAnswer startAnswer claimIn equalsTwoEarlier
 checks-in-order = record {
   gives-16 = refl;
   gives-9 = refl;
@@ -42,6 +44,20 @@ checks-in-order = record {
   resignation-gives-5 = refl;
   gives-14 = refl;
   gives-15 = refl;
+  start-16 = refl;
+  start-5 = refl;
+  start-6 = refl;
+  white-mated = refl;
+  black-mated = refl;
+  stale = refl;
+  white-resigned = refl;
+  black-resigned = refl;
+  accepted-draw = refl;
+  declared-draw = refl;
+  offer-before = refl;
+  offer-own = refl;
+  hundred = refl;
+  ninety-nine = refl;
 }
 
 pub counters-in-order : CountersInOrder

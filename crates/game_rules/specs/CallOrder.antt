@@ -13,6 +13,11 @@ use Rattle.stored_position.specs.Bytes.{positionBytes}
 use Rattle.game_rules.specs.Limits.{Limits}
 use Rattle.game_rules.specs.Rules.{Call, makeMove, offerDraw, acceptDraw, declareDraw, resign}
 use Rattle.game_rules.specs.Calls.{logCheck, callAnswer, startAnswer}
+use mathlib.Core.Bool.{true, false}
+use Rattle.ending.specs.Ending.{resultOf, offerIn}
+use Rattle.claim.specs.Claim.{claimIn}
+use Rattle.action.specs.declared.Action.the-variants.{MakeMove, OfferDraw, AcceptDraw, DeclareDraw, Resign}
+use Rattle.action.specs.declared.Stored.the-variants.{Holds, Nothing}
 
 -- limits of no action and no move: every call breaks 13
 abbrev pub noRoom : Limits
@@ -67,6 +72,24 @@ pub record ChecksInOrder : Type 0 where
   pub resignation-gives-5 : answered startBytes (resign 2) ≡ outOfRange
   pub gives-14 : answered startBytes acceptDraw ≡ noOffer
   pub gives-15 : answered startBytes declareDraw ≡ noClaim
+  -- a start: 16, 5, 6
+  pub start-16 : startAnswer noRoom [] [] allWrong ≡ partTooShort
+  pub start-5 : startAnswer noRoom [] startBytes allWrong ≡ outOfRange
+  pub start-6 : startAnswer noRoom [] startBytes (onEmpty 0 0 (28672 ∷ [])) ≡ badList
+  -- results
+  pub white-mated : resultOf (onEmpty 0 1 []) Nothing ≡ 3
+  pub black-mated : resultOf (onEmpty 1 1 []) Nothing ≡ 1
+  pub stale : resultOf (onEmpty 0 0 []) Nothing ≡ 5
+  pub white-resigned : resultOf (onEmpty 0 0 (0 ∷ [])) (Holds (Resign 0)) ≡ 2
+  pub black-resigned : resultOf (onEmpty 0 0 (0 ∷ [])) (Holds (Resign 1)) ≡ 4
+  pub accepted-draw : resultOf (onEmpty 0 0 (0 ∷ [])) (Holds AcceptDraw) ≡ 6
+  pub declared-draw : resultOf (onEmpty 0 0 (0 ∷ [])) (Holds DeclareDraw) ≡ 7
+  -- offers: the last but one by the side not to move
+  pub offer-before : offerIn (onEmpty 0 0 (0 ∷ [])) (Holds AcceptDraw) (Holds (OfferDraw 1)) ≡ true
+  pub offer-own : offerIn (onEmpty 0 0 (0 ∷ [])) (Holds AcceptDraw) (Holds (OfferDraw 0)) ≡ false
+  -- 100
+  pub hundred : claimIn [] 100 (record { first = 100; since = 0 }) ≡ true
+  pub ninety-nine : claimIn [] 99 (record { first = 99; since = 0 }) ≡ false
 
 -- an empty board with white to move and a list, and its counters
 abbrev pub countedStart : ℕ → ℕ → List ℕ → Position

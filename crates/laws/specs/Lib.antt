@@ -4,3 +4,4 @@ pub mod Ruling
 pub mod Promises
 pub mod Clock
 pub mod AtSmallest
+pub mod RulingsAtSmallest

@@ -16,7 +16,7 @@ use Rattle.roll_text.specs.AtSmallest.{NumbersAtSmallest, ReadingAtSmall
 pub numbers-at-smallest : NumbersAtSmallest
 unfolding groups behind readGroups
 numbers-at-smallest =
-    record { one-group = refl; lowest-first = refl; reads = refl; cut-short = refl; needless = refl; six-groups = refl }
+    record { one-group = refl; lowest-first = refl; reads = refl; cut-short = refl; needless = refl; six-groups = refl; five-groups = refl }
 
 pub reading-at-smallest : ReadingAtSmallest
 unfolding numbers behind readGroups largestNumbers isCode putNumber oneNumber readNumbers movedBy coded putAction nextAction readActions withActions withCount
@@ -40,6 +40,12 @@ reading-at-smallest =
       too-long = refl;
       accepted = refl;
       refused = refl;
+      five-groups-give-13 = refl;
+      six-groups-give-17 = refl;
+      five-groups-give-5 = refl;
+      largest-move = refl;
+      over-move-gives-17 = refl;
+      no-move-gives-17 = refl;
     }
 
 pub old-reading-at-smallest : OldReadingAtSmallest

@@ -13,4 +13,5 @@ pub mod OldRolls
 pub mod OfGood
 pub mod Hollow
 pub mod AtSmallest
+pub mod AtSmallestWhole
 pub mod OneEach

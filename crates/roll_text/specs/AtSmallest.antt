@@ -21,6 +21,7 @@ pub record NumbersAtSmallest : Type 0 where
   pub cut-short : readNumber (172 ∷ []) ≡ Bad
   pub needless : readNumber (172 ∷ 130 ∷ 0 ∷ []) ≡ Bad
   pub six-groups : readNumber (128 ∷ 128 ∷ 128 ∷ 128 ∷ 128 ∷ 1 ∷ []) ≡ Bad
+  pub five-groups : readNumber (128 ∷ 128 ∷ 128 ∷ 128 ∷ 1 ∷ []) ≡ Got 268435456 5
 
 -- limits of two actions and no move: a part has 8 bytes
 abbrev pub fewest : Limits
@@ -31,6 +32,10 @@ readingGives s = rollAnswer (judged fewest s 8) .number
 
 abbrev pub oldReadingGives : List ℕ → ℕ
 oldReadingGives s = rollAnswer (judgedOld fewest s 8) .number
+
+-- the same where one move may come
+abbrev pub readingOne : List ℕ → ℕ
+readingOne s = rollAnswer (judged (record { most-actions = 2; most-moves = 1 }) s 8) .number
 
 -- a roll of the empty record, by what follows its 68 numbers; and by what follows the record
 abbrev pub placedWith : List ℕ → List ℕ
@@ -65,6 +70,12 @@ pub record ReadingAtSmallest : Type 0 where
   pub accepted : readingGives (startedWith (1 ∷ 4 ∷ [])) ≡ 0
   -- a refused roll hands out zeros, 70 of them
   pub refused : allNumbers (rollAnswer (judged fewest [] 8) .board) ≡ replicate 70 0
+  pub five-groups-give-13 : readingGives (startedWith (128 ∷ 128 ∷ 128 ∷ 128 ∷ 1 ∷ [])) ≡ logFull
+  pub six-groups-give-17 : readingGives (startedWith (128 ∷ 128 ∷ 128 ∷ 128 ∷ 128 ∷ 1 ∷ [])) ≡ badRoll
+  pub five-groups-give-5 : readingGives (128 ∷ 128 ∷ 128 ∷ 128 ∷ 1 ∷ []) ≡ outOfRange
+  pub largest-move : readingOne (startedWith (1 ∷ 2 ∷ 255 ∷ 223 ∷ 1 ∷ [])) ≡ 0
+  pub over-move-gives-17 : readingOne (startedWith (1 ∷ 2 ∷ 128 ∷ 224 ∷ 1 ∷ [])) ≡ badRoll
+  pub no-move-gives-17 : readingOne (startedWith (1 ∷ 2 ∷ [])) ≡ badRoll
 
 -- 68 numbers and the count
 pub record OldReadingAtSmallest : Type 0 where
