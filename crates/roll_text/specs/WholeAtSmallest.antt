@@ -44,7 +44,8 @@ abbrev pub lastFour : ℕ → ℕ → ℕ → ℕ → List ℕ
 lastFour side white black file = replicate 64 0 ++ (side ∷ white ∷ black ∷ file ∷ [])
 
 pub record WholeAtSmallest : Type 0 where
-  -- "the 68 record numbers of the start", "both after the old 68 numbers", "the action count, then for each action kind × 2 + colour and, for a move, the move number"
+  -- "the 68 record numbers of the start", "both after the old 68 numbers",
+  -- "the action count, then for each action kind × 2 + colour and, for a move, the move number"
   pub written : gameText kingOnA1 everyAction 8 ≡ kingsNumbers ++ everyText
   pub written-check : writeCheck eight kingOnA1 everyAction 8 ≡ 0
   pub knight-written : gameText knightOnH8 [] 0 ≡ (replicate 63 0 ++ (2 ∷ 0 ∷ 3 ∷ 3 ∷ 0 ∷ [])) ++ (0 ∷ 1 ∷ 0 ∷ [])
