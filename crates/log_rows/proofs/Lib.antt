@@ -1,0 +1,3 @@
+pub mod Games
+pub mod Bytes
+pub mod NotGood
