@@ -7,6 +7,7 @@ use crate::options::{Asked, Flag, Status, Stop};
 use crate::output::Output;
 use crate::standard::{self, Warning};
 use crate::told::{self, Progress};
+use crate::{roll, svg, whole};
 use menkhodur::{ALL_COLORS, ALL_FILES, ALL_RANKS, Board, CastleRights, Color, Error, Square};
 use std::ffi::OsStr;
 use std::os::unix::ffi::OsStrExt;
@@ -16,19 +17,50 @@ pub const FULL: Flag = Flag {
     value: None,
     about: "read the half-move clock and the move number too, refuse a text without them, and print the FEN that has them",
 };
+pub const SVG: Flag =
+    Flag { name: "svg", value: Some("FILE"), about: "write the board as a picture, and nothing else, to FILE; - is standard output" };
 pub const JSON: Flag = Flag { name: "json", value: None, about: "print one JSON object for each text" };
 
 pub fn run(asked: &Asked) -> Result<Status, Stop> {
+    if let Some(file) = asked.value(&SVG) {
+        return picture(asked, file);
+    }
     let form = Form { full: asked.has(&FULL), json: asked.has(&JSON) };
     let mut explain = Explain { form, output: Output::new()?, status: Status::Well, explained: 0, progress: Progress::new() };
-    if asked.words.len() == 1 && asked.words[0] == "-" {
+    if reads_lines(asked) {
         return explain.lines_of(&asked.words[0]);
     }
-    // A FEN that was not quoted comes as one word per field.
-    let words: Vec<&[u8]> = asked.words.iter().map(|word| word.as_bytes()).collect();
-    explain.put(None, &words.join(&b' '))?;
+    explain.put(None, &one(asked))?;
     explain.output.flush()?;
     Ok(explain.status)
+}
+
+fn reads_lines(asked: &Asked) -> bool {
+    asked.words.len() == 1 && asked.words[0] == "-"
+}
+
+/// The text of the words: a FEN that was not quoted comes as one word per field.
+fn one(asked: &Asked) -> Vec<u8> {
+    let words: Vec<&[u8]> = asked.words.iter().map(|word| word.as_bytes()).collect();
+    words.join(&b' ')
+}
+
+/// Of a text that is refused there is no picture, and standard error says why.
+fn picture(asked: &Asked, file: &OsStr) -> Result<Status, Stop> {
+    if reads_lines(asked) || asked.has(&JSON) {
+        return Err(Stop::trouble("--svg is for one FEN, without --json; see menkhodur explain --help"));
+    }
+    let text = one(asked);
+    match Said::of(&text, asked.has(&FULL)).read {
+        Ok(board) => {
+            let fen = if asked.has(&FULL) { board.to_fen_full() } else { board.to_fen() };
+            whole::put_or_say(file, svg::alone(&board, &fen).as_str().as_bytes(), asked.has(&roll::FORCE), Status::Well)
+        }
+        Err(refused) => {
+            told::tell(&[format!("refused: {refused}\n{}", pointed(&text, refused.offset().unwrap_or_default())).trim_end().as_bytes()]);
+            Ok(Status::Found)
+        }
+    }
 }
 
 #[derive(Clone, Copy)]

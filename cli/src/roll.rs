@@ -3,7 +3,6 @@
 use crate::import::one;
 use crate::input;
 use crate::options::{Asked, Flag, Status, Stop};
-use crate::output::Output;
 use crate::pgn;
 use crate::stored::Stored;
 use crate::whole;
@@ -50,16 +49,7 @@ pub fn upgrade(asked: &Asked) -> Result<Status, Stop> {
 
 /// Writes a roll to the file that a word names; `-` is standard output.
 fn put(asked: &Asked, word: &OsStr, bytes: &[u8]) -> Result<Status, Stop> {
-    let written = if word == "-" { put_out(bytes) } else { whole::put(word, bytes, asked.has(&FORCE)) };
-    written.map(|()| Status::Well)
-}
-
-fn put_out(bytes: &[u8]) -> Result<(), Stop> {
-    let mut output: Output = Output::new()?;
-    // Part of a roll is none, should the reader go.
-    output.status = Status::Trouble;
-    output.put(bytes)?;
-    output.flush()
+    whole::put_or_say(word, bytes, asked.has(&FORCE), Status::Well)
 }
 
 /// What is said of a file that is no roll.

@@ -103,7 +103,7 @@ pub const COMMANDS: &[Command] = &[
             most: None,
             about: "the text; several words are joined by single spaces, and - alone reads texts, one per line, from standard input",
         }]],
-        flags: &[explain::FULL, explain::JSON],
+        flags: &[explain::FULL, explain::SVG, roll::FORCE, explain::JSON],
         text: &[
             "Prints whether the text is accepted; if not, why, with a caret under the byte; if so, the board, the key, the side to move, the \
              castling rights, the en passant square, and the half-move clock and the move number, or why the text has none that can be read. Then \
@@ -114,13 +114,16 @@ pub const COMMANDS: &[Command] = &[
             "A key has no counters: it ends in ` 0 1` whatever they are. With --full the full FEN is printed too, which ends in the text's \
              own, and a text without two good ones is refused: 25, at the start of the fifth or sixth field if that is not one to four digits, or \
              is a move number of 0, and at the text's length if it is missing.",
+            "With --svg the board is written as a picture that stands alone, for a mail or a page, with the key as its text alternative, with --full the \
+             full FEN; nothing is printed. Of a text that is refused there is none, and standard error says why.",
+            WHOLE,
             "In the texts shown, a byte that is not printable ASCII is \\xNN, and a long text is cut around the caret.",
             "An object of --json has text and accepted, and number, offset and reason, or key, settled_key, ranks (from the eighth), side, \
              castling, en_passant, half_moves and full_moves, both null if the text has none, and warnings and notes, each with name, offset and \
              reason; with --full also fen, the full FEN.",
         ],
         statuses: &["the text is accepted", "it is refused"],
-        trouble: "",
+        trouble: "a FILE that exists, without --force",
         examples: &[
             Example {
                 command: "menkhodur explain 'rnbqkbnr/pppppppp/8/8/8/8/PPPPPPP/RNBQKBNR w KQkq - 0 1'",
@@ -130,6 +133,7 @@ pub const COMMANDS: &[Command] = &[
                 command: "menkhodur explain --full '8/5k2/8/8/8/8/5K2/8 b - - 49 120'",
                 about: "a clock of 49 at move 120, which the key does not have",
             },
+            Example { command: "menkhodur explain --svg board.svg '8/5k2/8/8/8/8/5K2/8 b - - 49 120'", about: "the board as a picture" },
         ],
         run: explain::run,
     },

@@ -1,7 +1,8 @@
 //! A file that is written whole or not at all.
 
 use crate::input;
-use crate::options::Stop;
+use crate::options::{Status, Stop};
+use crate::output::Output;
 use std::ffi::OsStr;
 use std::fs::{self, File, Metadata};
 use std::io::{self, ErrorKind, Write};
@@ -13,6 +14,19 @@ pub fn put(word: &OsStr, bytes: &[u8], replace: bool) -> Result<(), Stop> {
     let mut making = Making::begin(word, replace)?;
     making.file.write_all(bytes).map_err(|error| failed(word, &error))?;
     making.place()
+}
+
+/// The same, where `-` is standard output, for what is the whole work of a command, with the status that it has come to. Part of it is
+/// nothing, should the reader go.
+pub fn put_or_say(word: &OsStr, bytes: &[u8], replace: bool, status: Status) -> Result<Status, Stop> {
+    if word != "-" {
+        return put(word, bytes, replace).map(|()| status);
+    }
+    let mut output: Output = Output::new()?;
+    output.status = Status::Trouble;
+    output.put(bytes)?;
+    output.flush()?;
+    Ok(status)
 }
 
 /// A file in the making, beside the one that it is to be.

@@ -14,6 +14,7 @@ mod logs;
 mod options;
 mod pgn;
 mod pgn_rolls;
+mod pictures;
 mod pipes;
 mod report;
 mod rolls;
