@@ -2,6 +2,7 @@
 
 mod completion;
 mod diff;
+mod drawn;
 mod entry;
 mod explain;
 mod export;

@@ -1,5 +1,6 @@
 //! `menkhodur ruling`: a stored game, its result, and whether a draw may be claimed, with what that rests on.
 
+use crate::drawn::Drawn;
 use crate::entry::{self, Entry, What};
 use crate::json::{self, Object};
 use crate::options::{Asked, Flag, Status, Stop};
@@ -25,7 +26,7 @@ pub fn run(asked: &Asked) -> Result<Status, Stop> {
         }
         (_, fault) => return Err(Stop::Trouble(fault.clone().unwrap_or_default())),
     };
-    let case = Case::of(&log);
+    let case = Case::of(&stored, &log);
     let mut output: Output = Output::new()?;
     output.status = case.status();
     output.put(if asked.has(&JSON) { case.object() + "\n" } else { case.written() }.as_bytes())?;
@@ -45,45 +46,48 @@ fn at(asked: &Asked, all: usize) -> Result<usize, Stop> {
 }
 
 /// A game with its ruling.
-struct Case {
-    entries: Vec<Entry>,
-    ruling: Ruling,
+pub struct Case {
+    pub entries: Vec<Entry>,
+    pub ruling: Ruling,
     /// The earlier positions that equal the last, by the moves that led to them.
-    equal: Vec<usize>,
+    pub equal: Vec<usize>,
     /// The last move that emptied each count, 0 for the start, and by what.
-    since: Since,
-    laws_since: Since,
+    pub since: Since,
+    pub laws_since: Since,
+    /// Whether no claim is needed any more.
+    pub drawn: Option<Drawn>,
 }
 
-const RIGHTS: &str = "a change of castling rights";
+pub const RIGHTS: &str = "a change of castling rights";
 
-struct Since {
-    moves: usize,
-    by: Vec<&'static str>,
+pub struct Since {
+    pub moves: usize,
+    pub by: Vec<&'static str>,
 }
 
 impl Case {
-    fn of(log: &Log) -> Case {
+    /// The case of a log, which is the beginning of what is stored.
+    pub fn of(stored: &Stored, log: &Log) -> Case {
         let (entries, ruling) = (entry::of_log(log), log.ruling());
-        let since = |count: usize| Since { moves: ruling.moves - count, by: causes(&entries, ruling.moves - count) };
+        let since = |count: usize| Since { moves: ruling.moves - count, by: causes_at(&entries, place(&entries, ruling.moves - count)) };
         let (since, mut laws_since) = (since(ruling.count), since(ruling.laws_count));
         // The move that began the Laws' count may have changed rights too, but that is not what began it.
         laws_since.by.retain(|cause| *cause != RIGHTS);
-        let equal = equal(log, &ruling);
-        Case { entries, ruling, equal, since, laws_since }
+        let (equal, drawn) = (equal(log, &ruling), Drawn::of(stored, log, &entries, &ruling));
+        Case { entries, ruling, equal, since, laws_since, drawn }
     }
 
-    fn status(&self) -> Status {
+    pub fn status(&self) -> Status {
         if self.ruling.laws_claim.or(self.ruling.claim).is_some() { Status::Well } else { Status::Found }
     }
 
     /// The entry of the move after which so many were made; the start for 0.
-    fn after(&self, moves: usize) -> &Entry {
+    pub fn after(&self, moves: usize) -> &Entry {
         &self.entries[place(&self.entries, moves)]
     }
 
     /// `the start`, or `move 8 (4... Ng8)`: the log's own number, and the one on a score sheet.
-    fn place(&self, moves: usize) -> String {
+    pub fn place(&self, moves: usize) -> String {
         match moves {
             0 => "the start".to_string(),
             moves => format!("move {moves} ({} {})", entry::number(&self.after(moves - 1).board), self.after(moves).written()),
@@ -99,7 +103,8 @@ impl Case {
             wrapped(&self.game()) + "\n",
             row("result", format!("{result}, after {} and {}", told::counted(actions, "action"), told::counted(moves, "move"))),
             row("claim", self.claim(self.ruling.claim)),
-            row("Laws' claim", self.claim(self.ruling.laws_claim) + "\n"),
+            row("Laws' claim", self.claim(self.ruling.laws_claim)),
+            self.drawn.as_ref().map_or(String::new(), |drawn| row("drawn", self.drawn(drawn))) + "\n",
             row("count", self.counted(self.ruling.count, &self.since, "a pawn move, a capture or a change of castling rights")),
             row("Laws' count", self.counted(self.ruling.laws_count, &self.laws_since, "a pawn move or a capture (article 9.3)")),
             row("equal", self.equals()),
@@ -114,6 +119,11 @@ impl Case {
             (None, Some(_)) => "the game is over: no draw may be claimed".to_string(),
             (None, None) => "no draw may be claimed".to_string(),
         }
+    }
+
+    fn drawn(&self, drawn: &Drawn) -> String {
+        let (articles, reasons) = (drawn.articles().join(" and "), drawn.reasons().join(", and "));
+        format!("without a claim since {} (article {articles}): {reasons}", self.place(drawn.moves))
     }
 
     fn counted(&self, count: usize, since: &Since, without: &str) -> String {
@@ -168,6 +178,7 @@ impl Case {
         let object = object.raw("result_number", ruling.result.map_or(0, |result| result.number()));
         let object = reason(object, "claim", ruling.claim);
         let object = reason(object, "laws_claim", ruling.laws_claim);
+        let object = object.raw_or_null("drawn", self.drawn.as_ref().map(drawn));
         let object = object.raw("count", ruling.count).raw("count_since", since(&self.since));
         let object = object.raw("laws_count", ruling.laws_count).raw("laws_since", since(&self.laws_since));
         let position = |moves: &usize| {
@@ -184,10 +195,9 @@ fn place(entries: &[Entry], moves: usize) -> usize {
     entries.partition_point(|entry| entry.moves < moves)
 }
 
-/// What about the move that led to a position empties the crate's count; nothing does at the start. The archive tells where a count
+/// What about the move of an entry empties the crate's count; nothing does at the start. The archive tells where a count
 /// began; the boards around that move tell by what.
-fn causes(entries: &[Entry], moves: usize) -> Vec<&'static str> {
-    let at = place(entries, moves);
+pub fn causes_at(entries: &[Entry], at: usize) -> Vec<&'static str> {
     let What::Move(made, _) = entries[at].what else { return vec!["start"] };
     let (before, after) = (&entries[at - 1].board, &entries[at].board);
     let rights = |board: &Board| ALL_COLORS.map(|color| board.get_castle_rights(color));
@@ -214,6 +224,12 @@ fn equal(log: &Log, ruling: &Ruling) -> Vec<usize> {
 fn reason(object: Object, name: &str, reason: Option<Reason>) -> Object {
     let words = reason.map(|reason| reason.to_string());
     object.text_or_null(name, words.as_deref()).raw(&format!("{name}_number"), reason.map_or(0, Reason::number))
+}
+
+fn drawn(drawn: &Drawn) -> String {
+    let texts = |texts: Vec<&str>| json::array(texts.into_iter().map(json::quoted));
+    let object = Object::new().raw("moves", drawn.moves).raw("action", drawn.action);
+    object.raw("articles", texts(drawn.articles())).raw("reasons", texts(drawn.reasons())).end()
 }
 
 fn since(since: &Since) -> String {

@@ -380,10 +380,14 @@ pub const COMMANDS: &[Command] = &[
              they rest on: both counts, where each began and by what, and the earlier positions of the run that equal the last, by the log's \
              move numbers, with their key. Both counts begin with the log: what the start's half-move clock says is not added. Counters \
              do not keep positions from being equal. In a game that is over no draw may be claimed, and the ruling says so.",
+            "By article 9.6 a game is drawn without a claim once the same position has appeared five times (9.6.1), or 75 moves were made by each \
+             player without a pawn move and without a capture (9.6.2), unless the last of them mated. The row drawn tells it, with the move since \
+             which it is so; what was done after that move does not change it. The log's rules do not have the article, and its result and the \
+             exit status do not know it.",
             NOT_GOOD,
             "With --at the actions after N need not stand.",
-            "The object of --json has actions, moves, result, claim and laws_claim in words and as numbers, count with count_since, laws_count \
-             with laws_since, equals, equal and last, and as game the objects of `menkhodur show`.",
+            "The object of --json has actions, moves, result, claim and laws_claim in words and as numbers, drawn (null, or moves, action, articles and \
+             reasons), count with count_since, laws_count with laws_since, equals, equal and last, and as game the objects of `menkhodur show`.",
         ],
         statuses: &["a claim stands, by the log's rules or only by the Laws", "none stands"],
         trouble: "a log that is not good (with --at: up to N), or that has fewer actions than N; files that are not a log's parts by their size",

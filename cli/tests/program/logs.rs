@@ -215,6 +215,7 @@ fn see_ruling(game: &Game, at: usize, words: &[&str]) {
         see_count(row(text, name), number(told, field), &game.told[..=since], by_rights);
     }
     see_equals(text, game, told);
+    see_drawn(text, &game.told[..=at]);
     assert_eq!(row(text, "start"), fen(&game.told[0]));
     see_names(text, &game.told[..=at]);
 }
@@ -230,6 +231,22 @@ fn see_count(line: &str, count: usize, told: &[Told], by_rights: bool) {
             assert!(line.ends_with(&owed), "{line} {owed}");
         }
         _ => assert!(line.ends_with(", since the start"), "{line}"),
+    }
+}
+
+/// By article 9.6 a game is drawn by the first move after which a position has come five times or 150 moves were made, if it did not mate.
+fn see_drawn(text: &str, told: &[Told]) {
+    let mated = |entry: &Told| ["1", "3"].contains(&entry["result"].as_str());
+    let drawn = told.iter().find(|entry| !mated(entry) && (number(entry, "equals") >= 4 || number(entry, "laws_count") >= 150));
+    let shown = text.lines().find_map(|line| line.strip_prefix("drawn        "));
+    match (drawn, shown) {
+        (None, None) => {}
+        (Some(drawn), Some(shown)) => {
+            assert!(shown.starts_with(&format!("without a claim since move {} (", drawn["moves"])), "{shown}");
+            assert_eq!(shown.contains("9.6.1"), number(drawn, "equals") >= 4, "{shown}");
+            assert_eq!(shown.contains("9.6.2"), number(drawn, "laws_count") >= 150, "{shown}");
+        }
+        (_, shown) => panic!("{shown:?} in {text}"),
     }
 }
 

@@ -3,6 +3,7 @@
 mod closed;
 mod common;
 mod diff;
+mod drawn;
 mod explain;
 mod export;
 mod figures;
@@ -11,6 +12,7 @@ mod games;
 mod import;
 mod keys;
 mod logs;
+mod made;
 mod options;
 mod pgn;
 mod pgn_rolls;
