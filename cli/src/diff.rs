@@ -4,9 +4,10 @@ use crate::input;
 use crate::json::Object;
 use crate::options::{Asked, Flag, Status, Stop};
 use crate::output::Output;
+use crate::page;
 use crate::roll;
 use crate::told;
-use menkhodur::{Action, CastleRights, Color, Difference, Differences, File, Piece, Refused, Roll, Which, differences};
+use menkhodur::{Action, CastleRights, Color, Difference, Differences, Error, File, Piece, Refused, Roll, Which, differences};
 
 pub const NAMES: Flag = Flag { name: "names", value: None, about: "after a tab, name squares, men and actions in words" };
 pub const OLD_FIRST: Flag = Flag { name: "old-first", value: None, about: "FIRST is an old roll, without counters" };
@@ -14,11 +15,13 @@ pub const OLD_SECOND: Flag = Flag { name: "old-second", value: None, about: "SEC
 pub const JSON: Flag = Flag { name: "json", value: None, about: "print one JSON object for each line" };
 
 pub fn run(asked: &Asked) -> Result<Status, Stop> {
+    let as_page = page::wanted(asked, &JSON)?;
     if asked.words.iter().all(|word| word == "-") {
         return Err(Stop::trouble("standard input can be only one of FIRST and SECOND"));
     }
     let (first, second) = (roll::read(&asked.words[0])?, roll::read(&asked.words[1])?);
     let mut output: Output = Output::new()?;
+    let rolls = [rolled(asked, &first, &OLD_FIRST), rolled(asked, &second, &OLD_SECOND)];
     let lines = match compared(asked, first, second) {
         Ok(lines) => lines,
         Err(refused) => {
@@ -32,6 +35,10 @@ pub fn run(asked: &Asked) -> Result<Status, Stop> {
         }
     };
     let status = if lines.len() == 0 { Status::Well } else { Status::Found };
+    if let ([Ok(first), Ok(second)], true) = (rolls, as_page) {
+        let lines: Vec<(Difference, String)> = lines.map(|difference| (difference, words(&difference))).collect();
+        return page::put(asked, &page::differences::of(&[first, second], &lines, &asked.words), status);
+    }
     output.status = status;
     for difference in lines {
         let told = if asked.has(&JSON) { object(&difference) } else { line(&difference, asked.has(&NAMES)) };
@@ -55,10 +62,17 @@ fn compared(asked: &Asked, first: Vec<u8>, second: Vec<u8>) -> Result<Difference
 }
 
 fn line(difference: &Difference, names: bool) -> String {
-    match named(difference) {
-        [what, first, second] if names => format!("{difference}\t{what}: {first}, {second}"),
-        _ => difference.to_string(),
-    }
+    if names { format!("{difference}\t{}", words(difference)) } else { difference.to_string() }
+}
+
+fn words(difference: &Difference) -> String {
+    let [what, first, second] = named(difference);
+    format!("{what}: {first}, {second}")
+}
+
+/// The game of a roll, of the kind that it is said to be.
+fn rolled(asked: &Asked, roll: &[u8], old: &Flag) -> Result<Roll, Error> {
+    if asked.has(old) { Roll::from_old_bytes(roll) } else { Roll::from_bytes(roll) }
 }
 
 /// The words of a line are its key, for an action its index, and two numbers.
@@ -93,7 +107,7 @@ fn named(difference: &Difference) -> [String; 3] {
     [what, first, second]
 }
 
-fn man(man: Option<(Piece, Color)>) -> String {
+pub fn man(man: Option<(Piece, Color)>) -> String {
     man.map_or("nothing".to_string(), |(piece, color)| man_name(piece, color))
 }
 

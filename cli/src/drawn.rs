@@ -18,22 +18,28 @@ pub struct Drawn {
     pub action: usize,
     pub five_times: bool,
     pub by_count: bool,
+    /// The earlier positions that equal the one after that move, by the moves that led to them.
+    pub equal: Vec<usize>,
 }
 
 impl Drawn {
     /// What the archive's numbers say of a game up to a position, unless its last move mated: that comes first.
-    fn by(ruling: &Ruling, action: usize) -> Option<Drawn> {
+    fn by(log: &Log, ruling: &Ruling, action: usize) -> Option<Drawn> {
         let mated = matches!(ruling.result, Some(GameResult::WhiteCheckmates | GameResult::BlackCheckmates));
         let (five_times, by_count) = (ruling.equals >= EARLIER, ruling.laws_count >= MOVES);
-        (!mated && (five_times || by_count)).then_some(Drawn { moves: ruling.moves, action, five_times, by_count })
+        let drawn = |()| Drawn { moves: ruling.moves, action, five_times, by_count, equal: ruling::equal(log, ruling) };
+        (!mated && (five_times || by_count)).then_some(()).map(drawn)
     }
 
     /// Of the game of a log, which is the beginning of what is stored.
     pub fn of(stored: &Stored, log: &Log, entries: &[Entry], ruling: &Ruling) -> Option<Drawn> {
         let last = entries.last()?.action;
         let first = first(log, entries).filter(|action| *action < last);
-        let earlier = first.and_then(|action| Drawn::by(&stored.log(action)?.ruling(), action));
-        earlier.or_else(|| Drawn::by(ruling, last))
+        let earlier = first.and_then(|action| {
+            let log = stored.log(action)?;
+            Drawn::by(&log, &log.ruling(), action)
+        });
+        earlier.or_else(|| Drawn::by(log, ruling, last))
     }
 
     pub fn articles(&self) -> Vec<&'static str> {

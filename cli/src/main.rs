@@ -21,6 +21,7 @@ mod markup;
 mod men;
 mod options;
 mod output;
+mod page;
 mod pgn;
 mod positions;
 mod replayed;

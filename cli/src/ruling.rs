@@ -5,7 +5,8 @@ use crate::entry::{self, Entry, What};
 use crate::json::{self, Object};
 use crate::options::{Asked, Flag, Status, Stop};
 use crate::output::Output;
-use crate::stored::Stored;
+use crate::page;
+use crate::stored::{Fault, Stored};
 use crate::told;
 use menkhodur::lent::CLAIM_COUNT;
 use menkhodur::{ALL_COLORS, Board, Log, Piece, Position, Reason, Ruling};
@@ -14,24 +15,42 @@ pub const AT: Flag = Flag { name: "at", value: Some("N"), about: "rule after the
 pub const JSON: Flag = Flag { name: "json", value: None, about: "print one JSON object" };
 
 pub fn run(asked: &Asked) -> Result<Status, Stop> {
+    let as_page = page::wanted(asked, &JSON)?;
     let stored = Stored::load(&asked.words)?;
     let at = at(asked, stored.action_count)?;
-    let fault = stored.fault().map(|fault| stored.told(&fault));
-    let log = match (stored.log(at), &fault) {
-        (Some(log), None) => log,
+    let (log, notice) = match (stored.log(at), stored.fault()) {
+        (Some(log), None) => (log, None),
         // What is behind the actions asked for does not touch a ruling on them, but whoever rules must know.
         (Some(log), Some(fault)) if asked.has(&AT) => {
-            told::tell(&[fault, format!("; the first {} stand", told::counted(at as u64, "action")).as_bytes()]);
-            log
+            let stand = format!("; the first {} stand", told::counted(at as u64, "action"));
+            let notice = [stored.told(&fault), stand.into_bytes()].concat();
+            told::tell(&[&notice]);
+            (log, Some(notice))
         }
-        (_, fault) => return Err(Stop::Trouble(fault.clone().unwrap_or_default())),
+        (_, fault) => return Err(not_good(asked, &stored, fault.as_ref())),
     };
     let case = Case::of(&stored, &log);
+    if as_page {
+        return page::put(asked, &page::ruled::of(&case, notice.as_deref(), &asked.words), case.status());
+    }
     let mut output: Output = Output::new()?;
     output.status = case.status();
     output.put(if asked.has(&JSON) { case.object() + "\n" } else { case.written() }.as_bytes())?;
     output.flush()?;
     Ok(case.status())
+}
+
+/// What is told of a log that is not good. Its page is written all the same, for whoever wants to see why.
+fn not_good(asked: &Asked, stored: &Stored, fault: Option<&Fault>) -> Stop {
+    let Some(fault) = fault else { return Stop::trouble("") };
+    let told = stored.told(fault);
+    if asked.has(&page::HTML) {
+        if let Err(stop) = page::put(asked, &page::not_good::of(stored, fault, &asked.words), Status::Trouble) {
+            told::tell(&[&told]);
+            return stop;
+        }
+    }
+    Stop::Trouble(told)
 }
 
 /// The number of actions to rule after.
@@ -96,20 +115,34 @@ impl Case {
 
     fn written(&self) -> String {
         let row = |name: &str, about: String| format!("{name:13}{about}\n");
-        let result = self.ruling.result.map_or("the game goes on".to_string(), |result| result.to_string());
-        let (actions, moves) = (self.entries.len() as u64 - 1, self.ruling.moves as u64);
+        let [count, laws_count] = self.counts();
         let rows = [
             row("start", self.entries[0].board.to_fen_full()),
             wrapped(&self.game()) + "\n",
-            row("result", format!("{result}, after {} and {}", told::counted(actions, "action"), told::counted(moves, "move"))),
+            row("result", self.result()),
             row("claim", self.claim(self.ruling.claim)),
             row("Laws' claim", self.claim(self.ruling.laws_claim)),
             self.drawn.as_ref().map_or(String::new(), |drawn| row("drawn", self.drawn(drawn))) + "\n",
-            row("count", self.counted(self.ruling.count, &self.since, "a pawn move, a capture or a change of castling rights")),
-            row("Laws' count", self.counted(self.ruling.laws_count, &self.laws_since, "a pawn move or a capture (article 9.3)")),
+            row("count", count),
+            row("Laws' count", laws_count),
             row("equal", self.equals()),
         ];
         rows.concat()
+    }
+
+    /// The result, and how long the game is.
+    pub fn result(&self) -> String {
+        let result = self.ruling.result.map_or("the game goes on".to_string(), |result| result.to_string());
+        let (actions, moves) = (self.entries.len() as u64 - 1, self.ruling.moves as u64);
+        format!("{result}, after {} and {}", told::counted(actions, "action"), told::counted(moves, "move"))
+    }
+
+    /// The log's count and the Laws', each with where it began.
+    pub fn counts(&self) -> [String; 2] {
+        [
+            self.counted(self.ruling.count, &self.since, "a pawn move, a capture or a change of castling rights"),
+            self.counted(self.ruling.laws_count, &self.laws_since, "a pawn move or a capture (article 9.3)"),
+        ]
     }
 
     /// In a game that is over no claim stands, whatever the counts say.
@@ -211,7 +244,7 @@ pub fn causes_at(entries: &[Entry], at: usize) -> Vec<&'static str> {
 
 /// All earlier positions of the run that equal the last in board, counters apart, and list. How many there are, and the two earliest, are the
 /// archive's.
-fn equal(log: &Log, ruling: &Ruling) -> Vec<usize> {
+pub fn equal(log: &Log, ruling: &Ruling) -> Vec<usize> {
     let (last, list) = (log.current_position(), log.current_moves());
     let earlier = log.positions().enumerate().skip(ruling.moves - ruling.count).take(ruling.count);
     let equals_last = |other: &Position<'_>| other.board.numbers() == last.numbers() && other.list == list;

@@ -3,7 +3,7 @@
 use crate::input;
 use crate::options::Stop;
 use menkhodur::lent::{self, ACTION_BYTES, ACTIONS_PART, MAX_COUNT, POSITION_BYTES, POSITIONS_PART, Record};
-use menkhodur::{Board, Counts, Error, Log};
+use menkhodur::{Board, Counts, Error, Log, Move};
 use std::ffi::{OsStr, OsString};
 use std::fmt;
 use std::io::Read;
@@ -60,6 +60,9 @@ pub struct Counter {
     owed: String,
 }
 
+/// The kind of an action that is a move.
+const MAKE_MOVE: u8 = 1;
+
 const CLOCK: &str = "half-move clock";
 const NUMBER: &str = "move number";
 
@@ -84,6 +87,22 @@ impl Stored {
             (None, Some(log)) => Ok(log),
             (fault, _) => Err(Stop::Trouble(fault.map_or(vec![], |fault| self.told(&fault)))),
         }
+    }
+
+    /// What stands before a fault.
+    pub fn standing(&self, fault: &Fault) -> Option<Log> {
+        match fault {
+            Fault::Start(_) => None,
+            Fault::Action { number, .. } => self.log(number - 1),
+            Fault::Positions { .. } => self.log(self.action_count),
+        }
+    }
+
+    /// The move of an action, if it is one.
+    pub fn move_of(&self, number: usize) -> Option<Move> {
+        let action = &self.actions[ACTION_BYTES * (number - 1)..][..ACTION_BYTES];
+        let made = u64::from(u16::from_le_bytes([action[2], action[3]]));
+        (action[0] == MAKE_MOVE).then(|| Move::from_number(made).ok()).flatten()
     }
 
     /// What is said of a fault, with the file that is at fault.
@@ -146,7 +165,7 @@ impl Stored {
         let (kind, colour, made) = (action[0], action[1], u64::from(u16::from_le_bytes([action[2], action[3]])));
         // The kinds of action as host/menkhodur.h numbers them.
         let call = match kind {
-            1 => return self.why_move(counts, made),
+            MAKE_MOVE => return self.why_move(counts, made),
             2 => lent::game_offer_draw(&mut actions, &self.positions, counts, colour),
             3 => lent::game_accept_draw(&mut actions, &self.positions, counts),
             4 => lent::game_declare_draw(&mut actions, &self.positions, counts),

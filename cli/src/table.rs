@@ -3,7 +3,7 @@
 
 use crate::import::shelf;
 use crate::options::{Argument, Command, Example, Flag, Takes};
-use crate::{completion, diff, explain, export, found, help, import, keys, man, pgn, report, roll, ruling, show};
+use crate::{completion, diff, explain, export, found, help, import, keys, man, page, pgn, report, roll, ruling, show};
 use std::ffi::OsStr;
 
 pub const ABOUT: &str = "FEN keys, explanations and reports, PGN games and their import into a store, rulings, stored logs, rolls, and what differs \
@@ -47,6 +47,9 @@ const NOT_GOOD: &str = "If a log is not good, standard error says so, with the f
 const WHOLE: &str = "A file is written whole or not at all: to one beside it, .menkhodur-PROCESS-N, which then takes its place. One that exists is \
                      left alone, unless there is --force; then it is replaced and keeps its permissions. Only a regular file is replaced. If the \
                      program is killed, the file beside it may be left behind, and can be removed.";
+
+const PAGE: &str = "A page is one file that needs no other, no network and no script. Its diagrams have their FEN as a text alternative; what comes from \
+                    the names of files is escaped.";
 
 pub const COMMANDS: &[Command] = &[
     Command {
@@ -373,7 +376,7 @@ pub const COMMANDS: &[Command] = &[
         name: "ruling",
         about: "a stored game, its result, and whether a draw may be claimed",
         forms: &[LOG],
-        flags: &[ruling::AT, ruling::JSON],
+        flags: &[ruling::AT, page::HTML, roll::FORCE, ruling::JSON],
         text: &[
             "Prints the start with its counters; the game, each move by its name from the stored lists and with its number by the position \
              that it was made in, with offers and resignations; the result; the ruling by the crate's count and by that of article 9.3 of the Laws; and what \
@@ -386,19 +389,31 @@ pub const COMMANDS: &[Command] = &[
              exit status do not know it.",
             NOT_GOOD,
             "With --at the actions after N need not stand.",
+            "With --html a page is written, for people to look at, to print on A4 and to send: the ruling in one sentence with its article; the equal \
+             positions side by side, the squares of the last move marked; the counts over the game; the score sheet, on which the evidence is marked \
+             and each move leads to its diagram. Of a log that is not good it shows the action that does not stand, and where a move came with \
+             another position than it leads to, both boards with the squares that differ marked; standard error and the status are the same.",
+            PAGE,
+            WHOLE,
             "The object of --json has actions, moves, result, claim and laws_claim in words and as numbers, drawn (null, or moves, action, articles and \
              reasons), count with count_since, laws_count with laws_since, equals, equal and last, and as game the objects of `menkhodur show`.",
         ],
         statuses: &["a claim stands, by the log's rules or only by the Laws", "none stands"],
         trouble: "a log that is not good (with --at: up to N), or that has fewer actions than N; files that are not a log's parts by their size",
-        examples: &[Example { command: "menkhodur ruling --at 8 game.actions game.positions", about: "after the first eight actions" }],
+        examples: &[
+            Example { command: "menkhodur ruling --at 8 game.actions game.positions", about: "after the first eight actions" },
+            Example {
+                command: "menkhodur ruling --html ruling.html game.actions game.positions",
+                about: "a page to look at, to print or to send",
+            },
+        ],
         run: ruling::run,
     },
     Command {
         name: "show",
         about: "a roll or a stored log as text, one action per line",
         forms: &[&[file("ROLL", "a game's start and its actions as bytes")], LOG],
-        flags: &[show::OLD, show::JSON],
+        flags: &[show::OLD, page::HTML, roll::FORCE, show::JSON],
         text: &[
             "Prints a line for the start, as action 0, and for each action: its number, how many moves have been made, the side, the move's \
              name or what else was done, the length of the list of the position after it, and that position's full FEN, which ends in its \
@@ -409,6 +424,9 @@ pub const COMMANDS: &[Command] = &[
             WHICH_KIND,
             NOT_GOOD,
             "Of a log that is not good, what stands is printed.",
+            "With --html a page is written: the score sheet, and a diagram of each position with its FEN.",
+            PAGE,
+            WHOLE,
             "An object of --json has action, moves, side, kind (start, move, offer, accept, declare, resign), key, fen (the full one), \
              half_moves, full_moves, in_check and list; that of a move has name, null if no text names it, and coordinates. Of a roll, name, \
              in_check and list are null.",
@@ -418,6 +436,7 @@ pub const COMMANDS: &[Command] = &[
         examples: &[
             Example { command: "menkhodur show game.roll", about: "every action of a game, and the position after it" },
             Example { command: "menkhodur show game.actions game.positions", about: "the same of a log, with the names of its moves" },
+            Example { command: "menkhodur show --html game.html game.roll", about: "a diagram of each position" },
         ],
         run: show::run,
     },
@@ -428,7 +447,7 @@ pub const COMMANDS: &[Command] = &[
             file("FIRST", "a roll: a game's start and its actions as bytes"),
             file("SECOND", "another; - may stand for one of the two"),
         ]],
-        flags: &[diff::NAMES, diff::OLD_FIRST, diff::OLD_SECOND, diff::JSON],
+        flags: &[diff::NAMES, diff::OLD_FIRST, diff::OLD_SECOND, page::HTML, roll::FORCE, diff::JSON],
         text: &[
             "Prints a line for each of these that differs, in this order: the squares of the start, keyed by number (a1 is 0, e4 is 28, h8 is \
              63), side, white, black, ep, half, full, then the first action that differs, keyed action and its index from 0. A line is its key, \
@@ -442,6 +461,10 @@ pub const COMMANDS: &[Command] = &[
             WHICH_KIND,
             "For a roll that is refused only the number is printed: 5, a number of the start out of range; 13, more actions or moves than a log \
              has; 17, anything else. If both would be refused, it is the first one's. Standard error tells which roll, and why.",
+            "With --html a page is written: what differs, in words; both starts side by side, the squares that differ marked; and both score sheets from \
+             the first action on that differs, with their diagrams. Of a roll that is refused, none.",
+            PAGE,
+            WHOLE,
             "An object of --json has key, for an action index, first and second, and in words name, first_name and second_name; that of a refused \
              roll has roll (first or second), number and reason.",
         ],
@@ -450,6 +473,10 @@ pub const COMMANDS: &[Command] = &[
         examples: &[
             Example { command: "menkhodur diff --names here.roll there.roll", about: "two sites' copies of a game" },
             Example { command: "menkhodur diff --old-first old/7.roll new/7.roll", about: "whether a new roll has the game of an old one" },
+            Example {
+                command: "menkhodur diff --html differs.html here.roll there.roll",
+                about: "a page with both starts and score sheets",
+            },
         ],
         run: diff::run,
     },

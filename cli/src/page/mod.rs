@@ -1,0 +1,76 @@
+//! Pages for people to look at: HTML that needs nothing but itself, without scripts, that can be printed.
+
+pub mod differences;
+mod figure;
+pub mod not_good;
+pub mod ruled;
+mod sentence;
+mod sheet;
+pub mod shown;
+mod strip;
+
+use crate::input;
+use crate::markup::{Markup, element, empty};
+use crate::options::{Asked, Flag, Status, Stop};
+use crate::roll;
+use crate::svg;
+use crate::whole;
+use std::ffi::OsString;
+
+pub const HTML: Flag = Flag {
+    name: "html",
+    value: Some("FILE"),
+    about: "write a page for people to look at, and nothing else, to FILE; - is standard output",
+};
+
+const STYLE: &str = include_str!("style.css");
+
+/// Whatever a page has inside, a browser runs and fetches nothing.
+const POLICY: &str = "default-src 'none'; style-src 'unsafe-inline'";
+
+/// Writes a page to the file of `--html`; the status is what the command has come to.
+pub fn put(asked: &Asked, page: &Markup, status: Status) -> Result<Status, Stop> {
+    let file = asked.value(&HTML).unwrap_or_default();
+    whole::put_or_say(file, page.as_str().as_bytes(), asked.has(&roll::FORCE), status)
+}
+
+/// Whether a page is asked for, which has the place of everything else that is printed.
+pub fn wanted(asked: &Asked, json: &Flag) -> Result<bool, Stop> {
+    match asked.has(&HTML) && asked.has(json) {
+        true => Err(Stop::trouble("only one of --html and --json can be written")),
+        false => Ok(asked.has(&HTML)),
+    }
+}
+
+/// A page with a title and a body, made from the files that some words name.
+fn page(title: &str, body: Markup, words: &[OsString]) -> Markup {
+    let policy = [("http-equiv", "Content-Security-Policy"), ("content", POLICY)];
+    let view = [("name", "viewport"), ("content", "width=device-width, initial-scale=1")];
+    let head = [
+        empty("meta", &[("charset", "utf-8")]).line(),
+        empty("meta", &policy).line(),
+        empty("meta", &view).line(),
+        element("title", &[], Markup::text(title)).line(),
+        element("style", &[], Markup::fixed(STYLE)).line(),
+    ];
+    let body = svg::shared().then(element("main", &[], body)).line().then(footer(words));
+    let inside = element("head", &[], head.into_iter().collect()).line().then(element("body", &[], body)).line();
+    Markup::fixed("<!DOCTYPE html>\n").then(element("html", &[("lang", "en")], inside)).line()
+}
+
+fn footer(words: &[OsString]) -> Markup {
+    let name = |word: &OsString| element("bdi", &[], Markup::text(input::shown(word)));
+    let mut names = words.iter().map(name);
+    let first = names.next().unwrap_or_default();
+    let all = names.fold(first, |all, next| all.then(Markup::text(" and ")).then(next));
+    let about = ". Positions, names, counts and what is equal are the proved archive's; the words are the program's.";
+    element("footer", &[], Markup::text("Made by menkhodur from ").then(all).then(Markup::text(about))).line()
+}
+
+fn heading(text: &str) -> Markup {
+    element("h2", &[], Markup::text(text)).line()
+}
+
+fn paragraph(text: impl AsRef<[u8]>) -> Markup {
+    element("p", &[], Markup::text(text)).line()
+}
