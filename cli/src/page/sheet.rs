@@ -2,6 +2,7 @@
 
 use crate::entry::{self, Entry, What};
 use crate::markup::{Markup, element};
+use crate::told;
 use menkhodur::{Board, Color};
 use std::collections::BTreeMap;
 
@@ -9,7 +10,7 @@ use std::collections::BTreeMap;
 pub type Marks = BTreeMap<usize, Vec<String>>;
 
 /// The most rows that are printed: a game of this length takes less than a page of small print.
-const PRINTED: usize = 300;
+const PRINTED: usize = 320;
 
 /// Of a longer one, the rows at the front that are printed; the others are the last ones.
 const FRONT: usize = 20;
@@ -28,7 +29,7 @@ pub fn sheet(entries: &[Entry], from: usize, marks: &Marks, prefix: &str) -> Mar
 }
 
 fn cut(rows: usize) -> Markup {
-    element("li", &[("class", "printed")], Markup::text(format!("({rows} rows are not printed)"))).line()
+    element("li", &[("class", "printed")], Markup::text(format!("({} not printed)", told::counted(rows as u64, "row")))).line()
 }
 
 /// A row has white's move and black's, and what was done beside them.

@@ -8,7 +8,7 @@ const WIDTH: usize = 640;
 const EDGE: usize = 16;
 /// The height of a bar, and of all that belongs to it.
 const BAR: usize = 20;
-const ROW: usize = 64;
+const ROW: usize = 84;
 
 /// The strip, one bar if the counts are one.
 pub fn of(case: &Case) -> Markup {
@@ -42,16 +42,16 @@ impl Scale {
     }
 
     fn bar(&self, top: usize, name: &str, since: &Since, count: usize) -> Markup {
-        let y = top + 22;
+        let y = top + 40;
         let (from, to, hundred) = (self.x(since.moves), self.x(since.moves + count), self.x(since.moves + CLAIM_COUNT));
         let game = rectangle(EDGE, y + BAR / 2 - 2, self.x(self.moves) - EDGE, 4, "#767676");
         let counted = rectangle(from, y, (to - from).max(2), BAR, "#0b3d91");
-        let mark = rectangle(hundred - 1, top + 2, 3, BAR + 24, "#a00000");
+        let mark = rectangle(hundred - 1, top + 22, 3, BAR + 22, "#a00000");
         let told = text(EDGE, top + 15, "start", &format!("{name}: {count}"));
         // A label at the right edge would be cut.
         let anchor = if hundred > WIDTH - 60 { "end" } else { "start" };
         let at = if anchor == "end" { hundred - 5 } else { hundred + 5 };
-        let hundred = text(at, top + 15, anchor, &CLAIM_COUNT.to_string());
+        let hundred = text(at, top + 34, anchor, &CLAIM_COUNT.to_string());
         let began = match since.moves {
             0 => "from the start".to_string(),
             moves => format!("from move {moves}: {}", since.by.join(" and ")),
