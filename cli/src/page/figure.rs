@@ -14,7 +14,7 @@ pub fn figure(id: Option<&str>, board: &Board, marked: &[Square], caption: Marku
 
 /// A FEN under a diagram.
 pub fn fen(board: &Board) -> Markup {
-    Markup::text(": ").then(element("code", &[], Markup::text(board.to_fen_full())))
+    Markup::text(" ").then(element("code", &[], Markup::text(board.to_fen_full())))
 }
 
 /// The squares of an entry's move.

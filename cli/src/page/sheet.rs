@@ -62,8 +62,10 @@ fn start(marks: &Marks, prefix: &str) -> Markup {
     linked(0, "start", marks, prefix)
 }
 
+/// A move without a name stands in coordinates, as in a roll: its diagram says the rest.
 fn move_cell(entry: &Entry, marks: &Marks, prefix: &str) -> Markup {
-    linked(entry.moves, &entry.written(), marks, prefix)
+    let name = if let What::Move(made, None) = entry.what { made.to_string() } else { entry.written() };
+    linked(entry.moves, &name, marks, prefix)
 }
 
 fn linked(moves: usize, name: &str, marks: &Marks, prefix: &str) -> Markup {
