@@ -27,8 +27,8 @@ impl Drawn {
     fn by(log: &Log, ruling: &Ruling, action: usize) -> Option<Drawn> {
         let mated = matches!(ruling.result, Some(GameResult::WhiteCheckmates | GameResult::BlackCheckmates));
         let (five_times, by_count) = (ruling.equals >= EARLIER, ruling.laws_count >= MOVES);
-        let drawn = |()| Drawn { moves: ruling.moves, action, five_times, by_count, equal: ruling::equal(log, ruling) };
-        (!mated && (five_times || by_count)).then_some(()).map(drawn)
+        let holds = !mated && (five_times || by_count);
+        holds.then(|| Drawn { moves: ruling.moves, action, five_times, by_count, equal: ruling::equal(log, ruling) })
     }
 
     /// Of the game of a log, which is the beginning of what is stored.

@@ -53,6 +53,6 @@ fn sheets(rolls: &[Roll; 2], index: usize) -> Markup {
 }
 
 fn positions(game: &[Entry], index: usize, at: usize) -> Markup {
-    let from = figure::all_from(game, index + 1, PREFIXES[at], "all");
+    let from = figure::all(game, index + 1, PREFIXES[at]);
     heading(&format!("{}: its positions", NAMES[at])).then(from)
 }

@@ -35,17 +35,12 @@ fn moves(entries: &[Entry], from: usize) -> impl Iterator<Item = (&Entry, String
     entries.iter().enumerate().skip(from).filter_map(move |(at, entry)| Some((entry, name(at)?)))
 }
 
-/// The diagram of each position of a game, each leading back to its move on the score sheet.
-pub fn all(entries: &[Entry], prefix: &str, class: &'static str) -> Markup {
-    all_from(entries, 0, prefix, class)
-}
-
-/// The same from some entry on.
-pub fn all_from(entries: &[Entry], from: usize, prefix: &str, class: &'static str) -> Markup {
+/// The diagram of each position from some entry on, each leading back to its move on the score sheet.
+pub fn all(entries: &[Entry], from: usize, prefix: &str) -> Markup {
     let one = |(entry, name): (&Entry, String)| {
         let (id, back) = (format!("{prefix}p{}", entry.moves), format!("#{prefix}m{}", entry.moves));
         let link = element("a", &[("href", &back)], Markup::text(name));
         figure(Some(&id), &entry.board, &squares(entry), link.then(fen(&entry.board)))
     };
-    element("div", &[("class", class)], moves(entries, from).map(one).collect()).line()
+    element("div", &[("class", "all")], moves(entries, from).map(one).collect()).line()
 }

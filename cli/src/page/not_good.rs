@@ -32,7 +32,7 @@ pub fn game(entries: &[Entry], class: &'static str) -> Markup {
     if entries.is_empty() {
         return Markup::NONE;
     }
-    let all = heading("All positions").then(figure::all(entries, "", "all"));
+    let all = heading("All positions").then(figure::all(entries, 0, ""));
     let sheet = heading("The score sheet").then(paragraph("Each move leads to its diagram.")).then(sheet(entries, 0, &Marks::new(), ""));
     sheet.then(element("section", &[("class", class)], all)).line()
 }

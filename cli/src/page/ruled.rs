@@ -29,7 +29,7 @@ pub fn of(case: &Case, notice: Option<&[u8]>, words: &[OsString]) -> Markup {
         heading("The score sheet"),
         legend(case),
         sheet(&case.entries, 0, &marks(case), ""),
-        element("section", &[("class", "screen")], heading("All positions").then(figure::all(&case.entries, "", "all"))).line(),
+        element("section", &[("class", "screen")], heading("All positions").then(figure::all(&case.entries, 0, ""))).line(),
     ];
     page(&said, body.into_iter().collect(), words)
 }

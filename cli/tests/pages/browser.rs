@@ -28,8 +28,8 @@ impl Browser {
             assert!(Command::new("mkfifo").arg(&path).status().expect("mkfifo").success());
             path
         });
-        // The browser reads from 3 and writes to 4.
-        let line = "exec chromium --headless --no-sandbox --disable-gpu --disable-dev-shm-usage --no-first-run --remote-debugging-pipe \
+        // The browser reads from 3 and writes to 4, and ends when nobody is behind them. One that hangs must not hang the test.
+        let line = "exec timeout 600 chromium --headless --no-sandbox --disable-gpu --disable-dev-shm-usage --no-first-run --remote-debugging-pipe \
                     --user-data-dir=\"$1\" about:blank 3<\"$2\" 4>\"$3\"";
         let mut command = Command::new("sh");
         command.args(["-c", line, "sh"]).arg(folder.join("profile")).args([&to, &from]);

@@ -3,6 +3,7 @@
 use menkhodur::{Lent, Log, Position};
 use std::ffi::OsStr;
 use std::fs;
+use std::os::unix::ffi::OsStrExt;
 use std::path::{Path, PathBuf};
 use std::process::Command;
 
@@ -83,7 +84,20 @@ pub fn pages(folder: &Path) -> Vec<Page> {
     pages.push(page(folder, "diff", &words, Shown::default()));
     pages.push(page(folder, "show-roll", &[OsStr::new("show"), rolls[0].as_os_str()], shown(&[rolls[0].as_os_str()])));
     pages.push(long(folder));
+    pages.push(hostile(folder, [example("threefold.actions"), example("threefold.positions")]));
     pages
+}
+
+/// A page made from files whose names are markup and scripts, if they are not escaped.
+fn hostile(folder: &Path, parts: [PathBuf; 2]) -> Page {
+    let names: [&[u8]; 2] =
+        [b"<script>console.log(1)<\\script><img src=x onerror=console.log(2)>", b"\"'><svg onload=console.log(3)>\xff\x01\xe2\x80\xae"];
+    let paths = names.map(|name| folder.join(OsStr::from_bytes(name)));
+    for (part, path) in parts.iter().zip(&paths) {
+        fs::copy(part, path).expect("a file");
+    }
+    let words = [OsStr::new("ruling"), paths[0].as_os_str(), paths[1].as_os_str()];
+    page(folder, "ruling-hostile", &words, shown(&words[1..]))
 }
 
 /// A game of 300 moves by each side, with an offer behind every third: its ruling must not take more paper than another.

@@ -209,6 +209,34 @@ fn every_kind_of_fault_has_its_page() {
 }
 
 #[test]
+fn any_bytes_have_a_page_or_none() {
+    let ([a, p], folder) = (examples("threefold"), Folder::new());
+    let (actions, positions) = (fs::read(a).unwrap(), fs::read(p).unwrap());
+    let mut random = 1_u64;
+    let mut next = |below: usize| {
+        random = random.wrapping_mul(6_364_136_223_846_793_005).wrapping_add(1_442_695_040_888_963_407);
+        (random >> 33) as usize % below
+    };
+    for turn in 0..80 {
+        let (mut actions, mut positions) = (actions.clone(), positions.clone());
+        let (at, byte) = (next(actions.len()), next(256) as u8);
+        if turn % 2 == 0 {
+            actions[at] = byte
+        } else {
+            positions[next(21_608)] = byte
+        }
+        let (a, p) = (folder.file("a", actions), folder.file("p", positions));
+        for command in ["ruling", "show"] {
+            let ran = run(&[command, "--html", "-", &a, &p], b"");
+            let plain = run(&[command, &a, &p], b"");
+            assert_eq!((&ran.err, ran.status), (&plain.err, plain.status));
+            see_page(ran.text());
+            figures(ran.text());
+        }
+    }
+}
+
+#[test]
 fn the_page_of_two_games_has_both_starts_and_what_follows() {
     let (folder, games) = (Folder::new(), Game::logs());
     for (index, (_, _, game)) in games.iter().enumerate().step_by(7).filter(|(_, (_, _, game))| game.actions.len() < 400) {
