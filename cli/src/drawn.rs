@@ -9,7 +9,7 @@ use std::collections::HashMap;
 
 /// Equal positions before the last, and moves of both sides, at which no claim is needed any more.
 const EARLIER: usize = 4;
-const MOVES: usize = 150;
+pub const MOVES: usize = 150;
 
 /// The game is drawn, by one of the two articles or by both.
 pub struct Drawn {

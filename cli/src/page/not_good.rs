@@ -42,8 +42,8 @@ pub fn evidence(stored: &Stored, fault: &Fault, before: Option<&Entry>) -> Marku
     let (Fault::Action { number, why }, Some(before)) = (fault, before) else { return Markup::NONE };
     let made = stored.move_of(*number);
     let marked = made.map_or(vec![], |made| vec![made.get_source(), made.get_dest()]);
-    let told = made.map_or("this is where it was done".to_string(), |made| format!("the move is {made}"));
-    let caption = Markup::text(format!("Before action {number}: {told}")).then(figure::fen(&before.board));
+    let told = made.map_or("which is no move".to_string(), |made| format!("the move {made}"));
+    let caption = Markup::text(format!("Before action {number}, {told}")).then(figure::fen(&before.board));
     let first = figure(None, &before.board, &marked, caption);
     let both = match why {
         Why::Position { boards: Some((held, owed)), .. } => boards(held, owed),
@@ -56,7 +56,7 @@ fn boards(held: &Board, owed: &Board) -> Markup {
     let squares = svg::differing(held, owed);
     let one = |board: &Board, told: &str| figure(None, board, &squares, Markup::text(told).then(figure::fen(board)));
     let list = element("ul", &[], squares.iter().map(|square| differs(*square, held, owed)).collect());
-    let told = if squares.is_empty() { paragraph("No square differs.") } else { list.line() };
+    let told = if squares.is_empty() { paragraph("No square differs; the FENs do.") } else { list.line() };
     one(held, "What the file has after it").then(one(owed, "What the move leads to")).then(element("div", &[], told)).line()
 }
 

@@ -3,6 +3,7 @@
 use super::figure::{self, figure};
 use super::sheet::{Marks, sheet};
 use super::{heading, page, paragraph, sentence, strip};
+use crate::drawn::Drawn;
 use crate::markup::{Markup, element};
 use crate::ruling::Case;
 use std::ffi::OsString;
@@ -45,12 +46,12 @@ fn stood(earlier: usize) -> String {
 
 /// The position that came five times, if the game went on behind it.
 fn five_times(case: &Case) -> Markup {
-    match &case.drawn {
-        Some(drawn) if drawn.five_times && drawn.moves < case.ruling.moves => {
-            heading("The position that came five times").then(boards(case, &drawn.equal, drawn.moves))
-        }
-        _ => Markup::NONE,
-    }
+    drawn_before(case)
+        .map_or(Markup::NONE, |drawn| heading("The position that came five times").then(boards(case, &drawn.equal, drawn.moves)))
+}
+
+fn drawn_before(case: &Case) -> Option<&Drawn> {
+    case.drawn.as_ref().filter(|drawn| drawn.five_times && drawn.moves < case.ruling.moves)
 }
 
 /// Equal positions side by side: the earliest of them, and the last.
@@ -76,8 +77,11 @@ fn marks(case: &Case) -> Marks {
     let mut marks = Marks::new();
     let mut mark = |moves: usize, sign: String| marks.entry(moves).or_default().push(sign);
     case.equal.iter().chain([&case.ruling.moves]).enumerate().for_each(|(at, moves)| mark(*moves, (at + 1).to_string()));
-    if let Some(drawn) = &case.drawn {
-        mark(drawn.moves, "D".to_string());
+    match (drawn_before(case), &case.drawn) {
+        (Some(drawn), _) => {
+            drawn.equal.iter().chain([&drawn.moves]).enumerate().for_each(|(at, moves)| mark(*moves, format!("D{}", at + 1)))
+        }
+        (None, drawn) => drawn.iter().for_each(|drawn| mark(drawn.moves, "D".to_string())),
     }
     mark(case.laws_since.moves, "L".to_string());
     if case.since.moves != case.laws_since.moves {
@@ -87,11 +91,18 @@ fn marks(case: &Case) -> Marks {
 }
 
 fn legend(case: &Case) -> Markup {
-    let counts = match case.since.moves == case.laws_since.moves {
-        true => "L: both counts begin behind it",
-        false => "L: the Laws' count begins behind it; C: the log's count begins behind it",
+    let equal = match case.equal.len() {
+        0 => "1, the position on the board".to_string(),
+        earlier => format!("1 to {}, the position on the board each time it stood", earlier + 1),
     };
-    let drawn = if case.drawn.is_some() { "; D: the game is drawn since this move" } else { "" };
-    let equal = "a number: the position on the board, by its times";
+    let counts = match case.since.moves == case.laws_since.moves {
+        true => "L, where both counts begin",
+        false => "L, where the count of the Laws begins; C, where the log's begins",
+    };
+    let drawn = match (drawn_before(case), &case.drawn) {
+        (Some(drawn), _) => format!("; D1 to D{}, the position that came five times", drawn.equal.len() + 1),
+        (None, Some(_)) => "; D, since when the game is drawn".to_string(),
+        (None, None) => String::new(),
+    };
     paragraph(format!("Marked: {equal}; {counts}{drawn}. On the screen each move leads to its diagram."))
 }

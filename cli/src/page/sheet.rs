@@ -15,15 +15,23 @@ const PRINTED: usize = 320;
 /// Of a longer one, the rows at the front that are printed; the others are the last ones.
 const FRONT: usize = 20;
 
+/// A row, and whether it is printed however long the game is.
+#[derive(Default)]
+struct Row {
+    cells: Markup,
+    kept: bool,
+}
+
 /// A score sheet from some entry on. `prefix` begins the ids of the game.
 pub fn sheet(entries: &[Entry], from: usize, marks: &Marks, prefix: &str) -> Markup {
     let rows = rows(entries, from, marks, prefix);
-    let left_out = FRONT..(rows.len() + FRONT).saturating_sub(PRINTED);
-    let long = rows.len() > PRINTED;
-    let row = |(at, row): (usize, Markup)| match long && left_out.contains(&at) {
-        true => element("li", &[("class", "screen")], row).line(),
-        false if long && at == left_out.end => cut(left_out.len()).then(element("li", &[], row)).line(),
-        false => element("li", &[], row).line(),
+    let middle = FRONT..(rows.len() + FRONT).saturating_sub(PRINTED).max(FRONT);
+    let is_left_out = |at: usize, row: &Row| middle.contains(&at) && !row.kept;
+    let left_out = rows.iter().enumerate().filter(|(at, row)| is_left_out(*at, row)).count();
+    let row = |(at, row): (usize, Row)| {
+        let class: &[(&str, &str)] = if is_left_out(at, &row) { &[("class", "screen")] } else { &[] };
+        let before = if left_out > 0 && at == middle.end { cut(left_out) } else { Markup::NONE };
+        before.then(element("li", class, row.cells)).line()
     };
     element("ul", &[("class", "sheet")], rows.into_iter().enumerate().map(row).collect()).line()
 }
@@ -33,8 +41,8 @@ fn cut(rows: usize) -> Markup {
 }
 
 /// A row has white's move and black's, and what was done beside them.
-fn rows(entries: &[Entry], from: usize, marks: &Marks, prefix: &str) -> Vec<Markup> {
-    let mut rows = vec![start(marks, prefix)];
+fn rows(entries: &[Entry], from: usize, marks: &Marks, prefix: &str) -> Vec<Row> {
+    let mut rows = vec![Row { cells: linked(0, "start", marks, prefix), kept: true }];
     rows.truncate(usize::from(from == 0));
     let mut at = from.max(1);
     while at < entries.len() {
@@ -42,24 +50,26 @@ fn rows(entries: &[Entry], from: usize, marks: &Marks, prefix: &str) -> Vec<Mark
         let (same, next) = same_from(entries, at);
         let is_move = matches!(entry.what, What::Move(..));
         let cell = if is_move { move_cell(entry, marks, prefix) } else { other_cell(entry, same) };
-        let begins = rows.len() <= usize::from(from == 0) || is_move && before.get_side_to_move() == Color::White;
-        match rows.last_mut() {
-            Some(row) if !begins => *row = std::mem::take(row).then(Markup::text(" ")).then(cell),
-            _ => rows.push(numbered(before, is_move).then(cell)),
+        if rows.len() <= usize::from(from == 0) || is_move && before.get_side_to_move() == Color::White {
+            rows.push(Row { cells: numbered(before, is_move), kept: false });
         }
+        let row = rows.last_mut().expect("a row was begun");
+        row.cells = std::mem::take(&mut row.cells).then(Markup::text(" ")).then(cell);
+        row.kept |= is_move && marks.get(&entry.moves).is_some_and(|signs| signs.iter().any(is_kept));
         at = next;
     }
     rows
 }
 
+/// Of the equal positions, of which there may be hundreds, the first are enough on paper.
+fn is_kept(sign: &String) -> bool {
+    sign.parse::<usize>().map_or(true, |nth| nth <= 5)
+}
+
 /// What begins a row. White's move has a row of its own, whatever was done before it.
 fn numbered(before: &Board, is_move: bool) -> Markup {
     let has_number = is_move || before.get_side_to_move() == Color::Black;
-    Markup::text(if has_number { entry::number(before) + " " } else { String::new() })
-}
-
-fn start(marks: &Marks, prefix: &str) -> Markup {
-    linked(0, "start", marks, prefix)
+    Markup::text(if has_number { entry::number(before) } else { String::new() })
 }
 
 /// A move without a name stands in coordinates, as in a roll: its diagram says the rest.

@@ -100,10 +100,10 @@ fn hostile(folder: &Path, parts: [PathBuf; 2]) -> Page {
     page(folder, "ruling-hostile", &words, shown(&words[1..]))
 }
 
-/// A game of 300 moves by each side, with an offer behind every third: its ruling must not take more paper than another.
+/// A game of 700 moves by each side, with an offer behind every third move: its ruling must not take more paper than another.
 fn long(folder: &Path) -> Page {
     let (mut log, mut list) = (begun(), Lent::new());
-    for turn in 0..600_usize {
+    for turn in 0..1_400_usize {
         let moves = log.current_moves();
         let quiet = |made: &&menkhodur::Move| log.current_position().piece_on(made.get_dest()).is_none();
         let made = *moves.iter().filter(quiet).nth(turn * 7 % moves.len().min(5)).unwrap_or(&moves[0]);
@@ -117,7 +117,7 @@ fn long(folder: &Path) -> Page {
             log.offer_draw(!log.side_to_move()).expect("an offer");
         }
     }
-    assert!(log.counts().moves == 600, "the game has {} moves", log.counts().moves);
+    assert!(log.counts().moves == 1_400, "the game has {} moves", log.counts().moves);
     let parts = [("long.actions", log.used_actions()), ("long.positions", log.used_positions())];
     let paths = parts.map(|(name, bytes)| {
         let path = folder.join(name);

@@ -109,7 +109,7 @@ fn see_equal(page: &str, told: &[Told]) {
 fn see_sentence(page: &str, told: &[Told]) {
     let last = told.last().unwrap();
     let sentence = sentence(page);
-    let drawn = page.contains("; D: the game is drawn since this move");
+    let drawn = page.contains("; D, since when the game is drawn") || page.contains("; D1 to D5, the position that came five times");
     assert_eq!(sentence.starts_with("The game is drawn without a claim since "), drawn);
     match (last["laws_claim"].as_str(), last["result"].as_str()) {
         _ if drawn => assert!(sentence.contains("(article 9.6.") || sentence.contains("(articles 9.6.1 and 9.6.2)"), "{sentence}"),
