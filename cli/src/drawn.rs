@@ -46,6 +46,11 @@ impl Drawn {
         [(self.five_times, "9.6.1"), (self.by_count, "9.6.2")].iter().filter(|(holds, _)| *holds).map(|(_, article)| *article).collect()
     }
 
+    /// `article 9.6.1`, or both.
+    pub fn named(&self) -> String {
+        named(&self.articles())
+    }
+
     pub fn reasons(&self) -> Vec<&'static str> {
         let reasons = [
             (self.five_times, "the same position has appeared five times"),
@@ -53,6 +58,11 @@ impl Drawn {
         ];
         reasons.iter().filter(|(holds, _)| *holds).map(|(_, reason)| *reason).collect()
     }
+}
+
+/// Articles of the Laws, as they are named in a ruling.
+pub fn named(articles: &[&str]) -> String {
+    format!("article{} {}", if articles.len() == 1 { "" } else { "s" }, articles.join(" and "))
 }
 
 /// The first move after which a position has come five times, or 150 moves were made without a pawn move or a capture: its action.

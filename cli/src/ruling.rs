@@ -155,8 +155,8 @@ impl Case {
     }
 
     fn drawn(&self, drawn: &Drawn) -> String {
-        let (articles, reasons) = (drawn.articles().join(" and "), drawn.reasons().join(", and "));
-        format!("without a claim since {} (article {articles}): {reasons}", self.place(drawn.moves))
+        let (articles, reasons) = (drawn.named(), drawn.reasons().join(", and "));
+        format!("without a claim since {} ({articles}): {reasons}", self.place(drawn.moves))
     }
 
     fn counted(&self, count: usize, since: &Since, without: &str) -> String {

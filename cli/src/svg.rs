@@ -10,10 +10,10 @@ const MARGIN: usize = 22;
 const FRAME: usize = 2;
 const SIZE: usize = FRAME + 8 * SIDE + MARGIN;
 
-const LIGHT: &str = "#fffaf0";
-const DARK: &str = "#c8b38c";
-const MARK: &str = "#ffd24d";
-const MARK_FRAME: &str = "#8a3a00";
+pub const LIGHT: &str = "#fffaf0";
+pub const DARK: &str = "#c8b38c";
+pub const MARK: &str = "#ffd24d";
+pub const MARK_FRAME: &str = "#8a3a00";
 
 /// All squares, from a1.
 pub fn squares() -> impl Iterator<Item = Square> {

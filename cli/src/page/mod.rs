@@ -74,3 +74,40 @@ fn heading(text: &str) -> Markup {
 fn paragraph(text: impl AsRef<[u8]>) -> Markup {
     element("p", &[], Markup::text(text)).line()
 }
+
+#[cfg(test)]
+mod tests {
+    use super::*;
+
+    /// How bright a colour is, and how far two are apart, by the guidelines for accessible pages (WCAG 2.1).
+    fn brightness(colour: &str) -> f64 {
+        let hex = colour.trim_start_matches('#');
+        let wide = hex.len() / 3;
+        let part = |at: usize| u8::from_str_radix(&hex[wide * at..wide * (at + 1)].repeat(3 - wide), 16).unwrap();
+        let linear = |part: u8| match f64::from(part) / 255.0 {
+            low if low <= 0.03928 => low / 12.92,
+            high => ((high + 0.055) / 1.055).powf(2.4),
+        };
+        0.2126 * linear(part(0)) + 0.7152 * linear(part(1)) + 0.0722 * linear(part(2))
+    }
+
+    fn contrast(one: &str, other: &str) -> f64 {
+        let (one, other) = (brightness(one), brightness(other));
+        (one.max(other) + 0.05) / (one.min(other) + 0.05)
+    }
+
+    #[test]
+    fn colours_are_far_enough_apart() {
+        assert!((contrast("#000", "#ffffff") - 21.0).abs() < 0.01 && (contrast("#777777", "#fff") - 4.48).abs() < 0.01);
+        let text = STYLE.split(" color: #").skip(1).map(|rest| &rest[..rest.find(';').unwrap()]);
+        for colour in text {
+            assert!(contrast(colour, "#fff") >= 7.0, "{colour}");
+        }
+        // What is drawn: black men and outlines on every square, and the marks' frames on what is beside them.
+        for square in [svg::LIGHT, svg::DARK, svg::MARK] {
+            assert!(contrast("#000", square) >= 7.0, "{square}");
+            assert!(contrast(svg::MARK_FRAME, square) >= 3.0, "{square}");
+        }
+        assert!(strip::COLOURS.iter().all(|colour| contrast(colour, "#fff") >= 4.5));
+    }
+}

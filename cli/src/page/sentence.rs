@@ -1,5 +1,6 @@
 //! A ruling in one sentence, as an arbiter would write it.
 
+use crate::drawn;
 use crate::ruling::Case;
 use crate::told;
 use menkhodur::lent::CLAIM_COUNT;
@@ -9,17 +10,13 @@ pub fn of(case: &Case) -> String {
     let ruling = &case.ruling;
     match (&case.drawn, ruling.result, ruling.laws_claim.or(ruling.claim)) {
         (Some(drawn), ..) => {
-            let (articles, reasons) = (articles(&drawn.articles()), drawn.reasons().join(", and "));
+            let (articles, reasons) = (drawn.named(), drawn.reasons().join(", and "));
             format!("The game is drawn without a claim since {} ({articles}): {reasons}.", case.place(drawn.moves))
         }
         (None, Some(result), _) => format!("The game is over ({result}): no draw may be claimed."),
         (None, None, Some(reason)) => claim(case, reason),
         (None, None, None) => refusal(case),
     }
-}
-
-fn articles(articles: &[&str]) -> String {
-    format!("article{} {}", if articles.len() == 1 { "" } else { "s" }, articles.join(" and "))
 }
 
 /// The Laws give the claim to the player having the move.
@@ -39,7 +36,7 @@ fn claim(case: &Case, reason: Reason) -> String {
         None => ", though the log's own count, which a change of castling rights begins anew, has not come so far",
         Some(_) => "",
     };
-    format!("{side}, having the move, may claim a draw ({}): {}{only}.", articles(&named), said.join(", and "))
+    format!("{side}, having the move, may claim a draw ({}): {}{only}.", drawn::named(&named), said.join(", and "))
 }
 
 fn refusal(case: &Case) -> String {

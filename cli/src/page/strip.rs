@@ -7,6 +7,8 @@ use menkhodur::lent::CLAIM_COUNT;
 
 const WIDTH: usize = 640;
 const EDGE: usize = 16;
+/// Of the game, of a count and of the marks.
+pub const COLOURS: [&str; 3] = ["#767676", "#0b3d91", "#a00000"];
 /// The height of a bar, and of all that belongs to it.
 const BAR: usize = 20;
 const ROW: usize = 84;
@@ -60,8 +62,8 @@ impl Scale {
         // About the width of a letter: so far left that the words are not cut.
         let x = from.min((WIDTH - EDGE).saturating_sub(8 * began.len())).max(EDGE);
         let parts = [
-            rectangle(EDGE, y + BAR / 2 - 2, self.x(self.moves) - EDGE, 4, "#767676"),
-            rectangle(from, y, (to - from).max(2), BAR, "#0b3d91"),
+            rectangle(EDGE, y + BAR / 2 - 2, self.x(self.moves) - EDGE, 4, COLOURS[0]),
+            rectangle(from, y, (to - from).max(2), BAR, COLOURS[1]),
             text(EDGE, top + 15, "start", &format!("{}: {}", bar.name, bar.count)),
             text(x, y + BAR + 16, "start", &began),
             marks.iter().map(|mark| self.mark(top + 22, bar, *mark)).collect(),
@@ -77,7 +79,7 @@ impl Scale {
         let x = self.x(bar.since.moves + number);
         // The first stands left of its mark, so that the second does not stand on it.
         let (anchor, at) = if number == CLAIM_COUNT { ("end", x - 4) } else { ("start", x + 6) };
-        rectangle(x - 1, top, 3, BAR + 22, "#a00000").then(text(at, top + 12, anchor, &number.to_string()))
+        rectangle(x - 1, top, 3, BAR + 22, COLOURS[2]).then(text(at, top + 12, anchor, &number.to_string()))
     }
 }
 

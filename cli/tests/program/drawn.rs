@@ -41,10 +41,10 @@ fn a_fifth_equal_position_draws_and_what_follows_does_not_change_it() {
     assert_eq!(row(&ruled(&made, &["--at", "16"])), Some(owed.as_str()));
 }
 
-/// Black's king goes to and fro for 149 moves, and white's knight where it has been least, so that no position comes five times.
-fn wandered() -> Made {
+/// Black's king goes to and fro for some moves, and white's knight where it has been least, so that no position comes five times.
+fn wandered(moves: usize) -> Made {
     let mut made = Made::start("6k1/5ppp/8/8/8/8/8/RN2K3 b - - 0 1");
-    for turn in 0..149 {
+    for turn in 0..moves {
         match turn % 4 {
             0 => drop(made.play("g8h8")),
             2 => drop(made.play("h8g8")),
@@ -56,7 +56,7 @@ fn wandered() -> Made {
 
 #[test]
 fn seventy_five_moves_by_each_player_draw() {
-    let mut made = wandered();
+    let mut made = wandered(149);
     assert_eq!((made.log.ruling().laws_count, row(&ruled(&made, &[]))), (149, None));
     made.play("e1e2");
     let ran = ruled(&made, &[]);
@@ -68,9 +68,24 @@ fn seventy_five_moves_by_each_player_draw() {
 
 #[test]
 fn a_move_that_mates_comes_first() {
-    let mut made = wandered();
+    let mut made = wandered(149);
     made.play("a1a8");
     let ran = ruled(&made, &[]);
     assert_eq!((made.log.ruling().laws_count, row(&ran), ran.status), (150, None, 1));
     assert!(ran.text().contains("\nresult       white checkmates, after 150 actions and 150 moves\n"), "{}", ran.text());
+}
+
+#[test]
+fn both_articles_at_once() {
+    let mut made = wandered(132);
+    // A place where white's king has not been: a position that has not been either.
+    made.play("g8h8 e1f2");
+    for _ in 0..4 {
+        made.play("h8g8 f2f1 g8h8 f1f2");
+    }
+    assert_eq!((made.log.ruling().equals, made.log.ruling().laws_count), (4, 150));
+    let owed = format!("without a claim since move 150 (76. Kf2) (articles 9.6.1 and 9.6.2): {FIVE}, and {COUNT}");
+    assert_eq!(row(&ruled(&made, &[])), Some(owed.as_str()));
+    assert!(ruled(&made, &["--json"]).text().contains("\"articles\":[\"9.6.1\",\"9.6.2\"],"));
+    assert!(ruled(&made, &["--html", "-"]).text().contains(" (articles 9.6.1 and 9.6.2): "));
 }
