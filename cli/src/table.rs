@@ -399,7 +399,8 @@ pub const COMMANDS: &[Command] = &[
              reasons), count with count_since, laws_count with laws_since, equals, equal and last, and as game the objects of `menkhodur show`.",
         ],
         statuses: &["a claim stands, by the log's rules or only by the Laws", "none stands"],
-        trouble: "a log that is not good (with --at: up to N), or that has fewer actions than N; files that are not a log's parts by their size",
+        trouble: "a log that is not good (with --at: up to N), or that has fewer actions than N; files that are not a log's parts by their size; \
+                  a FILE that exists, without --force",
         examples: &[
             Example { command: "menkhodur ruling --at 8 game.actions game.positions", about: "after the first eight actions" },
             Example {
@@ -432,7 +433,8 @@ pub const COMMANDS: &[Command] = &[
              in_check and list are null.",
         ],
         statuses: &["the log is good, or the roll is one"],
-        trouble: "a log that is not good; a roll that is refused, 5, 13 or 17 as for `menkhodur diff`; files that are not a log's parts by their size",
+        trouble: "a log that is not good; a roll that is refused, 5, 13 or 17 as for `menkhodur diff`; files that are not a log's parts by their size; \
+                  a FILE that exists, without --force",
         examples: &[
             Example { command: "menkhodur show game.roll", about: "every action of a game, and the position after it" },
             Example { command: "menkhodur show game.actions game.positions", about: "the same of a log, with the names of its moves" },
@@ -469,7 +471,7 @@ pub const COMMANDS: &[Command] = &[
              roll has roll (first or second), number and reason.",
         ],
         statuses: &["the rolls are equal", "they differ"],
-        trouble: "a roll that is refused",
+        trouble: "a roll that is refused; a FILE that exists, without --force",
         examples: &[
             Example { command: "menkhodur diff --names here.roll there.roll", about: "two sites' copies of a game" },
             Example { command: "menkhodur diff --old-first old/7.roll new/7.roll", about: "whether a new roll has the game of an old one" },
