@@ -256,13 +256,15 @@ pub const COMMANDS: &[Command] = &[
              caret, as `menkhodur pgn` has them; nothing of the game is filed, and the next is looked at. N is the archive's number, - if it has \
              none. KIND is large, of a game over the limit; variant, of a Variant tag that is not chess; start, of a FEN tag: 18, 19 or 20, what \
              `menkhodur explain` warns about in its ranks or castling letters, a side without its one king, castling rights without king and rook at \
-             home, an en passant square that no pawn has come over, or a side in check that is not to move; text, 21, 22 or 23 as `menkhodur pgn` \
-             has them; move, 4, a text that is no move, or not one alone; or limit, 13, more than 4096 moves. Marks like !? behind a move are passed \
+             home, an en passant square that no pawn has come over, or a side in check that is not to move, and of a first move with another number \
+             than 1 where there is no FEN tag; text, 21, 22 or 23 as `menkhodur pgn` has them; move, 4, a text that is no move, or not one alone; or limit, 13, more than 4096 moves. Marks like !? behind a move are passed \
              over. A move in a variation is looked at with --variations only; a game with more than 1048576 of them is refused then.",
             "A game has a note, `FILE:LINE: game INDEX note: words`, and is filed all the same, if its Result tag and the result behind its moves \
-             differ, if it ends in mate or stalemate with another result than * and the right one, or if it equals one filed before, of any file: the same start, moves and \
+             differ, if it ends in mate or stalemate with another result than * and the right one, or if it equals one filed before, of any file: the \
+             same start, moves and \
              seven tags. With --duplicates=skip an equal game is not filed and has no note; with keep it is filed without one.",
-            "With --loose a game that is refused as it stands is judged once more with what has one reading: zeros for O in castling, unless they end the text, `e.p.` and \
+            "With --loose a game that is refused as it stands is judged once more with what has one reading: zeros for O in castling, unless they end \
+             the text, `e.p.` and \
              `ep` behind a pawn's capture, marks like ! and signs like += that stand alone, periods without a number, a hyphen between squares, an x \
              too much or too few, ++, a promotion as e8Q, e8=q or e8(Q), and coordinates. If repairs come to two moves, the game is refused. A \
              promotion without its man, small letters for men, null moves and letters of other languages are never taken. How much was taken of \
@@ -280,7 +282,8 @@ pub const COMMANDS: &[Command] = &[
              coordinates with single spaces between them, in any order.",
             "An object of --json has file, game and line, then of a refused game number, null if there is none, kind, at (the line), column, token (the \
              text that is refused), text (the line, or what of it is near the column, from text_column on) and reason; of a note note, which is \
-             result, mate, stalemate or duplicate, and reason, of a duplicate also source and of, the game that it equals. The last has the counts of the last line, notes, dry_run, with --loose loose, \
+             result, mate, stalemate or duplicate, and reason, of a duplicate also source and of, the game that it equals. The last has the counts of \
+             the last line, notes, dry_run, with --loose loose, \
              stopped, null if it was not, and complete.",
         ],
         statuses: &[
@@ -488,7 +491,8 @@ pub const COMMANDS: &[Command] = &[
         forms: &[LOG, &[]],
         flags: &[roll::PGN, roll::GAME, roll::OUTPUT, roll::FORCE],
         text: &[
-            "Writes the game of a log, or of a PGN file, as a roll: the start with its counters and what was done, without the positions after it, to standard output \
+            "Writes the game of a log, or of a PGN file, as a roll: the start with its counters and what was done, without the positions after it, to \
+             standard output \
              or to the file of --output. `menkhodur show` shows it, and `menkhodur diff` compares it with another.",
             NOT_GOOD,
             "Of a log that is not good, nothing is written.",

@@ -36,6 +36,7 @@ mod tags;
 mod tally;
 #[cfg(test)]
 mod tests;
+mod trouble;
 mod twins;
 mod why;
 mod writer;

@@ -9,11 +9,11 @@ use super::digest::SEVEN;
 use super::known::Known;
 use super::patience::{insist, patience};
 use super::rows::Rows;
-use super::schema::{self, Base, Column, GAME, REFUSED, Rule, Table};
+use super::schema::{self, Base, Column, GAME, HELD, REFUSED, Rule, Table};
 use super::sorted::{self, Entry};
 use super::store::{Batch, Begun, Duplicates, Filed, Held, Options, Shelf, Source, Store, Twin, Written};
-use super::tags;
 use super::twins::{self, Candidate};
+use super::{tags, trouble};
 use crate::options::Stop;
 use menkhodur_databases::postgres::{self, Connection, Error};
 use std::collections::HashMap;
@@ -35,25 +35,8 @@ const SETTINGS: &str = "SET jit = off; SET temp_buffers = '64MB'; SET work_mem =
     SELECT set_config('synchronous_commit', 'on', false) WHERE current_setting('synchronous_commit') = 'off';
     SELECT set_config('lock_timeout', '5s', false) WHERE current_setting('lock_timeout') = '0'";
 
-const HELD: &str = "s.name, g.number, g.line, g.event, g.site, g.date, g.round, g.white, g.black, g.result, g.tags, g.roll";
-
-/// What went wrong: in the server's words, or in others.
-enum Trouble {
-    Database(Error),
-    Words(String),
-}
-
-impl From<Error> for Trouble {
-    fn from(error: Error) -> Trouble {
-        Trouble::Database(error)
-    }
-}
-
-impl From<String> for Trouble {
-    fn from(words: String) -> Trouble {
-        Trouble::Words(words)
-    }
-}
+/// What went wrong, with the database or otherwise.
+type Trouble = trouble::Trouble<Error>;
 
 impl Trouble {
     /// Whether the same may be accepted when it is offered again: a connection that was lost, a server that starts or ends or has no room for a session, a lock

@@ -60,6 +60,8 @@ impl Base {
 pub const SOURCE: [&str; 7] = ["id", "name", "bytes", "digest", "done", "games_digest", "ended"];
 pub const GAME: [&str; 15] =
     ["id", "source", "number", "line", "event", "site", "date", "round", "white", "black", "result", "tags", "moves", "roll", "mark"];
+/// What is read of a game `g` of a source `s`, in the order of a game that is held.
+pub const HELD: &str = "s.name, g.number, g.line, g.event, g.site, g.date, g.round, g.white, g.black, g.result, g.tags, g.roll";
 pub const REFUSED: [&str; 8] = ["source", "number", "line", "at_line", "at_column", "answer", "kind", "text"];
 
 /// SQL that makes what a database lacks to be a store, each statement by itself; none if it lacks nothing. Or why it is no store that an import files

@@ -7,11 +7,11 @@ use super::bits;
 use super::digest::SEVEN;
 use super::known::Known;
 use super::patience::{insist, patience};
-use super::schema::{self, Base, Column, GAME, REFUSED, Rule, Table};
+use super::schema::{self, Base, Column, GAME, HELD, REFUSED, Rule, Table};
 use super::sorted::{self, Entry};
 use super::store::{Batch, Begun, Duplicates, Filed, Held, Options, Shelf, Source, Store, Twin, Written};
 use super::twins::{self, Candidate};
-use super::{names, tags};
+use super::{names, tags, trouble};
 use crate::options::Stop;
 use menkhodur_databases::sqlite::{Connection, Error, Mode, Row, Statement, Value};
 use std::ffi::OsStr;
@@ -36,26 +36,8 @@ const LOG: u64 = 1 << 30;
 /// How long it takes until a store that was locked is opened again.
 const PAUSE: Duration = Duration::from_millis(50);
 
-/// A game without its source's name in front, and behind it what `held` reads.
-const HELD: &str = "s.name, g.number, g.line, g.event, g.site, g.date, g.round, g.white, g.black, g.result, g.tags, g.roll";
-
-/// What went wrong: in SQLite's words, or in others.
-enum Trouble {
-    Database(Error),
-    Words(String),
-}
-
-impl From<Error> for Trouble {
-    fn from(error: Error) -> Trouble {
-        Trouble::Database(error)
-    }
-}
-
-impl From<String> for Trouble {
-    fn from(words: String) -> Trouble {
-        Trouble::Words(words)
-    }
-}
+/// What went wrong, with the database or otherwise.
+type Trouble = trouble::Trouble<Error>;
 
 impl Trouble {
     /// Whether the same may be accepted when it is offered again: another has locked the store.
