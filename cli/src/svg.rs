@@ -92,7 +92,7 @@ fn title(text: &str) -> Markup {
 
 /// The squares, the letters of the files and the numbers of the ranks.
 fn empty_board() -> Markup {
-    let is_dark = |square: &Square| (square.get_file().to_index() + square.get_rank().to_index()) % 2 == 0;
+    let is_dark = |square: &Square| square.get_file().to_index() % 2 == square.get_rank().to_index() % 2;
     let dark = |square: Square| {
         let (x, y) = place(square);
         format!("M{x} {y}h{SIDE}v{SIDE}h-{SIDE}z")

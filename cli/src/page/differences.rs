@@ -23,7 +23,7 @@ pub fn of(rolls: &[Roll; 2], lines: &[(Difference, String)], words: &[OsString])
     let list = lines.iter().map(|(_, line)| element("li", &[], Markup::text(line)).line()).collect();
     let about = heading("What differs: in the first game, in the second");
     let list = if lines.is_empty() { Markup::NONE } else { about.then(element("ul", &[("class", "list")], list)).line() };
-    let index = lines.iter().find_map(|(line, _)| if let Difference::Action { index, .. } = line { Some(*index as usize) } else { None });
+    let index = lines.iter().find_map(|(line, _)| if let Difference::Action { index, .. } = line { Some(*index) } else { None });
     let title_line = element("h1", &[], Markup::text(&title)).line();
     page(&title, title_line.then(starts(rolls)).then(list).then(index.map_or(Markup::NONE, |index| sheets(rolls, index))), words)
 }

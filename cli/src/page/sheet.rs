@@ -55,14 +55,14 @@ fn rows(entries: &[Entry], from: usize, marks: &Marks, prefix: &str) -> Vec<Row>
         }
         let row = rows.last_mut().expect("a row was begun");
         row.cells = std::mem::take(&mut row.cells).then(Markup::text(" ")).then(cell);
-        row.kept |= is_move && marks.get(&entry.moves).is_some_and(|signs| signs.iter().any(is_kept));
+        row.kept |= is_move && marks.get(&entry.moves).is_some_and(|signs| signs.iter().any(|sign| is_kept(sign)));
         at = next;
     }
     rows
 }
 
 /// Of the equal positions, of which there may be hundreds, the first are enough on paper.
-fn is_kept(sign: &String) -> bool {
+fn is_kept(sign: &str) -> bool {
     sign.parse::<usize>().map_or(true, |nth| nth <= 5)
 }
 

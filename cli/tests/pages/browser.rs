@@ -12,7 +12,7 @@ pub struct Browser {
     /// What was read behind the last text.
     rest: Vec<u8>,
     number: usize,
-    session: String,
+    attached: String,
     /// What the console and the log of the browser have said.
     pub messages: Vec<String>,
 }
@@ -35,11 +35,11 @@ impl Browser {
         command.args(["-c", line, "sh"]).arg(folder.join("profile")).args([&to, &from]);
         let child = command.stdin(Stdio::null()).stdout(Stdio::null()).stderr(Stdio::null()).spawn().expect("a shell");
         let (to, from) = (OpenOptions::new().write(true).open(to).expect("a pipe"), File::open(from).expect("a pipe"));
-        let mut browser = Browser { child, to, from, rest: vec![], number: 0, session: String::new(), messages: vec![] };
+        let mut browser = Browser { child, to, from, rest: vec![], number: 0, attached: String::new(), messages: vec![] };
         let made = browser.call("Target.createTarget", "\"url\":\"about:blank\"");
         let target = text_of(&made, "targetId");
         let made = browser.call("Target.attachToTarget", &format!("\"targetId\":\"{target}\",\"flatten\":true"));
-        browser.session = format!(",\"sessionId\":\"{}\"", text_of(&made, "sessionId"));
+        browser.attached = format!(",\"sessionId\":\"{}\"", text_of(&made, "sessionId"));
         for domain in ["Page", "Runtime", "Log", "Network"] {
             browser.call(&format!("{domain}.enable"), "");
         }
@@ -49,7 +49,7 @@ impl Browser {
     /// Calls a method and gives its answer; what is told meanwhile is kept.
     fn call(&mut self, method: &str, parameters: &str) -> String {
         self.number += 1;
-        let asked = format!("{{\"id\":{},\"method\":\"{method}\",\"params\":{{{parameters}}}{}}}\0", self.number, self.session);
+        let asked = format!("{{\"id\":{},\"method\":\"{method}\",\"params\":{{{parameters}}}{}}}\0", self.number, self.attached);
         self.to.write_all(asked.as_bytes()).expect("the browser reads");
         let answer = format!("{{\"id\":{},", self.number);
         loop {
@@ -114,7 +114,7 @@ impl Browser {
     }
 
     pub fn end(mut self) {
-        self.session.clear();
+        self.attached.clear();
         self.call("Browser.close", "");
         self.child.wait().expect("the browser ends");
     }
