@@ -34,7 +34,7 @@ use Rattle.game_text.proofs.Accepts.{accepted-playable}
 use Rattle.game_step.proofs.Laws.{play-refused, play-short, play-done}
 use Rattle.game_text.proofs.KeysLeft.{steps-leave-keys}
 use Rattle.game_text.proofs.Stepping.{step-is, at-end, read, at-move, at-refused, at-played}
-use Rattle.host_lists.specs.HostCalls.{readBoard, readList, readText, readAnswer}
+use Rattle.host_lists.specs.HostCalls.{readBoard, readList, textToRead, sanRead}
 use Rattle.host_settled.specs.SettledCalls.{PlayCall, toPlayFrom, toPlay, playTold, WriteCall, toWrite, writeTold, writeLent, writeLeft}
 use Rattle.host_games.specs.GameCalls.{StepCall, stepText, stepOffset, stepBoard, stepList, stepTold, stepLent, stepLeft, stepKey}
 use Rattle.host_games.specs.GameCalls.{MoveCall, playedText, playedBoard, playedList, playedTold, playedLent, playedLeft}
@@ -59,7 +59,7 @@ move-leaves m = m .learnt .1
 next-by : (n : NextCall) → nextTold n ≡ nextAcross (nextText n) (nextOffset n) (nextLevel n)
 next-by n = n .learnt
 
-read-by : (r : SanCall) → readAnswer r ≡ fromSanStandard (readBoard r) (readList r) (readText r)
+read-by : (r : SanCall) → sanRead r ≡ fromSanStandard (readBoard r) (readList r) (textToRead r)
 read-by r = r .learnt
 
 played-by : (p : PlayCall) → playTold p ≡ afterAnswer (toPlayFrom p) (toPlay p)
@@ -75,14 +75,14 @@ write-leaves w = w .learnt .1
 
 module _ (said : List ℕ) (b : BoardBuilder) (list room : List ℕ) (r : SanCall) (p : PlayCall) (w : WriteCall)
     (t : ReadPlayedWritten said b list room r p w) where
-  reads : readAnswer r ≡ fromSanStandard b list said
+  reads : sanRead r ≡ fromSanStandard b list said
   reads =
       read-by r
-      ∙ ap (λ (c : BoardBuilder). fromSanStandard c (readList r) (readText r)) (t .record-read)
-      ∙ ap (λ (l : List ℕ). fromSanStandard b l (readText r)) (t .list-lent)
+      ∙ ap (λ (c : BoardBuilder). fromSanStandard c (readList r) (textToRead r)) (t .record-read)
+      ∙ ap (λ (l : List ℕ). fromSanStandard b l (textToRead r)) (t .list-lent)
       ∙ ap (fromSanStandard b list) (t .text)
 
-  plays-on : playTold p ≡ afterAnswer b (readAnswer r .value)
+  plays-on : playTold p ≡ afterAnswer b (sanRead r .value)
   plays-on = played-by p ∙ ap (λ (c : BoardBuilder). afterAnswer c (toPlay p)) (t .record-played) ∙ ap (afterAnswer b) (t .move)
 
   writes : writeTold w ≡ fenWriter .answer (playTold p .board) (length room)
@@ -102,15 +102,15 @@ module _ (said : List ℕ) (b : BoardBuilder) (list room : List ℕ) (r : SanCal
   three start size s left e x =
       record {
         unread = λ n.
-            let q = play-refused start size b list room said (readAnswer r) reads n (stepRefused (readAnswer r .number) start size 0 b) refl in
+            let q = play-refused start size b list room said (sanRead r) reads n (stepRefused (sanRead r .number) start size 0 b) refl in
             (e ∙ sym (q .0), x ∙ sym (q .1));
         unwritten = λ z n.
             let told = stepRefused (writeTold w .number) start size (writeTold w .value) b in
-            let q = play-short start size b list room said (readAnswer r) reads z (playTold p) plays-on (writeTold w) (writeLeft w) writes leaves n told refl in
+            let q = play-short start size b list room said (sanRead r) reads z (playTold p) plays-on (writeTold w) (writeLeft w) writes leaves n told refl in
             (e ∙ sym (q .0), x ∙ sym (q .1));
         played = λ z y.
-            let told = stepPlayed start size (readAnswer r .value) (writeTold w .value) (playTold p .board) in
-            let q = play-done start size b list room said (readAnswer r) reads z (playTold p) plays-on (writeTold w) (writeLeft w) writes leaves y told refl in
+            let told = stepPlayed start size (sanRead r .value) (writeTold w .value) (playTold p .board) in
+            let q = play-done start size b list room said (sanRead r) reads z (playTold p) plays-on (writeTold w) (writeLeft w) writes leaves y told refl in
             (e ∙ sym (q .0), x ∙ sym (q .1));
       }
 

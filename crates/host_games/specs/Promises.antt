@@ -11,7 +11,7 @@ use Rattle.game_text.specs.declared.GameStep.{GameStep}
 use Rattle.game_text.specs.Game.{Lends, game}
 use Rattle.game_text.specs.Step.{stepRefused, stepPlayed, answersOf}
 use Rattle.menkhodur.proofs.menkhodur_san_read_standard.Reads as read
-use Rattle.host_lists.specs.HostCalls.{ReadCall, readBoard, readList, readText, readAnswer}
+use Rattle.host_lists.specs.HostCalls.{ReadCall, readBoard, readList, textToRead, sanRead}
 use Rattle.host_settled.specs.SettledCalls.{PlayCall, toPlayFrom, toPlay, playTold, WriteCall, toWrite, writeTold, writeLent, writeLeft}
 use Rattle.host_games.specs.GameCalls.{StepCall, stepText, stepOffset, stepBoard, stepList, stepTold, stepLent, stepLeft, stepKey}
 use Rattle.host_games.specs.GameCalls.{MoveCall, playedText, playedBoard, playedList, playedTold, playedLent, playedLeft}
@@ -24,21 +24,21 @@ SanCall = ReadCall read.Learnt
 
 -- a text read over a list, the move played, and the record after it written
 pub record ReadPlayedWritten (said : List ℕ) (b : BoardBuilder) (list room : List ℕ) (r : SanCall) (p : PlayCall) (w : WriteCall) : Type 0 where
-  pub text : readText r ≡ said
+  pub text : textToRead r ≡ said
   pub record-read : readBoard r ≡ b
   pub list-lent : readList r ≡ list
   pub record-played : toPlayFrom p ≡ b
-  pub move : toPlay p ≡ readAnswer r .value
+  pub move : toPlay p ≡ sanRead r .value
   pub record-written : toWrite w ≡ playTold p .board
   pub room-lent : writeLent w ≡ room
 
 -- what the three answer, as one answer with the text's place; the room is as the writer leaves it, or as it was
 pub record InTurn (start size : ℕ) (b : BoardBuilder) (room : List ℕ) (r : SanCall) (p : PlayCall) (w : WriteCall) (s : GameStep) (left : List ℕ) : Type 0 where
-  pub unread : (readAnswer r .number ≡ 0 → ⊥) → (s ≡ stepRefused (readAnswer r .number) start size 0 b) × (left ≡ room)
-  pub unwritten : readAnswer r .number ≡ 0 → (writeTold w .number ≡ 0 → ⊥)
+  pub unread : (sanRead r .number ≡ 0 → ⊥) → (s ≡ stepRefused (sanRead r .number) start size 0 b) × (left ≡ room)
+  pub unwritten : sanRead r .number ≡ 0 → (writeTold w .number ≡ 0 → ⊥)
       → (s ≡ stepRefused (writeTold w .number) start size (writeTold w .value) b) × (left ≡ writeLeft w)
-  pub played : readAnswer r .number ≡ 0 → writeTold w .number ≡ 0
-      → (s ≡ stepPlayed start size (readAnswer r .value) (writeTold w .value) (playTold p .board)) × (left ≡ writeLeft w)
+  pub played : sanRead r .number ≡ 0 → writeTold w .number ≡ 0
+      → (s ≡ stepPlayed start size (sanRead r .value) (writeTold w .value) (playTold p .board)) × (left ≡ writeLeft w)
 
 abbrev pub PlayIsThreeCalls : Type 0
 PlayIsThreeCalls =

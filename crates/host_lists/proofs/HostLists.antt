@@ -10,8 +10,8 @@ use Rattle.san_lists.proofs.Forms.{paper-any-order, standard-any-order, paper-r
 use Rattle.san_lists.proofs.Forms.{paper-adding-keeps-or-refuses, standard-adding-keeps-or-refuses}
 use Rattle.san_lists.specs.Calls.{Calls, paperCalls, standardCalls}
 use Rattle.san_lists.specs.Promises.{AnyOrder, RemovingKeeps, AddingKeepsOrRefuses}
-use Rattle.host_lists.specs.HostCalls.{Reading, ReadCall, readBoard, readList, readText, readAnswer}
-use Rattle.host_lists.specs.HostCalls.{Naming, NameCall, nameBoard, nameList, nameMove, nameAnswer, roomLent, roomLeft}
+use Rattle.host_lists.specs.HostCalls.{Reading, ReadCall, readBoard, readList, textToRead, sanRead}
+use Rattle.host_lists.specs.HostCalls.{Naming, NameCall, nameBoard, nameList, nameMove, sanNamed, roomLent, roomLeft}
 use Rattle.host_lists.specs.Promises.{OneText, ReadsInAnyOrder, NamesInAnyOrder, ReadsWithFewer, ReadsWithMore}
 use Rattle.menkhodur.proofs.menkhodur_san_read.Reads as san-read
 use Rattle.menkhodur.proofs.menkhodur_san_read_standard.Reads as san-read-standard
@@ -22,27 +22,27 @@ use Rattle.menkhodur.proofs.menkhodur_san_name_standard.Reads as san-name-stand
 
 -- what a reader's contract says is that it answers so
 abbrev ReadsBy : Calls → Reading → Type 0
-ReadsBy by Learnt = (c : ReadCall Learnt) → readAnswer c ≡ by .read (readBoard c) (readList c) (readText c)
+ReadsBy by Learnt = (c : ReadCall Learnt) → sanRead c ≡ by .read (readBoard c) (readList c) (textToRead c)
 
 record NamedBy (by : Calls) {Learnt : Naming} (c : NameCall Learnt) : Type 0 where
-  answer : nameAnswer c ≡ by .name .answer (nameBoard c) (nameList c) (nameMove c) (length (roomLent c))
+  answer : sanNamed c ≡ by .name .answer (nameBoard c) (nameList c) (nameMove c) (length (roomLent c))
   room : roomLeft c ≡ by .name .room (nameBoard c) (nameList c) (nameMove c) (roomLent c)
 
 module _ (by : Calls) {Learnt : Reading} (is : ReadsBy by Learnt) where
   -- the second call's answer, on the first one's record and text
-  second : (c d : ReadCall Learnt) → OneText c d → readAnswer d ≡ by .read (readBoard c) (readList d) (readText c)
+  second : (c d : ReadCall Learnt) → OneText c d → sanRead d ≡ by .read (readBoard c) (readList d) (textToRead c)
   second c d o = rw (o .board, o .text) (is d)
 
   in-any-order : AnyOrder by → ReadsInAnyOrder Learnt
-  in-any-order any c d o r = is c ∙ any .read (readBoard c) (readList c) (readList d) (readText c) r ∙ sym (second c d o)
+  in-any-order any c d o r = is c ∙ any .read (readBoard c) (readList c) (readList d) (textToRead c) r ∙ sym (second c d o)
 
   with-fewer : RemovingKeeps by → ReadsWithFewer Learnt
   with-fewer keeps c d m o w here e =
-      second c d o ∙ keeps (readBoard c) (readList c) (readList d) (readText c) m w here (sym (is c) ∙ e)
+      second c d o ∙ keeps (readBoard c) (readList c) (readList d) (textToRead c) m w here (sym (is c) ∙ e)
 
   with-more : AddingKeepsOrRefuses by → ReadsWithMore Learnt
   with-more keeps c d m o w range e =
-      rw (second c d o) (keeps (readBoard c) (readList c) (readList d) (readText c) m w range (sym (is c) ∙ e))
+      rw (second c d o) (keeps (readBoard c) (readList c) (readList d) (textToRead c) m w range (sym (is c) ∙ e))
 
 -- a namer's two answers and rooms, the arguments but the list being equal
 module _ (by : Calls) (any : AnyOrder by) {b d : BoardBuilder} {l k : List ℕ} {m n : ℕ} {out room : List ℕ} (r : Reordered l k) where

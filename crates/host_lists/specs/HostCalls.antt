@@ -35,11 +35,11 @@ module _ {Learnt : Reading} where
   abbrev pub readList : ReadCall Learnt → List ℕ
   readList c = now (c .given .1 .0)
 
-  abbrev pub readText : ReadCall Learnt → List ℕ
-  readText c = now (c .given .1 .1 .0)
+  abbrev pub textToRead : ReadCall Learnt → List ℕ
+  textToRead c = now (c .given .1 .1 .0)
 
-  abbrev pub readAnswer : ReadCall Learnt → Answer
-  readAnswer c = c .result
+  abbrev pub sanRead : ReadCall Learnt → Answer
+  sanRead c = c .result
 
 -- ---- a namer's: `(board, list, move, out) -> Answer`
 
@@ -59,8 +59,8 @@ module _ {Learnt : Naming} where
   abbrev pub nameMove : NameCall Learnt → ℕ
   nameMove c = c .given .1 .1 .0
 
-  abbrev pub nameAnswer : NameCall Learnt → Answer
-  nameAnswer c = c .result
+  abbrev pub sanNamed : NameCall Learnt → Answer
+  sanNamed c = c .result
 
   -- the room as it was lent, and as it is at exit
   abbrev pub roomLent : NameCall Learnt → List ℕ

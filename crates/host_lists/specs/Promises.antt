@@ -8,13 +8,13 @@ use Rattle.answer.specs.Answer.{accepted, refused, invalidSanMove}
 use Rattle.answer.specs.Numbers.{among}
 use Rattle.move_list.specs.MoveList.{listInRange}
 use Rattle.san_lists.specs.Lists.{Reordered, Within}
-use Rattle.host_lists.specs.HostCalls.{Reading, ReadCall, readBoard, readList, readText, readAnswer}
-use Rattle.host_lists.specs.HostCalls.{Naming, NameCall, nameBoard, nameList, nameMove, nameAnswer, roomLent, roomLeft}
+use Rattle.host_lists.specs.HostCalls.{Reading, ReadCall, readBoard, readList, textToRead, sanRead}
+use Rattle.host_lists.specs.HostCalls.{Naming, NameCall, nameBoard, nameList, nameMove, sanNamed, roomLent, roomLeft}
 
 -- two calls of a reader with one record and one text
 pub record OneText {Learnt : Reading} (c d : ReadCall Learnt) : Type 0 where
   pub board : readBoard c ≡ readBoard d
-  pub text : readText c ≡ readText d
+  pub text : textToRead c ≡ textToRead d
 
 -- two calls of a namer with one record, one move and rooms of one content
 pub record OneMove {Learnt : Naming} (c d : NameCall Learnt) : Type 0 where
@@ -24,11 +24,11 @@ pub record OneMove {Learnt : Naming} (c d : NameCall Learnt) : Type 0 where
 
 -- "a list in another order gives the same move": one answer, refusals included
 abbrev pub ReadsInAnyOrder : Reading → Type 0
-ReadsInAnyOrder Learnt = (c d : ReadCall Learnt) → OneText c d → Reordered (readList c) (readList d) → readAnswer c ≡ readAnswer d
+ReadsInAnyOrder Learnt = (c d : ReadCall Learnt) → OneText c d → Reordered (readList c) (readList d) → sanRead c ≡ sanRead d
 
 -- "and the same name": one answer, and every byte of the room
 pub record SameName {Learnt : Naming} (c d : NameCall Learnt) : Type 0 where
-  pub answer : nameAnswer c ≡ nameAnswer d
+  pub answer : sanNamed c ≡ sanNamed d
   pub room : roomLeft c ≡ roomLeft d
 
 abbrev pub NamesInAnyOrder : Naming → Type 0
@@ -38,10 +38,10 @@ NamesInAnyOrder Learnt = (c d : NameCall Learnt) → OneMove c d → Reordered (
 abbrev pub ReadsWithFewer : Reading → Type 0
 ReadsWithFewer Learnt =
     (whole left : ReadCall Learnt) (m : ℕ) → OneText whole left → Within (readList left) (readList whole) → among m (readList left) ≡ true
-    → readAnswer whole ≡ accepted m → readAnswer left ≡ accepted m
+    → sanRead whole ≡ accepted m → sanRead left ≡ accepted m
 
 -- "adding entries in range, up to 255 in all, leaves that move or refuses with 4"
 abbrev pub ReadsWithMore : Reading → Type 0
 ReadsWithMore Learnt =
     (c more : ReadCall Learnt) (m : ℕ) → OneText c more → Within (readList c) (readList more) → listInRange (readList more) ≡ true
-    → readAnswer c ≡ accepted m → (readAnswer more ≡ accepted m) ⊎ (readAnswer more ≡ refused invalidSanMove)
+    → sanRead c ≡ accepted m → (sanRead more ≡ accepted m) ⊎ (sanRead more ≡ refused invalidSanMove)

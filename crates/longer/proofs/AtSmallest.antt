@@ -17,7 +17,7 @@ use Rattle.roll_text.specs.Number.{groups, behind, readGroups}
 use Rattle.roll_text.specs.Roll.{largestNumbers, numbersText, actionText, actionsText, countsText, textBy, isCode, putNumber, oneNumber, readNumbers}
 use Rattle.roll_text.specs.Roll.{fullBy, halfBy, readCounters, movedBy, coded}
 use Rattle.roll_text.specs.Roll.{putAction, nextAction, readActions, withActions, withCount, withCounts, withFront, readBy}
-use Rattle.roll_text.specs.Calls.{rollAnswer, judgedBy, writeCheck}
+use Rattle.roll_text.specs.Calls.{rollAnswer, judgedBy, movesByKind, writeCheck}
 use Rattle.longer.specs.AtSmallest.{RoomAtSmallest, RollsAtSmallest, LogsAtSmallest, Sizes}
 
 pub room-at-smallest : RoomAtSmallest
@@ -33,7 +33,7 @@ room-at-smallest =
     }
 
 pub rolls-at-smallest : RollsAtSmallest
-unfolding writeAnswer allAtMost inRange numbers actionOf movesIn actionsHeld groups behind readGroups largestNumbers numbersText actionText actionsText
+unfolding writeAnswer allAtMost inRange numbers actionOf movesByKind actionsHeld groups behind readGroups largestNumbers numbersText actionText actionsText
     countsText textBy isCode putNumber oneNumber readNumbers fullBy halfBy readCounters movedBy coded putAction nextAction readActions withActions withCount
     withCounts withFront readBy rollAnswer judgedBy writeCheck
 rolls-at-smallest =

@@ -20,7 +20,7 @@ use Rattle.actions.specs.Part.{movesIn, actionsHeld}
 use Rattle.game_rules.specs.Limits.{Limits, actionsLength}
 use Rattle.roll_text.specs.declared.Roll.{Roll}
 use Rattle.roll_text.specs.Roll.{Start, Rolled, refusal, rolled, readBy}
-use Rattle.roll_text.specs.Calls.{rollAnswer, rollOver, judgedBy, writeCheck, gameText}
+use Rattle.roll_text.specs.Calls.{rollAnswer, rollOver, judgedBy, movesByKind, writeCheck, gameText}
 use Rattle.roll_text.specs.Promises.{Game, Countable, readerBy}
 use Rattle.roll_text.proofs.OldRolls.{old-is-written-anew}
 use Rattle.roll_text.proofs.Back.{rolls-read-back}
@@ -209,7 +209,7 @@ module _ (b : BoardBuilder) (part : List ℕ) (n : ℕ) where
   unfoldable behind : Limits → ℕ
   behind L =
       cond (inRange b)
-      (cond (ltb (L .most-actions) n) logFull (cond (ltb (L .most-moves) (movesIn part n)) logFull (cond (actionsHeld part n) 0 badRoll)))
+      (cond (ltb (L .most-actions) n) logFull (cond (ltb (L .most-moves) (movesByKind part n)) logFull (cond (actionsHeld part n) 0 badRoll)))
       outOfRange
 
   is-behind : (L : Limits) → actionsLength L ≤ length part → writeCheck L b part n ≡ behind L
@@ -224,24 +224,25 @@ module _ (b : BoardBuilder) (part : List ℕ) (n : ℕ) where
       by true e =
           rw e
           (test-alike (L .most-actions) (M .most-actions) n
-          (cond (ltb (L .most-moves) (movesIn part n)) logFull (cond (actionsHeld part n) 0 badRoll))
-          (cond (ltb (M .most-moves) (movesIn part n)) logFull (cond (actionsHeld part n) 0 badRoll))
+          (cond (ltb (L .most-moves) (movesByKind part n)) logFull (cond (actionsHeld part n) 0 badRoll))
+          (cond (ltb (M .most-moves) (movesByKind part n)) logFull (cond (actionsHeld part n) 0 badRoll))
           (o .actions)
-          (test-alike (L .most-moves) (M .most-moves) (movesIn part n) (cond (actionsHeld part n) 0 badRoll) (cond (actionsHeld part n) 0 badRoll) (o .moves)
+          (test-alike (L .most-moves) (M .most-moves) (movesByKind part n) (cond (actionsHeld part n) 0 badRoll) (cond (actionsHeld part n) 0 badRoll)
+          (o .moves)
           (λ z. refl))
           (λ z. isnt (rw e z)))
       by false e = rw e refl
 
   -- more than L allows, for a record in range
-  behind-13 : (L : Limits) → inRange b ≡ true → within L n (movesIn part n) ≡ false → behind L ≡ logFull
+  behind-13 : (L : Limits) → inRange b ≡ true → within L n (movesByKind part n) ≡ false → behind L ≡ logFull
   unfolding behind
-  behind-13 L e f = by (ltb (L .most-actions) n) (ltb (L .most-moves) (movesIn part n)) refl refl
+  behind-13 L e f = by (ltb (L .most-actions) n) (ltb (L .most-moves) (movesByKind part n)) refl refl
     where
-      by : (t u : Bool) → ltb (L .most-actions) n ≡ t → ltb (L .most-moves) (movesIn part n) ≡ u → behind L ≡ logFull
+      by : (t u : Bool) → ltb (L .most-actions) n ≡ t → ltb (L .most-moves) (movesByKind part n) ≡ u → behind L ≡ logFull
       by true u g h = rw (e, g) refl
       by false true g h = rw (e, g, h) refl
       by false false g h =
-          absurd (false≢true (sym f ∙ are-within L n (movesIn part n) (ltb-false (L .most-actions) n g) (ltb-false (L .most-moves) (movesIn part n) h)))
+          absurd (false≢true (sym f ∙ are-within L n (movesByKind part n) (ltb-false (L .most-actions) n g) (ltb-false (L .most-moves) (movesByKind part n) h)))
 
 refused-number : (check : ℕ) (text : List ℕ) (room : ℕ) → check ≡ logFull → writeAnswer check text room ≡ refused logFull
 unfolding writeAnswer

@@ -21,6 +21,7 @@ use Rattle.game_rules.specs.Good.{Accepted, Good}
 use Rattle.game_rules.specs.Calls.{longEnough, logCheck, callAnswer, counts, resultAnswer, claimAnswer}
 use Rattle.game_rules.specs.Promises.{called, started}
 use Rattle.laws.specs.Ruling.{rulingAnswer, lawsAnswer}
+use Rattle.roll_text.specs.Calls.{movesByKind}
 use Rattle.roll_text.specs.Promises.{Countable, anew, rollWriter, readerBy, rollReader, oldReader, WrittenAs, WrittenAgain}
 use Rattle.longer.specs.TwoLimits.{oldLimits, AllowsNoLess, within, roomAfter}
 
@@ -104,8 +105,8 @@ pub record WritesNothing (L : Limits) (b : BoardBuilder) (part : List ℕ) (n : 
 
 abbrev pub LongerGamesAre13 : Limits → Type 0
 LongerGamesAre13 L =
-    (b : BoardBuilder) (part : List ℕ) (n : ℕ) (out : List ℕ) → inRange b ≡ true → actionsLength L ≤ length part → within L n (movesIn part n) ≡ false
-    → WritesNothing L b part n out
+    (b : BoardBuilder) (part : List ℕ) (n : ℕ) (out : List ℕ) → inRange b ≡ true → actionsLength L ≤ length part
+    → within L n (movesByKind part n) ≡ false → WritesNothing L b part n out
 
 -- ---- logs
 

@@ -5,12 +5,12 @@ use Rattle.answer.specs.Answer.{writeAnswer}
 use Rattle.answer.specs.Numbers.{allAtMost}
 use Rattle.board_builder.specs.BoardBuilder.{inRange, numbers}
 use Rattle.action.specs.Layout.{actionOf}
-use Rattle.actions.specs.Part.{movesIn, actionsHeld}
+use Rattle.actions.specs.Part.{actionsHeld}
 use Rattle.roll_text.specs.Number.{groups, behind, readGroups}
 use Rattle.roll_text.specs.Roll.{largestNumbers, numbersText, countsText, actionText, actionsText, textBy, isCode, putNumber, oneNumber, readNumbers}
 use Rattle.roll_text.specs.Roll.{fullBy, halfBy, readCounters, movedBy, coded}
 use Rattle.roll_text.specs.Roll.{putAction, nextAction, readActions, withActions, withCount, withCounts, withFront, readBy}
-use Rattle.roll_text.specs.Calls.{rollAnswer, judgedBy, writeCheck}
+use Rattle.roll_text.specs.Calls.{rollAnswer, judgedBy, movesByKind, writeCheck}
 use Rattle.roll_text.specs.AtSmallest.{NumbersAtSmallest, ReadingAtSmallest, OldReadingAtSmallest, WritingAtSmallest}
 
 pub numbers-at-smallest : NumbersAtSmallest
@@ -66,7 +66,7 @@ old-reading-at-smallest =
     }
 
 pub writing-at-smallest : WritingAtSmallest
-unfolding writeAnswer allAtMost inRange numbers actionOf movesIn actionsHeld groups behind readGroups largestNumbers numbersText countsText actionText
+unfolding writeAnswer allAtMost inRange numbers actionOf movesByKind actionsHeld groups behind readGroups largestNumbers numbersText countsText actionText
     actionsText textBy isCode putNumber oneNumber readNumbers coded putAction nextAction readActions withActions withCount withCounts withFront readCounters
     readBy rollAnswer judgedBy writeCheck
 writing-at-smallest =
@@ -77,6 +77,10 @@ writing-at-smallest =
       move-number-gives-5 = refl;
       count-gives-13 = refl;
       move-gives-13 = refl;
+      over-move-gives-13 = refl;
+      coloured-move-gives-13 = refl;
+      last-move-gives-13 = refl;
+      other-ones-give-17 = refl;
       gives-17 = refl;
       gives-7 = refl;
       accepted = refl;

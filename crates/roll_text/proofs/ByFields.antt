@@ -8,12 +8,10 @@ use native.Mathlib.Omega.{arith}
 use lib.Dec.{eqb, leb}
 use lib.ListN.{length, take, drop, getD, length-drop}
 use lib.Seq.{getD-drop, drop-drop}
-use borrow.Author.Tests.{eqb-true, eqb-false, eq-eqb, ne-eqb, leb-true, leb-false, le-leb, lt-leb}
+use borrow.Author.Tests.{eqb-true, eqb-false, ne-eqb, leb-true, leb-false, lt-leb}
 use Rattle.chess_move.specs.Number.{lastMove, ofBytes}
 use Rattle.action.specs.declared.Action.{Action}
-use Rattle.action.specs.declared.Action.the-variants.{MakeMove, OfferDraw, AcceptDraw, DeclareDraw, Resign}
-use Rattle.action.specs.declared.Stored.{Stored}
-use Rattle.action.specs.declared.Stored.the-variants.{Holds, Nothing}
+use Rattle.action.specs.declared.Action.the-variants.{OfferDraw, AcceptDraw, DeclareDraw, Resign}
 use Rattle.action.specs.Layout.{actionSize, movesHere, standsAlone, actionOfFields, actionOf}
 use Rattle.actions.specs.Part.{actionAt, isHeld, actionsHeld, movesIn}
 use Rattle.actions.specs.CodeCount.{oneIfMove}
@@ -147,7 +145,7 @@ fields-here (k ∷ c ∷ []) h = absurd (omega arith)
 fields-here (k ∷ c ∷ l ∷ []) h = absurd (omega arith)
 fields-here (k ∷ c ∷ l ∷ u ∷ bs) h = refl
 
-held-here : (bs : List ℕ) → actionSize ≤ length bs → isHeld (actionOf (take actionSize bs)) ≡ actionInRange (kindAt bs) (colourAt bs) (moveNumberAt bs)
+pub held-here : (bs : List ℕ) → actionSize ≤ length bs → isHeld (actionOf (take actionSize bs)) ≡ actionInRange (kindAt bs) (colourAt bs) (moveNumberAt bs)
 held-here bs h = ap isHeld (fields-here bs h) ∙ held-fields (kindAt bs) (colourAt bs) (moveNumberAt bs)
 
 -- an action behind the first is one of what is left

@@ -4,6 +4,7 @@ pub mod Back
 pub mod Forth
 pub mod Bounds
 pub mod ByFields
+pub mod ByKind
 pub mod Plain
 pub mod Counted
 pub mod ReadsBack

@@ -22,18 +22,22 @@ use Rattle.action.specs.Layout.{actionSize}
 use Rattle.actions.specs.Part.{movesIn, actionsHeld}
 use Rattle.game_rules.specs.Limits.{Limits, actionsLength}
 use Rattle.roll_text.specs.Roll.{Rolled, rolled, startFits, startFrom, rollText, readBy, readRoll}
-use Rattle.roll_text.specs.Calls.{rollAnswer, rollOver, judgedBy, judged, writeCheck, gameText}
+use Rattle.roll_text.specs.Calls.{rollAnswer, rollOver, judgedBy, judged, movesByKind, writeCheck, gameText}
 use Rattle.roll_text.specs.Promises.{Game, Countable, formed, rollWriter, wrote, Writable, LimitsAreCountable, WrittenReadsBack}
 use Rattle.roll_text.proofs.Entries.{reach-five}
 use Rattle.roll_text.proofs.Back.{rolls-read-back}
 use Rattle.roll_text.proofs.Bounds.{bounds-are-the-records}
+use Rattle.roll_text.proofs.ByKind.{held-by-kind}
 use Rattle.roll_text.proofs.Counted.{roll-counted, held-counted, moves-counted}
 
 -- ---- the writer
 
 pub check-passes : (L : Limits) (b : BoardBuilder) (part : List ℕ) (n : ℕ) → Writable L b part n → writeCheck L b part n ≡ 0
 unfolding writeCheck
-check-passes L b part n w = simp (le-ltb _ _ (w .long), w .start, le-ltb _ _ (w .few), le-ltb _ _ (w .few-moves), w .held)
+check-passes L b part n w =
+    let counted : movesByKind part n ≡ movesIn part n = held-by-kind part n (omega (arith, w .long, w .few)) (w .held) in
+    let few : movesByKind part n ≤ L .most-moves = omega (arith, counted, w .few-moves) in
+    simp (le-ltb _ _ (w .long), w .start, le-ltb _ _ (w .few), le-ltb _ _ few, w .held)
 
 -- ours, for a game that can be written: accepted, and these are the bytes
 pub record Wrote (L : Limits) (b : BoardBuilder) (part : List ℕ) (n : ℕ) (out : List ℕ) : Type 0 where

@@ -107,6 +107,12 @@ pub record WritingAtSmallest : Type 0 where
   pub move-number-gives-5 : writingGives noBoard (replicate 8 0) 3 0 ≡ outOfRange
   pub count-gives-13 : writingGives emptyBoard (replicate 8 0) 3 0 ≡ logFull
   pub move-gives-13 : writingGives emptyBoard (1 ∷ replicate 7 0) 2 0 ≡ logFull
+  -- a move past the limit whose number is 28,672 (112 × 256): 13, as the reader gives at its code; and one with a colour, which no code has
+  pub over-move-gives-13 : writingGives emptyBoard (1 ∷ 0 ∷ 0 ∷ 112 ∷ replicate 4 0) 2 0 ≡ logFull
+  pub coloured-move-gives-13 : writingGives emptyBoard (1 ∷ 1 ∷ replicate 6 0) 2 0 ≡ logFull
+  -- the last of the part's actions counts, and the bytes behind a kind do not
+  pub last-move-gives-13 : writingGives emptyBoard (2 ∷ 1 ∷ 1 ∷ 1 ∷ 1 ∷ replicate 3 0) 2 0 ≡ logFull
+  pub other-ones-give-17 : writingGives emptyBoard (2 ∷ 1 ∷ 1 ∷ 1 ∷ 1 ∷ replicate 3 0) 1 0 ≡ badRoll
   pub gives-17 : writingGives emptyBoard (replicate 8 0) 1 0 ≡ badRoll
   pub gives-7 : writingGives emptyBoard (replicate 8 0) 0 70 ≡ outputTooShort
   pub accepted : writingGives emptyBoard (replicate 8 0) 0 71 ≡ 0

@@ -1,14 +1,15 @@
 -- What the two calls answer and leave in the lent part or room.
 -- Assumes nothing.
-use Prim.Native.Nat.{ℕ}
+use Prim.Native.Nat.{ℕ, zero, suc, _*_}
 use mathlib.Core.Bool.{Bool, true, false, cond}
 use mathlib.Core.List.{List}
-use lib.Dec.{ltb}
-use lib.ListN.{length}
+use lib.Dec.{eqb, ltb}
+use lib.ListN.{length, getD}
 use Rattle.answer.specs.Answer.{outOfRange, logFull, partTooShort, badRoll, overwrite}
 use Rattle.board_builder.specs.declared.BoardBuilder.{BoardBuilder}
 use Rattle.board_builder.specs.BoardBuilder.{noBoard, inRange}
-use Rattle.actions.specs.Part.{movesIn, actionsHeld}
+use Rattle.action.specs.Layout.{actionSize}
+use Rattle.actions.specs.Part.{actionsHeld}
 use Rattle.game_rules.specs.Limits.{Limits, actionsLength}
 use Rattle.roll_text.specs.declared.Fields.{Fields}
 use Rattle.roll_text.specs.declared.Roll.{Roll}
@@ -54,12 +55,17 @@ judgedOld L s room = judgedBy false L s room
 
 -- ---- the writer: 16, 5, 13 for the count, then for the moves, 17; then 7, which any writer of texts has
 
+-- how many of the first n actions are of kind 1: 13 stands before 17, so that what else a move's bytes say is not judged yet
+unfoldable pub movesByKind : List ℕ → ℕ → ℕ
+movesByKind part zero = 0
+movesByKind part (suc i) = cond (eqb (getD part (actionSize * i) 0) 1) (suc (movesByKind part i)) (movesByKind part i)
+
 unfoldable pub writeCheck : Limits → BoardBuilder → List ℕ → ℕ → ℕ
 writeCheck L b part n =
     cond (ltb (length part) (actionsLength L)) partTooShort
     (cond (inRange b)
     (cond (ltb (L .most-actions) n) logFull
-    (cond (ltb (L .most-moves) (movesIn part n)) logFull
+    (cond (ltb (L .most-moves) (movesByKind part n)) logFull
     (cond (actionsHeld part n) 0 badRoll)))
     outOfRange)
 

@@ -9,9 +9,9 @@ use borrow.Author.Tests.{lt-ltb, le-ltb}
 use Rattle.answer.specs.Answer.{outOfRange, logFull, partTooShort, badRoll}
 use Rattle.board_builder.specs.declared.BoardBuilder.{BoardBuilder}
 use Rattle.board_builder.specs.BoardBuilder.{inRange}
-use Rattle.actions.specs.Part.{movesIn, actionsHeld}
+use Rattle.actions.specs.Part.{actionsHeld}
 use Rattle.game_rules.specs.Limits.{limits, actionsLength}
-use Rattle.roll_text.specs.Calls.{writeCheck}
+use Rattle.roll_text.specs.Calls.{movesByKind, writeCheck}
 
 module _ (b : BoardBuilder) (part : List ℕ) (n : ℕ) where
   pub too-short : length part < actionsLength limits → partTooShort ≡ writeCheck limits b part n
@@ -29,11 +29,11 @@ module _ (b : BoardBuilder) (part : List ℕ) (n : ℕ) where
       too-many h = simp (le-ltb _ _ long, good, lt-ltb _ _ h)
 
       module _ (few : n ≤ limits .most-actions) where
-        pub too-many-moves : limits .most-moves < movesIn part n → logFull ≡ writeCheck limits b part n
+        pub too-many-moves : limits .most-moves < movesByKind part n → logFull ≡ writeCheck limits b part n
         unfolding writeCheck
         too-many-moves h = simp (le-ltb _ _ long, good, le-ltb _ _ few, lt-ltb _ _ h)
 
-        module _ (few-moves : movesIn part n ≤ limits .most-moves) where
+        module _ (few-moves : movesByKind part n ≤ limits .most-moves) where
           pub no-action : actionsHeld part n ≡ false → badRoll ≡ writeCheck limits b part n
           unfolding writeCheck
           no-action e = simp (le-ltb _ _ long, good, le-ltb _ _ few, le-ltb _ _ few-moves, e)

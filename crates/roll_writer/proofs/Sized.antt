@@ -14,13 +14,14 @@ use Rattle.answer.specs.Answer.{accepted, refused}
 use Rattle.answer.proofs.Writes.{Written, write-refused}
 use Rattle.chess_move.specs.Number.{lastMove, ofBytes}
 use Rattle.action.specs.Layout.{actionSize, movesHere, actionOf}
-use Rattle.actions.specs.Part.{isHeld, moveAt, movesIn, actionsHeld}
+use Rattle.actions.specs.Part.{isHeld, actionsHeld}
 use Rattle.actions.proofs.Held.{held-none, held-turn, held-stop, held-all}
 use Rattle.roll_text.specs.Number.{numberText}
 use Rattle.roll_text.specs.Roll.{codeOf, kindAt, colourAt, moveNumberAt, actionText, actionsText}
-use Rattle.roll_text.specs.Calls.{fieldsAt}
+use Rattle.roll_text.specs.Calls.{fieldsAt, movesByKind}
 use Rattle.roll_text.proofs.Numbers.{groups-more}
 use Rattle.roll_text.proofs.ByFields.{actionInRange, held-fields, fields-here}
+use Rattle.roll_text.proofs.ByKind.{by-kind-turn}
 use Rattle.roll_text.proofs.Entries.{plain-here, code-range}
 use Rattle.roll_writer.specs.CodeSizes.{moveSize, plainSize, sizeAt, actionsSize, measured}
 use Rattle.roll_writer.proofs.Laws.{one-byte, two-bytes, three-bytes}
@@ -167,17 +168,44 @@ sized-all acts n i k w h =
 
 -- ---- the moves need not be counted where there are few actions
 
-moves-few : (acts : List ℕ) (n : ℕ) → movesIn acts n ≤ n
-unfolding movesIn
+moves-few : (acts : List ℕ) (n : ℕ) → movesByKind acts n ≤ n
+unfolding movesByKind
 moves-few acts zero = omega arith
-moves-few acts (suc n) = go (leb (moveAt acts n) lastMove) (moves-few acts n)
+moves-few acts (suc n) = go (eqb (getD acts (actionSize * n) 0) 1) (moves-few acts n)
   where
-    go : (t : Bool) → movesIn acts n ≤ n → cond t (suc (movesIn acts n)) (movesIn acts n) ≤ suc n
+    go : (t : Bool) → movesByKind acts n ≤ n → cond t (suc (movesByKind acts n)) (movesByKind acts n) ≤ suc n
     go true h = omega arith
     go false h = omega arith
 
-pub few-enough : (acts : List ℕ) (n most : ℕ) → n ≤ most → false ≡ ltb most (movesIn acts n)
-few-enough acts n most h = sym (le-ltb most (movesIn acts n) (omega (arith, moves-few acts n)))
+pub few-enough : (acts : List ℕ) (n most : ℕ) → n ≤ most → false ≡ ltb most (movesByKind acts n)
+few-enough acts n most h = sym (le-ltb most (movesByKind acts n) (omega (arith, moves-few acts n)))
+
+-- the loop that counts them: k of the first i
+pub record KindsSo (acts : List ℕ) (n i k : ℕ) : Type 0 where
+  pub within : i ≤ n
+  pub most : k ≤ i
+  pub counted : k ≡ movesByKind acts i
+
+pub kinds-none : (acts : List ℕ) (n : ℕ) → KindsSo acts n 0 0
+unfolding movesByKind
+kinds-none acts n = record { within = omega arith; most = omega arith; counted = refl }
+
+pub one-most : (t : Bool) → cond t 1 0 ≤ 1
+one-most true = omega arith
+one-most false = omega arith
+
+pub kinds-more : (acts : List ℕ) (n i k one : ℕ) → KindsSo acts n i k → i < n → one ≡ cond (eqb (getD acts (actionSize * i) 0) 1) 1 0
+    → KindsSo acts n (i + 1) (k + one)
+kinds-more acts n i k one w h e =
+    let next : i + 1 ≡ suc i = omega arith in
+    record {
+      within = omega arith;
+      most = omega (arith, w .most, e, one-most (eqb (getD acts (actionSize * i) 0) 1));
+      counted = omega (arith, w .counted, e, by-kind-turn acts i, ap (movesByKind acts) next);
+    }
+
+pub kinds-all : (acts : List ℕ) (n i k : ℕ) → KindsSo acts n i k → n ≤ i → k ≡ movesByKind acts n
+kinds-all acts n i k w h = let same : i ≡ n = omega (arith, w .within) in w .counted ∙ ap (movesByKind acts) same
 
 -- ---- bounds
 

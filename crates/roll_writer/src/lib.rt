@@ -18,19 +18,18 @@ use game_rules::MAX_ACTIONS;
 use game_rules::MAX_MOVES;
 use roll_text::Fields;
 ghost use mathlib.Core.Path.{_≡_};
-ghost use mathlib.Core.Bool.{true};
+ghost use mathlib.Core.Bool.{true, cond};
 ghost use Prim.Native.Nat.{_+_, _*_, _≤_, _<_};
-ghost use lib.Dec.{ltb};
+ghost use lib.Dec.{eqb, ltb};
 ghost use lib.ListN.{length, drop};
 ghost use Rattle.answer.specs.Answer.{writeAnswer, writeBytes};
 ghost use Rattle.answer.specs.Parts.{written};
 ghost use Rattle.chess_move.specs.Number.{ofBytes};
 ghost use Rattle.board_builder.specs.BoardBuilder.{inRange};
-ghost use Rattle.actions.specs.Part.{movesIn};
 ghost use Rattle.game_rules.specs.Limits.{limits};
 ghost use Rattle.roll_text.specs.Number.{reach, groups, numberText};
 ghost use Rattle.roll_text.specs.Roll.{codeOf, actionText, actionsText};
-ghost use Rattle.roll_text.specs.Calls.{fieldsAt, writeCheck, gameText};
+ghost use Rattle.roll_text.specs.Calls.{fieldsAt, movesByKind, writeCheck, gameText};
 ghost use Rattle.roll_writer.specs.CodeSizes.{Short, startText, startMost, moveSize, plainSize, sizeAt, actionsSize, measured};
 
 const MOST_GROUPS: usize = 5;
@@ -198,14 +197,35 @@ fn put_actions(acts: &[u8], n: usize, out: &mut [u8], from: usize)
     }
 }
 
+fn one_if_move(kind: u8) -> usize
+    ensures { λ r. ⌜ r ≡ cond (eqb kind 1) 1 0 ⌝ }
+{
+    if kind == 1 { 1 } else { 0 }
+}
+
+// How many of the first `n` actions are of kind 1, whatever else their bytes say: 13 comes before 17.
+fn moves_by_kind(acts: &[u8], n: usize) -> usize
+    requires { ⌜ 4 * n ≤ length (now acts) ⌝ }
+    ensures { λ r. ⌜ r ≡ movesByKind (now (acts .entry)) n ⌝ }
+{
+    let mut k: usize = 0;
+    let mut i: usize = 0;
+    while i < n {
+        k += one_if_move(acts[ACTION_SIZE * i]);
+        i += 1;
+    }
+    k
+}
+
 // Up to as many actions as there may be moves, nothing needs to be counted.
 fn too_many_moves(acts: &[u8], n: usize) -> bool
-    ensures { λ r. ⌜ r ≡ ltb (limits .most-moves) (movesIn (now (acts .entry)) n) ⌝ }
+    requires { ⌜ 4 * n ≤ length (now acts) ⌝ }
+    ensures { λ r. ⌜ r ≡ ltb (limits .most-moves) (movesByKind (now (acts .entry)) n) ⌝ }
 {
     if n <= MAX_MOVES {
         return false;
     }
-    MAX_MOVES < actions::moves_in(acts, n)
+    MAX_MOVES < moves_by_kind(acts, n)
 }
 
 // How many bytes the text of a start has: one for each of 68 numbers, then the counters.

@@ -53,7 +53,7 @@ returns-3 c =
     .taken)) (λ z. omega arith)
 
 too-many-moves-requires : tie.Need-too-many-moves-requires
-too-many-moves-requires c κs = search needs
+too-many-moves-requires c κs = omega (arith, c .before .before .before .if1 .left, c .if3 .left)
 
 refused-requires-4 : tie.Need-refused-requires-4
 refused-requires-4 c κs = search needs

@@ -1,4 +1,4 @@
--- `too_many_moves` of lib.rt meets its contract: r ≡ ltb (limits .most-moves) (movesIn (now (acts .entry)) n).
+-- `too_many_moves` of lib.rt meets its contract: r ≡ ltb (limits .most-moves) (movesByKind (now (acts .entry)) n).
 use borrow.Author.Needs.{needs}
 use mathlib.Core.Path.{ap}
 use lib.Dec.{ltb}
@@ -10,11 +10,11 @@ use Rattle.roll_writer.proofs.too_many_moves.Tie as tie
 returns : tie.Need-returns
 returns c = few-enough (c .before .before .args .acts .now) (c .before .before .args .n) (limits .most-moves) (c .if1 .taken)
 
-moves-in-requires : tie.Need-moves-in-requires
-moves-in-requires c κs = search needs
+moves-by-kind-requires : tie.Need-moves-by-kind-requires
+moves-by-kind-requires c κs = search needs
 
 returns-2 : tie.Need-returns-2
-returns-2 c = ap (ltb (limits .most-moves)) (c .moves-in .ensures)
+returns-2 c = ap (ltb (limits .most-moves)) (c .moves-by-kind .ensures)
 
 pub too-many-moves-spec : {M : Type 1} → statement M
-too-many-moves-spec = tie.close (tie.spec returns moves-in-requires returns-2)
+too-many-moves-spec = tie.close (tie.spec returns moves-by-kind-requires returns-2)
