@@ -582,10 +582,10 @@ menkhodur_ruling menkhodur_game_ruling(const uint8_t *actions, size_t actions_le
 
 /* Writes the roll of a start and of the first `action_count` actions. 0: it is at the front of `out`, and the value is its length; the
  * bytes of `out` behind it are left alone. Refused, in this order, with all of `out` left alone: 16: `actions` is shorter than 32,768
- * bytes; 5: a record number out of range; 13: the count is over 8,192, at any size, or more than 4,096 of the counted actions are moves;
- * 17: the bytes of a counted action are not an action's: kind, colour or move is out of range, or a field that the kind does not use is
- * not 0; 7: `room` is shorter than the roll, whose length is the value. The actions are left alone; those past the count are not looked
- * at. */
+ * bytes; 5: a record number out of range; 13: the count is over 8,192, at any size, or more than 4,096 of the counted actions are of kind
+ * 1, moves, whatever else their bytes say; 17: the bytes of a counted action are not an action's: kind, colour or move is out of range,
+ * or a field that the kind does not use is not 0; 7: `room` is shorter than the roll, whose length is the value. The actions are left
+ * alone; those past the count are not looked at. */
 menkhodur_answer menkhodur_roll_write(menkhodur_board b, const uint8_t *actions, size_t actions_length, uint64_t action_count,
                                       uint8_t *out, size_t room);
 

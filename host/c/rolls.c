@@ -611,13 +611,14 @@ static void check_limits(const struct kind *kind)
     check_last_move(kind, (uint8_t[]){ 130, 0 }, 2, MENKHODUR_BAD_ROLL);
 }
 
-/* Moves past the limit among bytes that are no action: these are no moves, and 13 stands before 17. */
-static void check_moves_counted(unsigned moves, uint64_t number)
+/* 13 stands before 17: actions of kind 1 are counted as moves, those too whose colour or number makes them none, wherever they stand. */
+static void check_moves_counted(unsigned moves, unsigned bad, uint64_t number)
 {
     struct finished f = { .start = initial };
     struct roll r = hand_roll(&counted);
+    for (unsigned i = 0; i < bad; i++) add_action(&f, MENKHODUR_MAKE_MOVE, i % 2, i % 2 ? 0 : MENKHODUR_LAST_MOVE + 1);
     for (unsigned i = 0; i < moves; i++) add_action(&f, MENKHODUR_MAKE_MOVE, 0, MENKHODUR_LAST_MOVE);
-    for (unsigned i = 0; i < 9; i++) add_action(&f, MENKHODUR_MAKE_MOVE, i % 2, i % 2 ? 0 : MENKHODUR_LAST_MOVE + 1);
+    add_action(&f, 0, MENKHODUR_MAKE_MOVE, MENKHODUR_MAKE_MOVE);
     check_write(&f, MENKHODUR_ACTIONS_LENGTH, MENKHODUR_LONGEST_ROLL, number, &r);
 }
 
@@ -727,8 +728,10 @@ void check_rolls(void)
     check_records_and_counts();
     check_written_counters();
     for (unsigned faults = 0; faults < 64; faults++) check_write_order(faults);
-    check_moves_counted(MENKHODUR_MAX_MOVES, MENKHODUR_BAD_ROLL);
-    check_moves_counted(MENKHODUR_MAX_MOVES + 1, MENKHODUR_LOG_FULL);
+    for (unsigned bad = 0; bad < 10; bad++) {
+        check_moves_counted(MENKHODUR_MAX_MOVES - bad, bad, MENKHODUR_BAD_ROLL);
+        check_moves_counted(MENKHODUR_MAX_MOVES - bad + 1, bad, MENKHODUR_LOG_FULL);
+    }
     check_logs();
     for (unsigned i = 0; i < (few ? GAMES_FEW : GAMES); i++) check_some();
 }

@@ -60,17 +60,16 @@ static bool is_action(const uint8_t *a)
 
 static uint64_t want_write(const menkhodur_board *b, const uint8_t *actions, size_t length, uint64_t count)
 {
-    uint64_t moves = 0, others = 0;
+    uint64_t moves = 0, good = 0;
     if (length < MENKHODUR_ACTIONS_LENGTH) return MENKHODUR_PART_TOO_SHORT;
     if (!board_good(b)) return MENKHODUR_OUT_OF_RANGE;
     if (count > MENKHODUR_MAX_ACTIONS) return MENKHODUR_LOG_FULL;
     for (const uint8_t *a = actions; a < actions + MENKHODUR_ACTION_SIZE * count; a += MENKHODUR_ACTION_SIZE) {
-        if (!is_action(a)) continue;
-        if (a[0] == MENKHODUR_MAKE_MOVE) moves++;
-        else others++;
+        moves += a[0] == MENKHODUR_MAKE_MOVE;
+        good += is_action(a);
     }
     if (moves > MENKHODUR_MAX_MOVES) return MENKHODUR_LOG_FULL;
-    return moves + others == count ? MENKHODUR_ACCEPTED : MENKHODUR_BAD_ROLL;
+    return good == count ? MENKHODUR_ACCEPTED : MENKHODUR_BAD_ROLL;
 }
 
 static void add_number(struct roll *r, uint64_t n)

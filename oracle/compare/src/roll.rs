@@ -96,7 +96,7 @@ pub fn action_of(bytes: &[u8]) -> Option<Action> {
     }
 }
 
-/// The roll owed by our writer, or its refusal: 16, 5, 13, 17. It writes no old rolls. Bytes that are no action are no move either.
+/// The roll owed by our writer, or its refusal: 16, 5, 13, 17. It writes no old rolls. 13 goes by the kinds alone, since 17 judges the bytes after it.
 pub fn owed_write(start: &Record, part: &[u8], count: u64) -> Result<Vec<u8>, u64> {
     if part.len() < ACTIONS_LENGTH {
         return Err(PART_TOO_SHORT);
@@ -107,11 +107,11 @@ pub fn owed_write(start: &Record, part: &[u8], count: u64) -> Result<Vec<u8>, u6
     if count > MOST_ACTIONS as u64 {
         return Err(PAST_THE_LIMIT);
     }
-    let actions: Vec<Option<Action>> = part.chunks_exact(4).take(count as usize).map(action_of).collect();
-    if actions.iter().filter(|a| matches!(a, Some(Action::MakeMove(_)))).count() > MOST_MOVES {
+    let counted = || part.chunks_exact(4).take(count as usize);
+    if counted().filter(|action| action[0] == 1).count() > MOST_MOVES {
         return Err(PAST_THE_LIMIT);
     }
-    let good: Option<Vec<Action>> = actions.into_iter().collect();
+    let good: Option<Vec<Action>> = counted().map(action_of).collect();
     good.map(|actions| write(start, &actions)).ok_or(BAD_ROLL)
 }
 
