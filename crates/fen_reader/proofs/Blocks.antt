@@ -15,7 +15,7 @@ use Rattle.answer.proofs.Bounds.{or-none}
 use Rattle.fen_text.specs.Token.{placeOf}
 use Rattle.fen_text.specs.Lines.{endedLines}
 use Rattle.fen_text.proofs.Lines.{ended-parts, none-in-front, place-at-most}
-use Rattle.fen_reader.specs.CodeClass.{foundFrom}
+use Rattle.fen_reader.specs.CodeWalk.{foundFrom}
 
 found : (hit : ℕ) (here left : Bool) → not (eqb (bitOr hit (cond here 1 0)) 0) || left ≡ not (eqb hit 0) || (here || left)
 found hit here left = rw (or-none hit (cond here 1 0)) (by (eqb hit 0) here)

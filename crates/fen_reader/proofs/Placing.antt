@@ -24,7 +24,7 @@ use Rattle.fen_text.proofs.Faults.{four}
 use Rattle.fen_text.proofs.Placed.{place-append}
 use Rattle.fen_text.proofs.Keys.{piece-most}
 use Rattle.fen_reader.specs.CodeMarks.{slashMark, noMark, byteMark}
-use Rattle.fen_reader.specs.CodeClass.{NoPlacement, noClass, pieceAfter, stepOf, fileNext, rankNext, seenAfter}
+use Rattle.fen_reader.specs.CodeWalk.{NoPlacement, badSeen, pieceAfter, stepOf, fileNext, rankNext, seenAfter}
 use Rattle.fen_reader.proofs.ByteMarks.{Kind, slash, digit, letter, other, kind, mark-slash, mark-digit, mark-letter, mark-other}
 use Rattle.fen_reader.proofs.Reading.{first-token}
 
@@ -99,17 +99,17 @@ next pieces rank file good b small = by (kind b)
     by (other e f g) = rule-other p b e f g ∙ rw (mark-other b e f g) (is-same _ _ _ _ _ _ _ stays (omega arith) (sym (and-false good)))
 
 -- no byte so far was refused exactly if nothing is seen
-seen-next : (seen m : ℕ) → ltb seen noClass && not (eqb m noMark) ≡ ltb (seenAfter seen m) noClass
+seen-next : (seen m : ℕ) → ltb seen badSeen && not (eqb m noMark) ≡ ltb (seenAfter seen m) badSeen
 seen-next seen m = by (eqb m noMark)
   where
-    by : (t : Bool) → ltb seen noClass && not t ≡ ltb (cond t noClass seen) noClass
-    by true = and-false (ltb seen noClass)
-    by false = and-true (ltb seen noClass)
+    by : (t : Bool) → ltb seen badSeen && not t ≡ ltb (cond t badSeen seen) badSeen
+    by true = and-false (ltb seen badSeen)
+    by false = and-true (ltb seen badSeen)
 
 -- the same, as the code has it: the mark as it was looked up, and what the four functions gave
 pub stored : (pieces : List ℕ) (rank file seen m d x r f t : ℕ)
     → m ≡ d → x ≡ pieceAfter m (getD pieces (squareOf rank file) 0) → r ≡ rankNext rank m → f ≡ fileNext file m → t ≡ seenAfter seen m
-    → after pieces rank file (ltb seen noClass) d ≡ placement (set pieces (squareOf rank file) x) r f (ltb t noClass)
+    → after pieces rank file (ltb seen badSeen) d ≡ placement (set pieces (squareOf rank file) x) r f (ltb t badSeen)
 stored pieces rank file seen m d x r f t e g h k l = rw (g, h, k, l, ← seen-next seen m, e)
 
 -- one more byte

@@ -18,7 +18,7 @@ use Rattle.fen_text.proofs.Keys.{piece-most}
 use Rattle.fen_text.proofs.Tokens.{place-miss, where-start}
 use Rattle.fen_reader.specs.declared.places.Stopped.{Stopped}
 use Rattle.fen_reader.specs.CodeMarks.{slashMark, noMark, byteMark}
-use Rattle.fen_reader.specs.CodeClass.{PlacementWalk}
+use Rattle.fen_reader.specs.CodeWalk.{PlacementWalk}
 use Rattle.fen_reader.specs.CodePlaces.{placeAt, Files, Right, Stands, Walks, Laid, Slashes, Tells}
 use Rattle.fen_reader.proofs.ByteMarks.{Kind, slash, digit, letter, other, kind, mark-slash, mark-digit, mark-letter, mark-other}
 use Rattle.fen_reader.proofs.Placing.{rule-slash, rule-digit, rule-letter, turn}

@@ -12,7 +12,7 @@ use lib.Seq.{drop-cons}
 use Rattle.answer.specs.Numbers.{among}
 use Rattle.fen_text.specs.Read.{rightsOf}
 use Rattle.fen_reader.specs.declared.token.Sides.{Sides}
-use Rattle.fen_reader.specs.CodeClass.{sidesOf}
+use Rattle.fen_reader.specs.CodeWalk.{sidesOf}
 
 -- a letter seen so far or further on
 pub seen-step : (l k : ℕ) (s : List ℕ) (i x : ℕ) → i < length s → x ≡ cond (eqb (getD s i 0) l) 1 k

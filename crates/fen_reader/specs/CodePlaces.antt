@@ -11,7 +11,7 @@ use Rattle.answer.specs.Numbers.{allAtMost}
 use Rattle.fen_text.specs.Token.{placeOf}
 use Rattle.fen_text.specs.Placement.{Placement, start, placeAll}
 use Rattle.fen_reader.specs.CodeMarks.{slashMark}
-use Rattle.fen_reader.specs.CodeClass.{foundFrom}
+use Rattle.fen_reader.specs.CodeWalk.{foundFrom}
 use Rattle.fen_reader.specs.declared.places.Stopped.{Stopped}
 
 -- the place of a file of a rank

@@ -1,3 +1,3 @@
 pub mod CodeMarks
-pub mod CodeClass
+pub mod CodeWalk
 pub mod CodePlaces

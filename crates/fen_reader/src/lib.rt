@@ -16,7 +16,7 @@ use fen_text::Fen;
 use placement::REFUSED;
 ghost use mathlib.Core.Path.{_≡_};
 ghost use Rattle.fen_text.specs.Read.{sideOf, refusedAt, sided, readFen};
-ghost use Rattle.fen_reader.specs.CodeClass.{NoPlacement};
+ghost use Rattle.fen_reader.specs.CodeWalk.{NoPlacement};
 
 fn refused_at(number: u64, offset: usize) -> Fen
     ensures { λ r. ⌜ r ≡ refusedAt number offset ⌝ }

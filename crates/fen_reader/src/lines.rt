@@ -7,7 +7,7 @@ ghost use lib.ListN.{length};
 ghost use Rattle.answer.specs.Numbers.{among};
 ghost use Rattle.fen_text.specs.Lines.{lineFeed, lineEnd, endedLines};
 ghost use Rattle.fen_text.specs.Page.{lineCount};
-ghost use Rattle.fen_reader.specs.CodeClass.{foundFrom};
+ghost use Rattle.fen_reader.specs.CodeWalk.{foundFrom};
 
 const LINE_FEED: u8 = b'\n';
 

@@ -8,7 +8,7 @@ ghost use mathlib.Core.Path.{_≡_};
 ghost use Prim.Native.Nat.{_<_};
 ghost use Rattle.fen_text.specs.Placement.{firstBad};
 ghost use Rattle.fen_reader.specs.CodeMarks.{marked};
-ghost use Rattle.fen_reader.specs.CodeClass.{pieceAfter, stepOf, fileNext, rankNext, seenAfter, PlacementWalk};
+ghost use Rattle.fen_reader.specs.CodeWalk.{pieceAfter, stepOf, fileNext, rankNext, seenAfter, PlacementWalk};
 
 // What was seen in a token once one of its bytes may not stand in a placement.
 pub(crate) const REFUSED: u8 = 64;

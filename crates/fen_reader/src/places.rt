@@ -7,7 +7,7 @@ ghost use mathlib.Core.Bool.{true};
 ghost use Prim.Native.Nat.{_<_};
 ghost use lib.ListN.{length, replicate};
 ghost use Rattle.fen_reader.specs.CodeMarks.{marked};
-ghost use Rattle.fen_reader.specs.CodeClass.{foundFrom};
+ghost use Rattle.fen_reader.specs.CodeWalk.{foundFrom};
 ghost use Rattle.fen_reader.specs.CodePlaces.{Laid, missingAfter, Slashes, RankSet, Files, Tells};
 
 // The place behind the last rank's files.

@@ -8,7 +8,7 @@ ghost use lib.ListN.{length, take, drop};
 ghost use Rattle.fen_text.specs.Token.{placeOf, tokens};
 ghost use Rattle.fen_text.specs.Read.{sideOf, enPassantOf};
 ghost use Rattle.fen_text.specs.Full.{counterOf};
-ghost use Rattle.fen_reader.specs.CodeClass.{sidesOf};
+ghost use Rattle.fen_reader.specs.CodeWalk.{sidesOf};
 
 // The place of the first `b`, or the length where there is none.
 pub(crate) fn find(s: &[u8], b: u8) -> usize

@@ -7,7 +7,7 @@ use native.Mathlib.Omega.{arith}
 use lib.ListN.{length, take}
 use borrow.Author.Tests.{le-ltb, lt-ltb}
 use Rattle.fen_text.specs.Placement.{start, placeAll}
-use Rattle.fen_reader.specs.CodeClass.{noClass}
+use Rattle.fen_reader.specs.CodeWalk.{badSeen}
 use Rattle.fen_reader.proofs.Placing.{good-placement}
 use Rattle.fen_reader.proofs.Reading.{one-token, two-tokens, three-tokens, four-tokens}
 use Rattle.fen_reader.proofs.read_fen.Statement.{statement}
@@ -21,7 +21,7 @@ no-placement-requires c κs = record {
   place = c .before .before .place .ensures .place;
   bad =
       let at-place = c .before .before .place in
-      at-place .ensures .good ∙ le-ltb (at-place .result .seen) noClass (c .if1 .taken);
+      at-place .ensures .good ∙ le-ltb (at-place .result .seen) badSeen (c .if1 .taken);
 }
 
 returns : tie.Need-returns
@@ -126,7 +126,7 @@ returns-5 c =
     let s = a .text .now in
     let w = at-place .result in
     let inside : w .end ≤ length s = omega (arith, at-if2 .left) in
-    let good : placeAll start (take (w .end) s) .good ≡ true = at-place .ensures .good ∙ lt-ltb (w .seen) noClass (at-if1 .left) in
+    let good : placeAll start (take (w .end) s) .good ≡ true = at-place .ensures .good ∙ lt-ltb (w .seen) badSeen (at-if1 .left) in
     c .assemble .ensures
     ∙ sym (good-placement s (w .end) (w .pieces) _ _ _ inside good (at-place .ensures .pieces))
     ∙ sym

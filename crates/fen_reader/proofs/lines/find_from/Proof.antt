@@ -5,7 +5,7 @@ use Prim.Native.Nat.{_+_, _-_, _≤_, _<_}
 use native.Mathlib.Omega.{arith}
 use lib.ListN.{length}
 use Rattle.fen_text.proofs.Tokens.{where-end}
-use Rattle.fen_reader.specs.CodeClass.{foundFrom}
+use Rattle.fen_reader.specs.CodeWalk.{foundFrom}
 use Rattle.fen_reader.proofs.Blocks.{passed-over, looked-for, end-within}
 use Rattle.fen_reader.proofs.lines.find_from.Statement.{statement}
 use Rattle.fen_reader.proofs.lines.find_from.Tie as tie

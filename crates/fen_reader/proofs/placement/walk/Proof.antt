@@ -10,7 +10,7 @@ use Rattle.fen_text.specs.Token.{placeOf}
 use Rattle.fen_text.specs.Placement.{Placement, placement, start, placeAll}
 use Rattle.fen_text.proofs.Tokens.{place-miss, where-start, place-hit, where-end}
 use Rattle.fen_reader.specs.CodeMarks.{byteMark}
-use Rattle.fen_reader.specs.CodeClass.{noClass}
+use Rattle.fen_reader.specs.CodeWalk.{badSeen}
 use Rattle.fen_reader.proofs.ByteMarks.{mark-at}
 use Rattle.fen_reader.proofs.Placing.{next, stored, turn, file-small, rank-small, at-start}
 use Rattle.fen_reader.proofs.placement.walk.Statement.{statement}
@@ -19,7 +19,7 @@ use Rattle.fen_reader.proofs.placement.walk.Tie as tie
 abbrev Inv-loop : tie.InvT-loop
 Inv-loop text marks pieces₀ rank₀ file₀ seen₀ i₀ pieces rank file seen i =
     (i ≤ length text) × (rank < 8) × (file < 8) × (length pieces ≡ 64)
-    × (placeAll start (take i text) ≡ placement pieces rank file (ltb seen noClass))
+    × (placeAll start (take i text) ≡ placement pieces rank file (ltb seen badSeen))
     × (placeOf 32 text ≡ i + placeOf 32 (drop i text))
 
 abbrev μ-loop : tie.MeasureT-loop
@@ -105,7 +105,7 @@ loop-again c =
       subst (λ (n : ℕ). n < 8) (sym (file .ensures)) (file-small f m),
       simp length-set (at .inv .3),
       turn s i h (at .inv .4)
-          (next p r f (ltb (at .seen) noClass) b (at .inv .2)
+          (next p r f (ltb (at .seen) badSeen) b (at .inv .2)
           ∙ stored p r f (at .seen) m (byteMark b) (piece .result) (rank .result) (file .result) (seen .result) mark
           (piece .ensures) (rank .ensures) (file .ensures) (seen .ensures)),
       at .inv .5 ∙ place-miss 32 s i h (c .before .before .before .before .before .before .if1 .left),

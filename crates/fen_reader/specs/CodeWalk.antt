@@ -15,8 +15,8 @@ use Rattle.fen_reader.specs.declared.placement.Walked.{Walked}
 use Rattle.fen_reader.specs.declared.token.Sides.{Sides}
 
 -- what was seen in a token once one of its bytes may not stand in a placement
-abbrev pub noClass : ℕ
-noClass = 64
+abbrev pub badSeen : ℕ
+badSeen = 64
 
 -- a piece is set down, or what stands there stays
 abbrev pub pieceAfter : ℕ → ℕ → ℕ
@@ -32,13 +32,13 @@ abbrev pub rankNext : ℕ → ℕ → ℕ
 rankNext rank mark = cond (eqb mark slashMark) ((rank + 7) % 8) rank
 
 abbrev pub seenAfter : ℕ → ℕ → ℕ
-seenAfter seen mark = cond (eqb mark noMark) noClass seen
+seenAfter seen mark = cond (eqb mark noMark) badSeen seen
 
 -- the walk over a text: it ends at the first space or with the text, with the pieces of the first token, and tells whether that is a placement
 pub record PlacementWalk (s : List ℕ) (r : Walked) : Type 0 where
   pub place : r .end ≡ placeOf 32 s
   pub pieces : placeAll start (take (r .end) s) .pieces ≡ r .pieces
-  pub good : placeAll start (take (r .end) s) .good ≡ ltb (r .seen) noClass
+  pub good : placeAll start (take (r .end) s) .good ≡ ltb (r .seen) badSeen
 
 -- the place of the first b from a place on, or the text's end
 abbrev pub foundFrom : ℕ → List ℕ → ℕ → ℕ
