@@ -11,6 +11,6 @@ pub mod Keys
 pub mod Hollow
 pub mod Full
 pub mod Faults
-pub mod Rows
+pub mod AtRows
 pub mod Lines
 pub mod Pages

@@ -1,5 +1,5 @@
 pub mod AtSmallest
-pub mod RulingsAtSmallest
+pub mod AtSmallestRulings
 pub mod Back
 pub mod Counted
 pub mod Histories
