@@ -93,6 +93,12 @@ use Rattle.menkhodur.proofs.menkhodur_game_step.Reads as menkhodur-game
 use Rattle.menkhodur.proofs.menkhodur_game_step.Kinds as menkhodur-game-step·k
 use Rattle.menkhodur.proofs.menkhodur_play.Reads as menkhodur-play
 use Rattle.menkhodur.proofs.menkhodur_play.Kinds as menkhodur-play·k
+use Rattle.menkhodur.proofs.menkhodur_in_check.Reads as menkhodur-in-check
+use Rattle.menkhodur.proofs.menkhodur_in_check.Kinds as menkhodur-in-check·k
+use Rattle.menkhodur.proofs.menkhodur_legal_list.Reads as menkhodur-legal-list
+use Rattle.menkhodur.proofs.menkhodur_legal_list.Kinds as menkhodur-legal-list·k
+use Rattle.menkhodur.proofs.menkhodur_list_judged.Reads as menkhodur-list-judged
+use Rattle.menkhodur.proofs.menkhodur_list_judged.Kinds as menkhodur-list-judged·k
 
 pub menkhodur-version-answer : OneAnswer menkhodur-version·k.ps menkhodur-version·k.r menkhodur-version.Learnt
 menkhodur-version-answer κs a x y e f p q = p ∙ sym q
@@ -304,3 +310,15 @@ menkhodur-play-answer κs a x y e f p q = p .0 ∙ sym (q .0)
 
 pub menkhodur-play-out : OnePart menkhodur-play·k.ps menkhodur-play·k.r (λ κs x e. now (e .1 .1 .1 .0)) menkhodur-play.Learnt
 menkhodur-play-out κs a x y e f p q = p .1 ∙ sym (q .1)
+
+pub menkhodur-in-check-answer : OneAnswer menkhodur-in-check·k.ps menkhodur-in-check·k.r menkhodur-in-check.Learnt
+menkhodur-in-check-answer κs a x y e f p q = p ∙ sym q
+
+pub menkhodur-legal-list-answer : OneAnswer menkhodur-legal-list·k.ps menkhodur-legal-list·k.r menkhodur-legal-list.Learnt
+menkhodur-legal-list-answer κs a x y e f p q = p .0 ∙ sym (q .0)
+
+pub menkhodur-legal-list-out : OnePart menkhodur-legal-list·k.ps menkhodur-legal-list·k.r (λ κs x e. now (e .1 .0)) menkhodur-legal-list.Learnt
+menkhodur-legal-list-out κs a x y e f p q = p .1 ∙ sym (q .1)
+
+pub menkhodur-list-judged-answer : OneAnswer menkhodur-list-judged·k.ps menkhodur-list-judged·k.r menkhodur-list-judged.Learnt
+menkhodur-list-judged-answer κs a x y e f p q = p ∙ sym q

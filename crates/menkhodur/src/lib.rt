@@ -7,6 +7,7 @@ use fen_text::Fen;
 use game_rules::Counts;
 use game_text::GameStep;
 use laws::Ruled;
+use move_laws::Judged;
 use pgn_text::PgnCount;
 use pgn_text::PgnNext;
 use report_text::Report;
@@ -25,6 +26,8 @@ ghost use Rattle.report_text.specs.Report.{mostLines, reportAnswer, reportRecor
 ghost use Rattle.move_rules.specs.After.{afterAnswer};
 ghost use Rattle.settled_rules.specs.Settled.{settledAnswer};
 ghost use Rattle.settled.specs.Key.{settledKey, settledRoom};
+ghost use Rattle.move_laws.specs.Legal.{legalMoves, listCheck, checkAnswer};
+ghost use Rattle.move_laws.specs.Judge.{judgedAnswer};
 ghost use Rattle.chess_move.specs.Coordinate.{readMove, moveText, moveCheck};
 ghost use Rattle.san_text.specs.Paper.{fromSan, nameAnswer, nameBytes};
 ghost use Rattle.san_text.specs.Standard.{fromSanStandard, standardNameAnswer, standardNameBytes};
@@ -449,4 +452,26 @@ pub extern "C" fn menkhodur_play(
     ensures bytes { λ r. ⌜ now (out .exit) ≡ playBytes (now (text .entry)) board (now (list .entry)) (now (out .entry)) ⌝ }
 {
     game_step::play(text, board, list, out)
+}
+
+#[no_mangle]
+pub extern "C" fn menkhodur_in_check(board: BoardBuilder) -> Answer
+    ensures { λ r. ⌜ r ≡ checkAnswer board ⌝ }
+{
+    legal::in_check(board)
+}
+
+#[no_mangle]
+pub extern "C" fn menkhodur_legal_list(board: BoardBuilder, out: &mut [u16]) -> Answer
+    ensures answer { λ r. ⌜ r ≡ writeAnswer (listCheck board) (legalMoves board) (length (now (out .entry))) ⌝ }
+    ensures bytes { λ r. ⌜ now (out .exit) ≡ writeBytes (listCheck board) (legalMoves board) (now (out .entry)) ⌝ }
+{
+    legal::legal_list(board, out)
+}
+
+#[no_mangle]
+pub extern "C" fn menkhodur_list_judged(board: BoardBuilder, in_check: u8, list: &[u16]) -> Judged
+    ensures { λ r. ⌜ r ≡ judgedAnswer board in_check (now (list .entry)) ⌝ }
+{
+    judge::list_judged(board, in_check, list)
 }

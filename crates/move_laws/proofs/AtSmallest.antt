@@ -56,6 +56,8 @@ rows = record {
   pawn-twice-onto = refl;
   pawn-first = refl;
   pawn-first-twice = refl;
+  pawn-last = refl;
+  pawn-last-black = refl;
   pawn-takes = refl;
   pawn-takes-black = refl;
   pawn-takes-behind = refl;
@@ -123,4 +125,5 @@ rows = record {
   alone = refl;
   mate = refl;
   stalemate = refl;
+  first-move = refl;
 }

@@ -4,4 +4,5 @@ pub mod Move
 pub mod Legal
 pub mod Judge
 pub mod AtSmallest
+pub mod AtSmallestJudge
 pub mod Promises

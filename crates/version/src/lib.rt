@@ -2,7 +2,7 @@
 ghost use mathlib.Core.Path.{_≡_};
 ghost use Rattle.version.specs.Version.{version};
 
-pub const VERSION: u64 = 15;
+pub const VERSION: u64 = 16;
 
 pub fn number() -> u64
     ensures { λ r. ⌜ r ≡ version ⌝ }
