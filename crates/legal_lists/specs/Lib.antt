@@ -1,0 +1,2 @@
+pub mod Mates
+pub mod Promises
