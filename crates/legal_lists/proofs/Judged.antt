@@ -4,7 +4,6 @@ use Prim.Native.Nat.{ℕ, suc, _+_, _-_, _≤_}
 use mathlib.Core.Path.{_≡_, refl, sym, ap, _∙_}
 use mathlib.Core.Bool.{Bool, true, false, cond, _||_, false≢true}
 use mathlib.Core.List.{List, [], _∷_}
-use mathlib.Core.Logic.{_↔_}
 use native.Mathlib.Omega.{arith}
 use lib.Dec.{eqb, leb}
 use lib.ListN.{length}
@@ -20,7 +19,7 @@ use Rattle.move_laws.specs.declared.Judged.{Judged}
 use Rattle.move_laws.specs.Legal.{legalMoves, checkByte}
 use Rattle.move_laws.specs.Judge.{judgedAs, outsideAt, twiceAt, judgement, judgedAnswer}
 use Rattle.legal_lists.specs.Promises.{Right, JudgedRight}
-use Rattle.legal_lists.proofs.Once.{there, listed, not-there, each-once}
+use Rattle.legal_lists.proofs.Once.{there, not-there, each-once}
 
 -- ---- nothing outside
 
@@ -39,7 +38,7 @@ inside list (x ∷ xs) e n h = go (inside list xs) (among x list) refl e (eqb x 
     go ih true p q false r k = ih q n k
     go ih false p q u r k = absurd (omega (arith, q))
 
-pub none-outside : (list xs : List ℕ) → ((n : ℕ) → among n xs ≡ true → among n list ≡ true) → outsideAt list xs ≡ 0
+none-outside : (list xs : List ℕ) → ((n : ℕ) → among n xs ≡ true → among n list ≡ true) → outsideAt list xs ≡ 0
 unfolding outsideAt among
 none-outside list [] f = refl
 none-outside list (x ∷ xs) f =
@@ -52,14 +51,15 @@ unfolding twiceAt count
 none-again [] e n = omega arith
 none-again (x ∷ xs) e n = go (none-again xs) (among x xs) refl e (eqb x n) refl
   where
-    go : (twiceAt xs ≡ 0 → (n : ℕ) → occurrences n xs ≤ 1) → (t : Bool) → among x xs ≡ t → cond t (x + 1) (twiceAt xs) ≡ 0 → (u : Bool) → eqb x n ≡ u → cond u (suc (occurrences n xs)) (occurrences n xs) ≤ 1
+    go : (twiceAt xs ≡ 0 → (n : ℕ) → occurrences n xs ≤ 1) → (t : Bool) → among x xs ≡ t → cond t (x + 1) (twiceAt xs) ≡ 0
+        → (u : Bool) → eqb x n ≡ u → cond u (suc (occurrences n xs)) (occurrences n xs) ≤ 1
     go ih true p q u r = absurd (omega (arith, q))
     go ih false p q true r =
         let z = not-there n xs (ap (λ (y : ℕ). among y xs) (sym (eqb-true x n r)) ∙ p) in
         omega (arith, z)
     go ih false p q false r = ih q n
 
-pub none-twice : (l : List ℕ) → ((n : ℕ) → occurrences n l ≤ 1) → twiceAt l ≡ 0
+none-twice : (l : List ℕ) → ((n : ℕ) → occurrences n l ≤ 1) → twiceAt l ≡ 0
 unfolding twiceAt count
 none-twice [] f = refl
 none-twice (x ∷ xs) f = go (none-twice xs) (among x xs) refl
@@ -79,24 +79,24 @@ none-twice (x ∷ xs) f = go (none-twice xs) (among x xs) refl
 
 -- ---- the four together
 
-pub record AllFour (owed given : ℕ) (legal list : List ℕ) : Type 0 where
-  pub none-stray : outsideAt legal list ≡ 0
-  pub none-doubled : twiceAt list ≡ 0
-  pub none-missing : outsideAt list legal ≡ 0
-  pub byte : given ≡ owed
+record AllFour (owed given : ℕ) (legal list : List ℕ) : Type 0 where
+  none-stray : outsideAt legal list ≡ 0
+  none-doubled : twiceAt list ≡ 0
+  none-missing : outsideAt list legal ≡ 0
+  byte : given ≡ owed
 
 all-four : (owed given : ℕ) (legal list : List ℕ) → judgement owed given legal list .wrong ≡ 0 → AllFour owed given legal list
 unfolding judgement
 all-four owed given legal list e =
     go (eqb (outsideAt legal list) 0) refl (eqb (twiceAt list) 0) refl (eqb (outsideAt list legal) 0) refl (eqb given owed) refl e
   where
+    told : ℕ → ℕ → Judged
+    told wrong move = judgedAs 0 owed (length legal) wrong move
+
     go : (p : Bool) → eqb (outsideAt legal list) 0 ≡ p → (q : Bool) → eqb (twiceAt list) 0 ≡ q → (r : Bool) → eqb (outsideAt list legal) 0 ≡ r
         → (s : Bool) → eqb given owed ≡ s
-        → cond p
-        (cond q
-        (cond r (cond s (judgedAs 0 owed (length legal) 0 0) (judgedAs 0 owed (length legal) 4 0)) (judgedAs 0 owed (length legal) 3 (outsideAt list legal - 1)))
-        (judgedAs 0 owed (length legal) 2 (twiceAt list - 1)))
-        (judgedAs 0 owed (length legal) 1 (outsideAt legal list - 1)) .wrong
+        → cond p (cond q (cond r (cond s (told 0 0) (told 4 0)) (told 3 (outsideAt list legal - 1))) (told 2 (twiceAt list - 1)))
+        (told 1 (outsideAt legal list - 1)) .wrong
         ≡ 0
         → AllFour owed given legal list
     go true a true b true c true d k = record {
@@ -122,21 +122,22 @@ no-wrong owed given legal list f =
 
 -- ---- as a list in another order
 
-module _ (b : BoardBuilder) (byte : ℕ) (list : List ℕ) where
-  pub four-right : AllFour (checkByte b) byte (legalMoves b) list → Right b byte list
-  four-right f = record { list-owed = same; byte-owed = f .byte }
-    where
-      same : Reordered list (legalMoves b)
-      same n = go (among n (legalMoves b)) refl (among n list) refl
-        where
-          go : (t : Bool) → among n (legalMoves b) ≡ t → (u : Bool) → among n list ≡ u → occurrences n list ≡ occurrences n (legalMoves b)
-          go true p true q =
-              omega (arith, there n (legalMoves b) p, there n list q, each-once b n, none-again list (f .none-doubled) n)
-          go true p false q = absurd (false≢true (sym q ∙ inside list (legalMoves b) (f .none-missing) n p))
-          go false p true q = absurd (false≢true (sym p ∙ inside (legalMoves b) list (f .none-stray) n q))
-          go false p false q = not-there n list q ∙ sym (not-there n (legalMoves b) p)
+-- nothing outside, nothing twice and nothing missing: the list that is owed
+pub owed-list : (b : BoardBuilder) (list : List ℕ) → outsideAt (legalMoves b) list ≡ 0 → twiceAt list ≡ 0 → outsideAt list (legalMoves b) ≡ 0
+    → Reordered list (legalMoves b)
+owed-list b list stray doubled missing n = go (among n (legalMoves b)) refl (among n list) refl
+  where
+    go : (t : Bool) → among n (legalMoves b) ≡ t → (u : Bool) → among n list ≡ u → occurrences n list ≡ occurrences n (legalMoves b)
+    go true p true q = omega (arith, there n (legalMoves b) p, there n list q, each-once b n, none-again list doubled n)
+    go true p false q = absurd (false≢true (sym q ∙ inside list (legalMoves b) missing n p))
+    go false p true q = absurd (false≢true (sym p ∙ inside (legalMoves b) list stray n q))
+    go false p false q = not-there n list q ∙ sym (not-there n (legalMoves b) p)
 
-  pub right-four : Right b byte list → AllFour (checkByte b) byte (legalMoves b) list
+module _ (b : BoardBuilder) (byte : ℕ) (list : List ℕ) where
+  four-right : AllFour (checkByte b) byte (legalMoves b) list → Right b byte list
+  four-right f = record { list-owed = owed-list b list (f .none-stray) (f .none-doubled) (f .none-missing); byte-owed = f .byte }
+
+  right-four : Right b byte list → AllFour (checkByte b) byte (legalMoves b) list
   right-four r = record {
     none-stray = none-outside (legalMoves b) list (λ n h. sym (reordered-listed list (legalMoves b) (r .list-owed) n) ∙ h);
     none-doubled = none-twice list (λ n. omega (arith, r .list-owed n, each-once b n));
@@ -147,7 +148,7 @@ module _ (b : BoardBuilder) (byte : ℕ) (list : List ℕ) where
 -- ---- and what is answered
 
 -- an answer with the number 0 is the judgement
-judged : (b : BoardBuilder) (byte : ℕ) (list : List ℕ) → judgedAnswer b byte list .number ≡ 0
+pub judged : (b : BoardBuilder) (byte : ℕ) (list : List ℕ) → judgedAnswer b byte list .number ≡ 0
     → judgedAnswer b byte list ≡ judgement (checkByte b) byte (legalMoves b) list
 unfolding judgedAnswer
 judged b byte list e = go (inRange b) (leb byte 1) (listInRange list) (leb (length (legalMoves b)) longestList) e

@@ -1,3 +1,5 @@
 pub mod Once
 pub mod Judged
 pub mod Names
+pub mod Mates
+pub mod Told

@@ -1,8 +1,8 @@
 -- Every legal move has a name: its text with both source parts says a kind and a promotion that a text can say, and no other entry fits it.
 -- Assumes nothing.
 use Prim.Native.Nat.{ℕ, zero, suc, _+_, _*_, _-_, _/_, _%_, _≤_}
-use mathlib.Core.Path.{_≡_, refl, sym, ap, _∙_, subst}
-use mathlib.Core.Bool.{Bool, true, false, cond, _&&_, _||_, false≢true}
+use mathlib.Core.Path.{_≡_, refl, sym, _∙_, subst}
+use mathlib.Core.Bool.{Bool, true, false, cond, _&&_, _||_}
 use mathlib.Core.List.{List}
 use mathlib.Core.Logic.{_⊎_, inl, inr}
 use mathlib.Core.Option.{Option, none, some}
@@ -17,12 +17,12 @@ use Rattle.square.specs.Piece.{kindOf, manOn}
 use Rattle.board_builder.specs.declared.BoardBuilder.{BoardBuilder}
 use Rattle.board_builder.specs.BoardBuilder.{inRange}
 use Rattle.board_builder.proofs.Ranges.{in-range}
-use Rattle.chess_move.specs.Number.{lastMove, sourceOf, destOf, promotionOf}
+use Rattle.chess_move.specs.Number.{sourceOf, destOf, promotionOf}
 use Rattle.chess_move.proofs.Numbers.{same-number, same-square}
-use Rattle.move_list.specs.MoveList.{count, firstOf, listInRange}
+use Rattle.move_list.specs.MoveList.{count, listInRange}
 use Rattle.move_list.proofs.Counting.{sole}
-use Rattle.move_rules.specs.After.{rank, squaresAfter}
-use Rattle.move_laws.specs.Attack.{ofSide, inCheck}
+use Rattle.move_rules.specs.After.{rank}
+use Rattle.move_laws.specs.Attack.{ofSide}
 use Rattle.move_laws.specs.Move.{lastRank, promotes, kindMoves}
 use Rattle.move_laws.specs.Legal.{ownRights, goes, legalParts, isLegal, legalMoves}
 use Rattle.move_laws.proofs.Listed.{lists-legal, lists-moves}
@@ -31,7 +31,7 @@ use Rattle.san_text.specs.Form.{Form}
 use Rattle.san_text.specs.Name.{noneIs8, nameOf, nameText, nameCheck}
 use Rattle.san_text.specs.Paper.{paper}
 use Rattle.san_text.specs.Standard.{standard}
-use Rattle.san_text.specs.Promises.{Namer, Reader, Ready, NamedWithin, Unnamed, Demand3Within, namer, standardNamer}
+use Rattle.san_text.specs.Promises.{Namer, Reader, NamedWithin, Unnamed, Demand3Within, namer, standardNamer}
 use Rattle.san_text.proofs.Says.{Moves, Promotes}
 use Rattle.san_text.proofs.Front.{bothWith}
 use Rattle.san_text.proofs.Sole.{fitted}

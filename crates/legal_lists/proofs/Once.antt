@@ -2,14 +2,13 @@
 -- Assumes nothing.
 use Prim.Native.Nat.{ℕ, zero, suc, _≤_, _<_}
 use mathlib.Core.Path.{_≡_, refl, sym, ap, _∙_}
-use mathlib.Core.Bool.{Bool, true, false, cond, _&&_, _||_, false≢true}
+use mathlib.Core.Bool.{Bool, true, false, cond, false≢true}
 use mathlib.Core.List.{List, [], _∷_}
 use native.Mathlib.Omega.{arith}
 use lib.Dec.{eqb, ltb}
-use borrow.Author.Tests.{eq-eqb, eqb-true, eqb-false, ltb-true}
+use borrow.Author.Tests.{eq-eqb, eqb-true, ltb-true}
 use Rattle.answer.specs.Numbers.{among}
 use Rattle.answer.proofs.Numbers.{both-left, both-right}
-use Rattle.board_builder.specs.declared.BoardBuilder.{BoardBuilder}
 use Rattle.move_list.specs.MoveList.{count, firstOf}
 use Rattle.move_list.proofs.Counting.{count-listed, first-passes, first-listed}
 use Rattle.move_laws.specs.Legal.{legalMoves}
@@ -37,7 +36,7 @@ not-there n l e = go (occurrences n l) refl
 
 -- ---- at most once, where the numbers rise
 
-under-none : (n k : ℕ) (l : List ℕ) → n ≤ k → risesFrom k l ≡ true → occurrences n l ≡ 0
+pub under-none : (n k : ℕ) (l : List ℕ) → n ≤ k → risesFrom k l ≡ true → occurrences n l ≡ 0
 unfolding risesFrom count
 under-none n k [] h e = refl
 under-none n k (x ∷ xs) h e = go (under-none n x xs) (eqb x n) refl
