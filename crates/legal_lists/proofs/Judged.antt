@@ -110,7 +110,7 @@ all-four owed given legal list e =
     go true a false b r c s d k = absurd (omega (arith, k))
     go false a q b r c s d k = absurd (omega (arith, k))
 
-no-wrong : (owed given : ℕ) (legal list : List ℕ) → AllFour owed given legal list → judgement owed given legal list .wrong ≡ 0
+no-wrong : (owed given : ℕ) (legal list : List ℕ) → AllFour owed given legal list → judgement owed given legal list ≡ judgedAs 0 owed (length legal) 0 0
 unfolding judgement
 no-wrong owed given legal list f =
     rw (
@@ -145,6 +145,10 @@ module _ (b : BoardBuilder) (byte : ℕ) (list : List ℕ) where
     byte = r .byte-owed;
   }
 
+  pub right-nothing-wrong : Right b byte list
+      → judgement (checkByte b) byte (legalMoves b) list ≡ judgedAs 0 (checkByte b) (length (legalMoves b)) 0 0
+  right-nothing-wrong r = no-wrong (checkByte b) byte (legalMoves b) list (right-four r)
+
 -- ---- and what is answered
 
 -- an answer with the number 0 is the judgement
@@ -177,4 +181,4 @@ judged-right b byte list e = (forth, back)
     forth w = four-right b byte list (all-four (checkByte b) byte (legalMoves b) list (sym is ∙ w))
 
     back : Right b byte list → judgedAnswer b byte list .wrong ≡ 0
-    back r = is ∙ no-wrong (checkByte b) byte (legalMoves b) list (right-four b byte list r)
+    back r = is ∙ ap (λ (x : Judged). x .wrong) (right-nothing-wrong b byte list r)

@@ -3,3 +3,4 @@ pub mod Judged
 pub mod Names
 pub mod Mates
 pub mod Told
+pub mod Own

@@ -18,8 +18,8 @@ use Rattle.san_text.specs.Promises.{Namer, Reader, NamedWithin, namer, standard
 use Rattle.san_text.specs.Paper.{fromSan}
 use Rattle.san_text.specs.Standard.{fromSanStandard}
 use Rattle.san_lists.specs.Lists.{occurrences, Reordered, Within}
-use Rattle.move_laws.specs.Legal.{legalMoves, checkByte}
-use Rattle.move_laws.specs.Judge.{judgedAnswer}
+use Rattle.move_laws.specs.Legal.{legalMoves, listCheck, checkByte}
+use Rattle.move_laws.specs.Judge.{judgedAs, judgedAnswer}
 use Rattle.legal_lists.specs.Mates.{Checkmated, Stalemated}
 
 -- no legal move stands in the list of them twice
@@ -35,6 +35,10 @@ pub record Right (b : BoardBuilder) (byte : ℕ) (list : List ℕ) : Type 0 wher
 abbrev pub JudgedRight : Type 0
 JudgedRight =
     (b : BoardBuilder) (byte : ℕ) (list : List ℕ) → judgedAnswer b byte list .number ≡ 0 → (judgedAnswer b byte list .wrong ≡ 0) ↔ Right b byte list
+
+-- the list of a record in range with at most 255 legal moves is itself found right, with the byte that is owed
+abbrev pub OwnListIsRight : Type 0
+OwnListIsRight = (b : BoardBuilder) → listCheck b ≡ 0 → judgedAnswer b (checkByte b) (legalMoves b) ≡ judgedAs 0 (checkByte b) (length (legalMoves b)) 0 0
 
 -- every legal move has a name, on the list of them and on any part of it: with room for the longest, a name that is read as that very move
 abbrev pub NamesLegalMoves : ℕ → Namer → Reader → Type 0

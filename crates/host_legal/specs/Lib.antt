@@ -1,0 +1,2 @@
+pub mod LegalCalls
+pub mod Promises
