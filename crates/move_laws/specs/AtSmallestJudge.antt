@@ -1,22 +1,10 @@
 -- A lent list judged, at its smallest: what is wrong, in which order it is looked for, and which entry or move is told.
 -- Assumes nothing.
 use mathlib.Core.Path.{_≡_}
-use mathlib.Core.List.{List, [], _∷_, _++_}
-use Prim.Native.Nat.{ℕ}
-use lib.ListN.{replicate}
+use mathlib.Core.List.{[], _∷_}
 use Rattle.answer.specs.Answer.{outOfRange, badList}
-use Rattle.board_builder.specs.declared.BoardBuilder.{BoardBuilder}
-use Rattle.board_builder.specs.BoardBuilder.{board, noBoard, emptyBoard}
-use Rattle.move_laws.specs.Legal.{listCheck}
+use Rattle.board_builder.specs.BoardBuilder.{noBoard, emptyBoard}
 use Rattle.move_laws.specs.Judge.{judgedAs, judgement, judgedAnswer}
-use Rattle.move_laws.specs.AtSmallest.{white, to}
-
--- queens on all squares of the edge, which have 288 moves
-abbrev pub edgeOnly : List ℕ
-edgeOnly = 5 ∷ (replicate 6 0 ++ (5 ∷ []))
-
-abbrev pub queensAround : BoardBuilder
-queensAround = board (replicate 8 5 ++ (edgeOnly ++ (edgeOnly ++ (edgeOnly ++ (edgeOnly ++ (edgeOnly ++ (edgeOnly ++ replicate 8 5))))))) 0 0 0 0
 
 pub record JudgeRows : Type 0 where
   -- nothing wrong: the legal moves in any order, and the byte that is owed
@@ -37,11 +25,7 @@ pub record JudgeRows : Type 0 where
   pub missing-third : judgement 0 1 (7 ∷ 8 ∷ []) (8 ∷ []) ≡ judgedAs 0 0 2 3 7
   -- move 0 is told as any other
   pub move-0 : judgement 0 0 (0 ∷ 7 ∷ []) (7 ∷ []) ≡ judgedAs 0 0 2 3 0
-  -- a king alone on a1: its three moves in any order
-  pub king-right : judgedAnswer (white (0 ∷ 6 ∷ []) 0 0) 0 (to 0 9 ∷ to 0 1 ∷ to 0 8 ∷ []) ≡ judgedAs 0 0 3 0 0
-  -- 5 for the record, then for the byte; 6 for the list, then for more moves than a list may have
+  -- 5 for the record, then for the byte; 6 for the list
   pub record-gives-5 : judgedAnswer noBoard 2 (28672 ∷ []) ≡ judgedAs outOfRange 0 0 0 0
   pub byte-gives-5 : judgedAnswer emptyBoard 2 (28672 ∷ []) ≡ judgedAs outOfRange 0 0 0 0
   pub list-gives-6 : judgedAnswer emptyBoard 1 (28672 ∷ []) ≡ judgedAs badList 0 0 0 0
-  pub many-gives-6 : judgedAnswer queensAround 0 [] ≡ judgedAs badList 0 0 0 0
-  pub list-of-many-gives-6 : listCheck queensAround ≡ badList
