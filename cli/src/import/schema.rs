@@ -84,6 +84,12 @@ pub fn lacking(base: Base, found: &[Table]) -> Result<Vec<String>, String> {
     Ok(making)
 }
 
+/// The SQL of the tables of names and of their triggers, as a database of SQLite keeps what the script has made.
+pub fn made() -> Vec<String> {
+    let statements = names(Base::Sqlite).into_iter().filter(|statement| !statement.starts_with("CREATE INDEX"));
+    statements.map(|statement| statement.trim_end_matches(';').to_string()).collect()
+}
+
 /// The statements of the scripts.
 fn names(base: Base) -> Vec<String> {
     let cut = |text: &'static str, from: &str, to: &str| {

@@ -147,8 +147,10 @@ impl Sqlite {
         known.judge_progress(self.find(&known.name)?.as_ref())?;
         self.judge_places()?;
         let twins = self.twins(known, batch)?;
+        let bare = is_as_made(&self.db)?;
+        self.db.set_triggers(!bare)?;
         let ids = self.games(known, batch, &twins)?;
-        let new = self.positions(batch, entries, &ids)?;
+        let new = self.positions(batch, entries, &ids, if bare { ALL_BACK } else { "" })?;
         self.refused(known, batch)?;
         let mut progress = self.db.prepare("UPDATE source SET done = ?2, games_digest = ?3, ended = ?4 WHERE id = ?1")?;
         progress.run(&[Value::Integer(known.id), value(batch.done), value(batch.digest), Value::Integer(batch.ended.into())])?;
@@ -175,7 +177,7 @@ impl Sqlite {
 
     /// Files the games that are not skipped; of each its number in the store.
     fn games(&self, known: &Known, batch: &Batch, twins: &[Option<Twin>]) -> Result<Vec<Option<i64>>, Trouble> {
-        let mut file = self.db.prepare(&inserting("game", &GAME, 1))?;
+        let mut file = self.db.prepare(&inserting("game", "", &GAME, 1))?;
         let mut next = number_of(&self.db, NEXT)?.unwrap_or_default();
         let mut ids = Vec::with_capacity(batch.games.len());
         for (game, twin) in batch.games.iter().zip(twins) {
@@ -190,9 +192,9 @@ impl Sqlite {
     }
 
     /// Files positions and places in one pass over the keys. How many positions were new.
-    fn positions(&self, batch: &Batch, entries: &[Entry<'_>], ids: &[Option<i64>]) -> Result<u64, Trouble> {
-        let mut positions = Many::new(&self.db, "position", &["fen"], " ON CONFLICT DO NOTHING")?;
-        let mut places = Many::new(&self.db, "game_position", &["game", "ply", "fen"], "")?;
+    fn positions(&self, batch: &Batch, entries: &[Entry<'_>], ids: &[Option<i64>], or: &'static str) -> Result<u64, Trouble> {
+        let mut positions = Many::new(&self.db, ["position", or, " ON CONFLICT DO NOTHING"], &["fen"])?;
+        let mut places = Many::new(&self.db, ["game_position", or, ""], &["game", "ply", "fen"])?;
         let mut last = &b""[..];
         for entry in entries {
             let (Some(id), main) = (ids[entry.game as usize], batch.games[entry.game as usize].main) else { continue };
@@ -211,7 +213,7 @@ impl Sqlite {
     }
 
     fn refused(&self, known: &Known, batch: &Batch) -> Result<(), Trouble> {
-        let mut file = self.db.prepare(&inserting("refused", &REFUSED, 1))?;
+        let mut file = self.db.prepare(&inserting("refused", "", &REFUSED, 1))?;
         for game in &batch.refused {
             let place = [game.number, game.line, game.at_line, game.at_column, game.answer].map(value);
             let texts = [game.kind, &game.text].map(|text| Value::Text(text.as_bytes()));
@@ -318,19 +320,39 @@ fn rule(sql: &str) -> Rule {
     }
 }
 
-/// A statement that adds rows to a table.
-fn inserting(table: &str, columns: &[&str], rows: usize) -> String {
-    let row = format!("({})", vec!["?"; columns.len()].join(", "));
-    format!("INSERT INTO {table} ({}) VALUES {}", columns.join(", "), vec![row; rows].join(", "))
+/// Whether the tables of names are as the script makes them, and the database has its triggers and no other: they say what the checks say, and are there for
+/// whoever writes INSERT OR IGNORE. On a connection that does not they can rest.
+fn is_as_made(db: &Connection) -> Result<bool, Error> {
+    let sql = "SELECT sql FROM sqlite_schema WHERE type = 'trigger' OR type = 'table' AND name IN ('position', 'game_position')";
+    let (mut ask, mut found) = (db.prepare(sql)?, vec![]);
+    let mut rows = ask.rows(&[])?;
+    while let Some(row) = rows.next()? {
+        found.extend(text(&row, 0));
+    }
+    let mut made = schema::made();
+    made.sort();
+    found.sort();
+    Ok(found == made)
 }
 
-/// Rows that are added some at a time. Since the tables have triggers, SQLite keeps a copy of each page that a statement changes until its end: of one that
-/// adds neighbours it keeps one for all of them.
+/// What is refused takes the whole transaction with it, so that SQLite need not keep what a statement changes. Not where triggers run: it would be said to
+/// their statements too.
+const ALL_BACK: &str = " OR ROLLBACK";
+
+/// A statement that adds rows to a table.
+fn inserting(table: &str, or: &str, columns: &[&str], rows: usize) -> String {
+    let row = format!("({})", vec!["?"; columns.len()].join(", "));
+    format!("INSERT{or} INTO {table} ({}) VALUES {}", columns.join(", "), vec![row; rows].join(", "))
+}
+
+/// Rows that are added some at a time. Where triggers run, SQLite keeps a copy of each page that a statement changes until its end: of one that adds
+/// neighbours it keeps one for all of them.
 struct Many<'c, 'v> {
     db: &'c Connection,
     table: &'static str,
-    columns: &'static [&'static str],
+    or: &'static str,
     end: &'static str,
+    columns: &'static [&'static str],
     statement: Statement<'c>,
     values: Vec<Value<'v>>,
     changed: u64,
@@ -340,9 +362,9 @@ struct Many<'c, 'v> {
 const AT_ONCE: usize = 64;
 
 impl<'c, 'v> Many<'c, 'v> {
-    fn new(db: &'c Connection, table: &'static str, columns: &'static [&'static str], end: &'static str) -> Result<Many<'c, 'v>, Error> {
-        let statement = db.prepare(&(inserting(table, columns, AT_ONCE) + end))?;
-        Ok(Many { db, table, columns, end, statement, values: Vec::with_capacity(AT_ONCE * columns.len()), changed: 0 })
+    fn new(db: &'c Connection, [table, or, end]: [&'static str; 3], columns: &'static [&'static str]) -> Result<Many<'c, 'v>, Error> {
+        let statement = db.prepare(&(inserting(table, or, columns, AT_ONCE) + end))?;
+        Ok(Many { db, table, or, end, columns, statement, values: Vec::with_capacity(AT_ONCE * columns.len()), changed: 0 })
     }
 
     fn add(&mut self, row: &[Value<'v>]) -> Result<(), Error> {
@@ -360,7 +382,7 @@ impl<'c, 'v> Many<'c, 'v> {
         if left == 0 {
             return Ok(self.changed);
         }
-        let sql = inserting(self.table, self.columns, left) + self.end;
+        let sql = inserting(self.table, self.or, self.columns, left) + self.end;
         Ok(self.changed + self.db.prepare(&sql)?.run(&self.values)?)
     }
 }

@@ -51,6 +51,43 @@ fn a_store_that_was_cured_is_one() {
     let cured: Vec<_> =
         statements[..7].iter().map(|sql| if sql.contains("TRIGGER") { sql.clone() } else { sql.replace("is_settled", "is_key") }).collect();
     assert_eq!(told_of(&own, &cured.join("\n")), "");
+    // There the triggers are all that refuses what is not settled.
+    let mut store = Sqlite::open(&own.file(), TELL).unwrap();
+    assert_eq!(is_as_made(&store.db), Ok(false));
+    store.begin(&made::source("a.pgn")).unwrap();
+    let mut bad = made::batch(0);
+    bad.games[3].keys.push(UNSETTLED.as_bytes());
+    let told = store.write(&bad).unwrap_err();
+    assert!(told.contains("one_name: not the settled key of its position"), "{told}");
+}
+
+const UNSETTLED: &str = "8/8/8/8/4P3/8/8/8 b - e3 0 1";
+
+#[test]
+fn triggers_rest_only_where_they_say_what_the_checks_do() {
+    let Some(own) = Own::sqlite() else { return };
+    let mut store = Sqlite::open(&own.file(), TELL).unwrap();
+    assert_eq!(is_as_made(&store.db), Ok(true));
+    store.begin(&made::source("a.pgn")).unwrap();
+    store.write(&made::batch(0)).unwrap();
+    // They rest on this connection now, so that it can drop in silence what another cannot; the checks do not rest.
+    let ignoring = format!("INSERT OR IGNORE INTO position VALUES ('{UNSETTLED}')");
+    assert_eq!(store.db.run(&ignoring), Ok(()));
+    for sql in
+        [ignoring.replace(" OR IGNORE", ""), ignoring.replace("IGNORE", "ROLLBACK"), format!("UPDATE position SET fen = '{UNSETTLED}'")]
+    {
+        let told = store.db.run(&sql).unwrap_err().to_string();
+        assert!(told.contains("CHECK constraint failed: one_name"), "{told}");
+    }
+    let place = format!("INSERT INTO game_position VALUES (99, 0, '{UNSETTLED}')");
+    assert!(store.db.run(&place).unwrap_err().to_string().contains("one_name"));
+    // A trigger of someone else's runs, from the next batch on, and with it those of the store.
+    let other = Connection::open(&own.file(), Mode::Write).unwrap();
+    other.run("CREATE TABLE seen (fen); CREATE TRIGGER see AFTER INSERT ON position BEGIN INSERT INTO seen VALUES (NEW.fen); END").unwrap();
+    let new = store.write(&made::batch(5)).unwrap().new;
+    assert_eq!(own.count("SELECT count(*) FROM seen"), new.try_into().unwrap());
+    let told = store.db.run(&ignoring).unwrap_err().to_string();
+    assert!(told.contains("one_name: not the settled key"), "{told}");
 }
 
 #[test]

@@ -52,12 +52,13 @@ fn last_error() -> String {
     told.unwrap_or_else(|| "the loader does not say why".to_string())
 }
 
-/// The functions of a library as a struct: `table! { struct NAME; function(TYPES) -> TYPE; .. }`, and `NAME::find` looks all of them up.
+/// The functions of a library as a struct: `table! { struct NAME; function(TYPES) -> TYPE; .. }`, and `NAME::find` looks all of them up. One that takes more
+/// than its types say is `function(TYPES; ...)`.
 macro_rules! table {
-    (struct $table:ident; $($name:ident($($argument:ty),*) $(-> $answer:ty)?;)*) => {
+    (struct $table:ident; $($name:ident($($argument:ty),* $(; $more:tt)?) $(-> $answer:ty)?;)*) => {
         #[allow(non_snake_case)] // the names are the library's
         struct $table {
-            $($name: unsafe extern "C" fn($($argument),*) $(-> $answer)?,)*
+            $($name: unsafe extern "C" fn($($argument),* $(, $more)?) $(-> $answer)?,)*
         }
 
         impl $table {

@@ -46,6 +46,7 @@ library::table! {
     sqlite3_open_v2(*const c_char, *mut *mut Db, c_int, *const c_char) -> c_int;
     sqlite3_close_v2(*mut Db) -> c_int;
     sqlite3_busy_timeout(*mut Db, c_int) -> c_int;
+    sqlite3_db_config(*mut Db, c_int; ...) -> c_int;
     sqlite3_extended_errcode(*mut Db) -> c_int;
     sqlite3_errmsg(*mut Db) -> *const c_char;
     sqlite3_errstr(c_int) -> *const c_char;
@@ -98,6 +99,7 @@ const NULL: c_int = 5;
 const DETERMINISTIC: c_int = 0x800;
 const INNOCUOUS: c_int = 0x20_0000;
 const CONFIG_MEMSTATUS: c_int = 9;
+const DBCONFIG_ENABLE_TRIGGER: c_int = 1003;
 const OLDEST: c_int = 3_031_000;
 /// As many statements as a connection keeps for the next who wants one.
 const KEPT: usize = 64;
@@ -221,6 +223,14 @@ impl Connection {
         let most = c_int::try_from(most.as_millis()).unwrap_or(c_int::MAX);
         // SAFETY: the connection is open.
         self.judge(unsafe { (self.calls.sqlite3_busy_timeout)(self.db.as_ptr(), most) }, "sqlite3_busy_timeout")
+    }
+
+    /// Whether triggers run on this connection, as they do until this is said. `CHECK` and keys hold in any case.
+    pub fn set_triggers(&self, run: bool) -> Result<(), Error> {
+        let nowhere: *mut c_int = ptr::null_mut();
+        // SAFETY: the connection is open, and this option takes a number and where to tell what holds now, which nobody asks.
+        let code = unsafe { (self.calls.sqlite3_db_config)(self.db.as_ptr(), DBCONFIG_ENABLE_TRIGGER, c_int::from(run), nowhere) };
+        self.judge(code, "sqlite3_db_config")
     }
 
     /// Whether a transaction is open.

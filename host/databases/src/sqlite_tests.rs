@@ -256,3 +256,20 @@ fn who_finds_it_locked_waits_so_long_and_no_longer() {
     one.run("ROLLBACK").unwrap();
     two.run("BEGIN IMMEDIATE; ROLLBACK").unwrap();
 }
+
+#[test]
+fn without_triggers_checks_and_keys_still_hold() {
+    let Some(store) = memory() else { return };
+    let tables = "CREATE TABLE t (n INTEGER PRIMARY KEY CHECK (n < 9)); CREATE TABLE seen (n)";
+    store.run(tables).unwrap();
+    store.run("CREATE TRIGGER see AFTER INSERT ON t BEGIN INSERT INTO seen VALUES (NEW.n); END").unwrap();
+    let mut file = store.prepare("INSERT INTO t VALUES (?1)").unwrap();
+    for (number, run) in [(1, true), (2, false), (3, true)] {
+        store.set_triggers(run).unwrap();
+        assert_eq!(file.run(&[Value::Integer(number)]), Ok(1));
+        assert_eq!(file.run(&[Value::Integer(9)]).unwrap_err().code(), 19, "the check");
+        assert_eq!(file.run(&[Value::Integer(number)]).unwrap_err().code(), 19, "the key");
+    }
+    let seen = store.prepare("SELECT group_concat(n) FROM seen").unwrap().first(&[], |row| row.bytes(0).map(<[u8]>::to_vec));
+    assert_eq!(seen, Ok(Some(Some(b"1,3".to_vec()))));
+}
