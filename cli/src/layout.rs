@@ -83,7 +83,22 @@ fn quoted(value: &str) -> String {
 }
 
 fn put_moves(game: &Held, roll: &Roll, namer: &mut Namer, into: &mut Vec<u8>) -> Result<u64, Stop> {
-    let (mut lines, mut moves) = (Lines { into, column: 0 }, 0);
+    let mut lines = Lines { into, column: 0 };
+    let moves = match namer.with_variations(game, roll)? {
+        Some(text) => {
+            text.split(' ').for_each(|word| lines.put(word));
+            replayed::moves(roll).count() as u64
+        }
+        None => put_main(game, roll, namer, &mut lines)?,
+    };
+    let told = seven(game)[SEVEN.len() - 1];
+    lines.put(RESULTS.iter().find(|result| told == Some(**result)).unwrap_or(&"*"));
+    Ok(moves)
+}
+
+/// The moves of the main line alone.
+fn put_main(game: &Held, roll: &Roll, namer: &mut Namer, lines: &mut Lines<'_>) -> Result<u64, Stop> {
+    let mut moves = 0;
     for played in replayed::moves(roll) {
         let number = played.before.get_full_moves();
         match played.before.get_side_to_move() {
@@ -94,8 +109,6 @@ fn put_moves(game: &Held, roll: &Roll, namer: &mut Namer, into: &mut Vec<u8>) ->
         lines.put(&namer.name(game, &played)?);
         moves += 1;
     }
-    let told = seven(game)[SEVEN.len() - 1];
-    lines.put(RESULTS.iter().find(|result| told == Some(**result)).unwrap_or(&"*"));
     Ok(moves)
 }
 
@@ -133,7 +146,7 @@ mod tests {
         let actions = moves.split_whitespace().map(|text| Action::MakeMove(Move::from_text(text).unwrap())).collect();
         let roll = Roll { start: Board::from_fen_full(fen).unwrap(), actions }.to_bytes().unwrap();
         let tags = tags.iter().map(|(name, value)| (name.to_string(), value.to_string())).collect();
-        Held { source: "a".into(), number: 1, line: 1, tags, roll }
+        Held { source: "a".into(), number: 1, line: 1, tags, roll, variations: None }
     }
 
     fn text(fen: &str, moves: &str, tags: &[(&str, &str)]) -> String {
@@ -213,6 +226,31 @@ mod tests {
         // SetUp without FEN means nothing, and 0 means the initial position.
         assert!(!text(START, "", &[("SetUp", "1")]).contains("SetUp") && text(START, "", &[("SetUp", "0")]).contains("[SetUp \"0\"]"));
         assert!(text(START, "", &[("FEN", START), ("SetUp", "0")]).contains(&format!("[FEN \"{START}\"]\n[SetUp \"1\"]\n")));
+    }
+
+    #[test]
+    fn variations_stand_in_brackets_behind_the_moves_that_they_replace() {
+        let told = |text: &str| {
+            let game = Held { variations: Some(text.to_string()), ..held(START, "e2e4 e7e5 g1f3", &[]) };
+            let mut into = vec![];
+            put(&game, &mut Namer::default(), &mut into).map(|moves| {
+                assert_eq!(moves, 3);
+                String::from_utf8(into).unwrap().split_once("\n\n").unwrap().1.trim_end().to_string()
+            })
+        };
+        // What was filed is written anew, in the form of the standard, 8.2.5 and 8.2.2.2.
+        let text = "1.e4 $1 {c} (d2d4 d5 (Nf6 c4) Nc3)(1.c4) e5 2.Nf3";
+        let owed = "1. e4 (1. d4 d5 (1... Nf6 2. c4) 2. Nc3) (1. c4) 1... e5 2. Nf3 *";
+        assert_eq!(told(text).unwrap(), owed);
+        assert_eq!(told("e4 e5 () Nf3").unwrap(), "1. e4 e5 2. Nf3 *");
+        assert_eq!(told("e4 e5 Nf3 (Nc3 (f4))").unwrap(), "1. e4 e5 2. Nf3 (2. Nc3 (2. f4)) *");
+        assert_eq!(told("(d4) e4 e5 Nf3").unwrap(), "(1. d4) 1. e4 e5 2. Nf3 *");
+        for other in ["e4 (d4) e5 2. Nc3", "e4 (d4) e5", "e4 (d4) e5 2. Nf3 Nc6", "e4 (d5) e5 Nf3", "e4 (d4 e5 Nf3", ""] {
+            assert!(told(other).is_err(), "{other}");
+        }
+        let long = "e4 (d4 d5 c4 e6 Nc3 Nf6 Bg5 Be7 e3 O-O Nf3 Nbd7 Rc1 c6 Bd3 dxc4 Bxc4 Nd5) (((Nf3 d5))) e5 Nf3";
+        let whole = told(long).unwrap();
+        assert!(whole.lines().count() > 1 && whole.lines().all(|line| line.len() <= WIDTH && line.trim() == line), "{whole}");
     }
 
     #[test]

@@ -1,9 +1,11 @@
 //! A stored game played again from its roll alone: its positions, and its moves by their names in the form of the PGN standard. Which moves a
 //! position has is the host's part, and not proved.
 
+use crate::import::named::{self, Unnamed};
+use crate::import::played::{Form, Player};
 use crate::import::store::Held;
 use crate::options::Stop;
-use menkhodur::{Action, Board, Color, Error, Lends, Lent, Move, Piece, Roll};
+use menkhodur::{Action, Board, Error, Lent, Move, Roll};
 use menkhodur_moves::Legal;
 
 /// A move, the positions before and after it, and how many moves have been made then.
@@ -43,6 +45,8 @@ pub fn bad(game: &Held, why: &str) -> Stop {
 #[derive(Default)]
 pub struct Namer {
     list: Lent,
+    /// Who plays variations again, once there are some.
+    player: Option<Player<Legal>>,
 }
 
 impl Namer {
@@ -53,22 +57,27 @@ impl Namer {
             .map_err(|refused| bad(game, &format!("move {ply} of its roll, {made}, from {}: {refused}", before.to_fen_full())))
     }
 
-    /// By the moves of the same kind of man to the same square, the only ones that a name must tell apart. The list of all moves could be too
-    /// long to be lent.
     fn named(&mut self, played: &Played) -> Result<String, Error> {
-        let Played { before, made, after, .. } = played;
-        let to = made.get_dest();
-        let letter = before.piece_on(made.get_source()).filter(|man| *man != Piece::Pawn).map(|man| man.to_string(Color::White));
-        Legal.lend(before.record(), format!("{}{to}", letter.unwrap_or_default()).as_bytes(), &mut self.list)?;
-        Ok(before.name_standard(self.list.moves(), *made)? + self.mark(after))
+        let named = named::name(&mut Legal, &mut self.list, &played.before, played.made, &played.after);
+        named.map_err(|unnamed| match unnamed {
+            Unnamed::Refused(refused) => refused,
+            // The lists are the program's own, which has no other trouble with them than one that is too long.
+            Unnamed::Trouble(_) => Error::ListOutOfRange,
+        })
     }
 
-    fn mark(&mut self, after: &Board) -> &'static str {
-        match menkhodur_moves::in_check(after.record()) {
-            false => "",
-            // A list that is too long to be lent is not empty.
-            true if Legal.lend(after.record(), b"", &mut self.list).is_ok() && self.list.is_empty() => "#",
-            true => "+",
+    /// A game's moves with its variations, written anew, if it has some. Another program may have filed others than the roll has.
+    pub fn with_variations(&mut self, game: &Held, roll: &Roll) -> Result<Option<String>, Stop> {
+        let Some(text) = &game.variations else { return Ok(None) };
+        let form = Form { variations: true, loose: false, kept: true };
+        let player = self.player.get_or_insert_with(|| Player::new(Legal, form));
+        let Ok(played) = player.play(text.as_bytes(), roll.start.record()) else {
+            return Err(bad(game, "its moves with variations cannot be played"));
+        };
+        let main = Roll::from_bytes(&played.roll).map_err(|refused| bad(game, &refused.to_string()))?;
+        match moves(&main).eq(moves(roll)) {
+            true => Ok(played.text),
+            false => Err(bad(game, "its moves with variations are not those of its roll")),
         }
     }
 }
@@ -76,13 +85,14 @@ impl Namer {
 #[cfg(test)]
 mod tests {
     use super::*;
+    use menkhodur::Color;
 
     /// A game that a text says, whose names are its own moves in the standard's form.
     fn names(fen: &str, moves: &str) -> Vec<String> {
         let start = Board::from_fen_full(fen).unwrap();
         let actions = moves.split(' ').map(|text| Action::MakeMove(Move::from_text(text).unwrap())).collect();
         let roll = Roll { start, actions };
-        let held = Held { source: "a".into(), number: 1, line: 1, tags: vec![], roll: roll.to_bytes().unwrap() };
+        let held = Held { source: "a".into(), number: 1, line: 1, tags: vec![], roll: roll.to_bytes().unwrap(), variations: None };
         assert_eq!(super::roll(&held).unwrap(), roll);
         let mut namer = Namer::default();
         super::moves(&roll).map(|played| namer.name(&held, &played).unwrap()).collect()
@@ -132,7 +142,7 @@ mod tests {
             Stop::Trouble(message) => String::from_utf8(message).unwrap(),
             Stop::Closed(_) => String::new(),
         };
-        let held = |roll: Vec<u8>| Held { source: "a.pgn".into(), number: 7, line: 1, tags: vec![], roll };
+        let held = |roll: Vec<u8>| Held { source: "a.pgn".into(), number: 7, line: 1, tags: vec![], roll, variations: None };
         let none = told(roll(&held(vec![1])).unwrap_err());
         assert!(none.starts_with("game 7 of a.pgn: its roll is none: ") && none.ends_with("(answer 17)"), "{none}");
         let actions = vec![Action::OfferDraw(Color::White), Action::MakeMove(Move::from_text("e2e5").unwrap())];

@@ -14,10 +14,10 @@ pub fn game(number: u64, game: &Game, played: Played) -> Filed {
     if let Some(result) = game.result.filter(|result| *result != "*" && !tags.iter().any(|(name, _)| name == RESULT)) {
         tags.push((RESULT.to_string(), result.to_string()));
     }
-    let Played { moves, mut keys, branches, roll, .. } = played;
+    let Played { moves, mut keys, branches, roll, text: variations, .. } = played;
     let (main, mark) = (keys.len(), digest::mark(&roll, &tags));
     keys.append(&branches);
-    Filed { number, line: game.line, tags, moves, roll, keys, main, mark }
+    Filed { number, line: game.line, tags, moves, roll, variations, keys, main, mark }
 }
 
 /// Bytes as text: UTF-8, or else Windows-1252. A character 0 has no place in a database's text.

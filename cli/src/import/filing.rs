@@ -11,7 +11,7 @@ use std::ffi::OsStr;
 use std::os::unix::ffi::OsStrExt;
 use std::sync::Arc;
 
-/// How many bytes of tag pairs and rolls a batch may have, however few its positions are.
+/// How many bytes of tag pairs, rolls and variations a batch may have, however few its positions are.
 const MOST_BYTES: usize = 1 << 24;
 
 /// What a tag pair takes beside its own bytes.
@@ -67,7 +67,7 @@ impl Filing {
     pub fn file(&mut self, game: Filed, counted: &Tally) {
         let tags: usize = game.tags.iter().map(|(name, value)| name.len() + value.len() + TAG_BYTES).sum();
         self.load.positions += game.keys.len() as u64;
-        self.load.bytes += tags + game.roll.len();
+        self.load.bytes += tags + game.roll.len() + game.variations.as_ref().map_or(0, String::len);
         self.load.counted.add(counted);
         self.load.games.push(game);
         self.judged = self.cut;

@@ -2,10 +2,13 @@
 //! it and writes the key of what it leads to.
 
 use super::loose::{self, Counts};
+use super::named::Unnamed;
 use super::piped::Piped;
 use super::refused::{At, Ended, Refusal};
+use super::sequences::Sequences;
 use super::store::Keys;
 use super::why;
+use super::written::{self, Met};
 use crate::options::Stop;
 use menkhodur::lent::{self, ACTIONS_PART, DEEPEST_LEVEL, MAX_FEN, MAX_MOVES, MAX_ROLL, MovePart, Record};
 use menkhodur::{Error, Lends, Lent};
@@ -41,14 +44,6 @@ impl Host for Piped {
 /// The most moves that the variations of a game may have, so that its keys find room.
 pub const MOST_VARIATIONS: u64 = 1 << 20;
 
-/// A sequence of moves in the text that has not ended: the record before its last move, from which a variation behind that move begins, and
-/// the one after it. Before its first move both are where it begins.
-#[derive(Clone, Copy)]
-struct Line {
-    before: Record,
-    now: Record,
-}
-
 /// What is played, and how.
 #[derive(Clone, Copy, Debug)]
 pub struct Form {
@@ -63,7 +58,9 @@ pub struct Player<H> {
     host: H,
     form: Form,
     list: Lent,
-    lines: [Line; DEEPEST_LEVEL + 1],
+    lines: Sequences,
+    /// The moves as the walk has met them, if variations are kept.
+    met: Vec<Met>,
     key: [u8; MAX_FEN],
     actions: Vec<u8>,
     roll: Vec<u8>,
@@ -81,6 +78,8 @@ pub struct Played {
     pub keys: Keys,
     pub branches: Keys,
     pub roll: Vec<u8>,
+    /// The moves with the variations, if they are kept and it has some.
+    pub text: Option<String>,
     /// What was repaired.
     pub loose: Counts,
     /// The side to move at the end of the main line, 0 white or 1 black, and how the game is over there, if it is.
@@ -150,7 +149,8 @@ impl<H: Host> Player<H> {
             host,
             form,
             list: Lent::new(),
-            lines: [Line { before: empty, now: empty }; DEEPEST_LEVEL + 1],
+            lines: Sequences::new(&empty),
+            met: vec![],
             key: [0; MAX_FEN],
             actions: vec![0; ACTIONS_PART],
             roll: vec![0; MAX_ROLL],
@@ -182,7 +182,8 @@ impl<H: Host> Player<H> {
     /// Plays a text as it stands, or as it was repaired.
     fn play_as(&mut self, text: &[u8], start: &Record, repaired: Option<Counts>) -> Result<Played, Ended> {
         self.played = Played { loose: repaired.unwrap_or_default(), ..Played::default() };
-        self.lines[0] = Line { before: *start, now: *start };
+        self.lines.begin(start);
+        self.met.clear();
         let key = lent::fen_write(start, &mut self.key).map_err(unforeseen)?;
         self.keep_key(0, key);
         self.walk(text, repaired.is_some())?;
@@ -196,7 +197,7 @@ impl<H: Host> Player<H> {
             let next = lent::pgn_next(text, offset as u64, level).map_err(|error| not_walked(text, error))?;
             let Some(part) = next else { return Ok(()) };
             if self.form.variations {
-                self.cross(level as usize, &part);
+                self.lines.cross(level as usize, part.closed, part.opened);
             }
             if self.form.variations || part.level == 0 {
                 self.make(text, &part, loose)?;
@@ -205,21 +206,12 @@ impl<H: Host> Player<H> {
         }
     }
 
-    /// Leaves the sequences whose brackets are closed, and begins those whose brackets are opened.
-    fn cross(&mut self, level: usize, part: &MovePart) {
-        let level = level.saturating_sub(part.closed);
-        let begin = self.lines[level.min(DEEPEST_LEVEL)].before;
-        for line in self.lines.iter_mut().skip(level + 1).take(part.opened) {
-            *line = Line { before: begin, now: begin };
-        }
-    }
-
     /// Makes the move that the walk has met.
     fn make(&mut self, text: &[u8], part: &MovePart, loose: bool) -> Result<(), Ended> {
         let level = (part.level as usize).min(DEEPEST_LEVEL);
         let said = bare(&text[part.start..part.start + part.length]);
         self.count(level, part.start, said)?;
-        let record = self.lines[level].now;
+        let record = self.lines.now(level);
         let is_lent = self.lend(&record, said)?;
         let step = match step(said, &record, self.list.as_slice(), &mut self.key) {
             Ok(step) if is_lent => step,
@@ -227,7 +219,10 @@ impl<H: Host> Player<H> {
             Err(error) => return Err(unforeseen(error).into()),
         };
         self.keep(level, &step);
-        self.lines[level] = Line { before: record, now: step.record };
+        if self.form.variations && self.form.kept {
+            self.met.push(Met { closed: part.closed as u8, opened: part.opened as u8, number: step.number });
+        }
+        self.lines.played(level, &step.record);
         Ok(())
     }
 
@@ -287,13 +282,26 @@ impl<H: Host> Player<H> {
         }
     }
 
+    /// The moves with the variations. A game without any has its roll, which says as much.
+    fn text(&mut self, start: &Record) -> Result<Option<String>, Stop> {
+        if self.played.variations == 0 {
+            return Ok(None);
+        }
+        let text = written::text(&mut self.host, &mut self.list, start, &self.met);
+        text.map(Some).map_err(|unnamed| match unnamed {
+            Unnamed::Refused(error) => unforeseen(error),
+            Unnamed::Trouble(words) => Stop::trouble(words),
+        })
+    }
+
     /// The end of the text: the roll, and whether the game is over on the board.
     fn finish(&mut self, start: &Record) -> Result<(), Stop> {
         let length = lent::roll_write(start, &self.actions, self.played.moves, &mut self.roll).map_err(unforeseen)?;
         if self.form.kept {
             self.played.roll = self.roll[..length].to_vec();
+            self.played.text = self.text(start)?;
         }
-        let last = self.lines[0].now;
+        let last = self.lines.now(0);
         self.played.side = last.numbers[64];
         if self.lend(&last, b"")? && self.list.is_empty() {
             self.played.over = Some(if menkhodur_moves::in_check(&last) { Over::Mate } else { Over::Stalemate });

@@ -465,7 +465,7 @@ fn put(rows: &mut Rows<'_>, id: i64, source: i64, game: &Filed) -> Result<(), Er
     for tag in apart.seven {
         rows.text(tag);
     }
-    rows.text(Some(&apart.others)).bits(game.moves).bytes(&game.roll).bits(game.mark).end_row()
+    rows.text(Some(&apart.others)).bits(game.moves).bytes(&game.roll).bits(game.mark).text(game.variations.as_deref()).end_row()
 }
 
 /// A text as PostgreSQL keeps it.
@@ -502,6 +502,8 @@ pub fn shelf(conninfo: &OsStr) -> Result<Box<dyn Shelf>, String> {
 /// A store whose games are read.
 pub struct PostgresShelf {
     db: Connection,
+    /// What is read as a game's variations: in a store of before there are none.
+    variations: &'static str,
 }
 
 /// Games that are fetched at once.
@@ -513,11 +515,13 @@ impl PostgresShelf {
             let sql =
                 "SELECT to_regclass('source') IS NOT NULL AND to_regclass('game') IS NOT NULL AND to_regclass('game_position') IS NOT NULL";
             let games = db.ask(sql, &[])?.get(0, 0) == Some(b"t");
-            Ok((db, games))
+            let column = "SELECT 1 FROM pg_attribute WHERE attrelid = to_regclass('game') AND attname = 'variations' AND NOT attisdropped";
+            let variations = if db.ask(column, &[])?.is_empty() { "NULL" } else { "g.variations" };
+            Ok((db, games, variations))
         });
         match opened {
-            Ok((db, true)) => Ok(PostgresShelf { db }),
-            Ok((_, false)) => Err("PostgreSQL: the database has no games: none was imported".to_string()),
+            Ok((db, true, variations)) => Ok(PostgresShelf { db, variations }),
+            Ok((_, false, _)) => Err("PostgreSQL: the database has no games: none was imported".to_string()),
             Err(error) => Err(Trouble::from(error).told()),
         }
     }
@@ -535,7 +539,7 @@ impl PostgresShelf {
         loop {
             let rows = self.db.ask(&format!("FETCH {FETCHED} FROM games"), &[]).map_err(stop)?;
             for row in 0..rows.len() {
-                each(held(&rows, row).map_err(stop)?, number(&rows, row, 12))?;
+                each(held(&rows, row).map_err(stop)?, number(&rows, row, 13))?;
             }
             if rows.is_empty() {
                 return Ok(());
@@ -548,17 +552,17 @@ fn stop(trouble: impl Into<Trouble>) -> Stop {
     Stop::trouble(trouble.into().told())
 }
 
-/// A row of `HELD`.
+/// A row of `HELD` with the variations behind it.
 fn held(rows: &postgres::Rows, row: usize) -> Result<Held, String> {
     let (source, number, line) = (text(rows, row, 0).unwrap_or_default(), number(rows, row, 1), number(rows, row, 2));
     let tags = tags::together(seven(rows, row), &text(rows, row, 10).unwrap_or_default());
     let tags = tags.ok_or_else(|| format!("PostgreSQL: game {number} of {source}: its tags are no JSON of an import"))?;
-    Ok(Held { source, number, line, tags, roll: bytes(rows, row, 11)? })
+    Ok(Held { source, number, line, tags, roll: bytes(rows, row, 11)?, variations: text(rows, row, 12) })
 }
 
 impl Shelf for PostgresShelf {
     fn each(&mut self, each: &mut dyn FnMut(Held) -> Result<(), Stop>) -> Result<(), Stop> {
-        let sql = format!("SELECT {HELD}, 0 FROM source s JOIN game g ON g.source = s.id ORDER BY g.source, g.number");
+        let sql = format!("SELECT {HELD}, {}, 0 FROM source s JOIN game g ON g.source = s.id ORDER BY g.source, g.number", self.variations);
         self.hand_on(&sql, &[], &mut |game, _| each(game))
     }
 
@@ -567,7 +571,7 @@ impl Shelf for PostgresShelf {
             return Ok(false);
         }
         let from = "game_position p JOIN game g ON g.id = p.game JOIN source s ON s.id = g.source";
-        let sql = format!("SELECT {HELD}, p.ply FROM {from} WHERE p.fen = $1 ORDER BY g.source, g.number, p.ply");
+        let sql = format!("SELECT {HELD}, {}, p.ply FROM {from} WHERE p.fen = $1 ORDER BY g.source, g.number, p.ply", self.variations);
         self.hand_on(&sql, &[Some(&String::from_utf8_lossy(key))], each)?;
         Ok(true)
     }

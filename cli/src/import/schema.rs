@@ -58,9 +58,13 @@ impl Base {
 }
 
 pub const SOURCE: [&str; 7] = ["id", "name", "bytes", "digest", "done", "games_digest", "ended"];
-pub const GAME: [&str; 15] =
-    ["id", "source", "number", "line", "event", "site", "date", "round", "white", "black", "result", "tags", "moves", "roll", "mark"];
-/// What is read of a game `g` of a source `s`, in the order of a game that is held.
+pub const GAME: [&str; 16] = [
+    "id", "source", "number", "line", "event", "site", "date", "round", "white", "black", "result", "tags", "moves", "roll", "mark",
+    VARIATIONS,
+];
+/// The last column of `game`, which stores of before do not have.
+pub const VARIATIONS: &str = "variations";
+/// What is read of a game `g` of a source `s`, in the order of a game that is held, its variations last.
 pub const HELD: &str = "s.name, g.number, g.line, g.event, g.site, g.date, g.round, g.white, g.black, g.result, g.tags, g.roll";
 pub const REFUSED: [&str; 8] = ["source", "number", "line", "at_line", "at_column", "answer", "kind", "text"];
 
@@ -77,6 +81,7 @@ pub fn lacking(base: Base, found: &[Table]) -> Result<Vec<String>, String> {
     }
     for (name, columns) in [("source", &SOURCE[..]), ("game", &GAME[..]), ("refused", &REFUSED[..])] {
         match there(name) {
+            Some(table) if is_of_before(table) => making.push(format!("ALTER TABLE game ADD COLUMN {VARIATIONS} TEXT")),
             Some(table) => judge_columns(table, columns)?,
             None => making.extend(games(base, name)),
         }
@@ -138,6 +143,7 @@ fn games(base: Base, table: &str) -> Vec<String> {
     moves {integer} NOT NULL,
     roll {blob} NOT NULL,
     mark {integer} NOT NULL,
+    {VARIATIONS} TEXT,
     UNIQUE (source, number)
 )"
             ),
@@ -189,6 +195,11 @@ fn judge_names(base: Base, table: &Table) -> Result<(), String> {
         }
         None => Ok(()),
     }
+}
+
+/// Whether it is the table of games of an import that kept no variations: it lacks the last column alone.
+fn is_of_before(table: &Table) -> bool {
+    table.name == "game" && table.columns.iter().map(|column| column.name.as_str()).eq(GAME[..GAME.len() - 1].iter().copied())
 }
 
 fn judge_columns(table: &Table, wanted: &[&str]) -> Result<(), String> {
@@ -256,6 +267,14 @@ mod tests {
         });
         let whole: Vec<_> = whole.into_iter().chain([position(), places()]).collect();
         assert_eq!(lacking(Base::Sqlite, &whole), Ok(vec![]));
+        let before = whole.into_iter().map(|table| match table.name.as_str() {
+            "game" => Table { columns: table.columns.into_iter().take(GAME.len() - 1).collect(), ..table },
+            _ => table,
+        });
+        assert_eq!(
+            lacking(Base::Postgres, &before.collect::<Vec<_>>()),
+            Ok(vec!["ALTER TABLE game ADD COLUMN variations TEXT".to_string()])
+        );
     }
 
     #[test]

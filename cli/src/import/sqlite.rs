@@ -394,7 +394,8 @@ fn values<'a>(id: i64, source: i64, game: &'a Filed, apart: &'a tags::Apart<'_>)
     let (number, line, moves, mark) = (value(game.number), value(game.line), value(game.moves), value(game.mark));
     let (id, source, others, roll) =
         (Value::Integer(id), Value::Integer(source), Value::Text(apart.others.as_bytes()), Value::Blob(&game.roll));
-    [id, source, number, line, event, site, date, round, white, black, result, others, moves, roll, mark]
+    let variations = game.variations.as_ref().map_or(Value::Null, |text| Value::Text(text.as_bytes()));
+    [id, source, number, line, event, site, date, round, white, black, result, others, moves, roll, mark, variations]
 }
 
 fn value(number: u64) -> Value<'static> {
@@ -426,6 +427,8 @@ pub fn shelf(file: &OsStr) -> Result<Box<dyn Shelf>, String> {
 pub struct SqliteShelf {
     db: Connection,
     file: PathBuf,
+    /// What is read as a game's variations: in a store of before there are none.
+    variations: &'static str,
 }
 
 impl SqliteShelf {
@@ -434,11 +437,12 @@ impl SqliteShelf {
             db.set_busy_timeout(patience())?;
             let games =
                 number_of(&db, "SELECT count(*) FROM sqlite_schema WHERE type = 'table' AND name IN ('source', 'game', 'game_position')")?;
-            Ok((db, games == Some(3)))
+            let variations = number_of(&db, "SELECT count(*) FROM pragma_table_info('game') WHERE name = 'variations'")?;
+            Ok((db, games == Some(3), if variations == Some(1) { "g.variations" } else { "NULL" }))
         });
         match opened {
-            Ok((db, true)) => Ok(SqliteShelf { db, file: file.to_path_buf() }),
-            Ok((_, false)) => Err(Trouble::Words("it has no games: none was imported".to_string()).told(file)),
+            Ok((db, true, variations)) => Ok(SqliteShelf { db, file: file.to_path_buf(), variations }),
+            Ok((_, false, _)) => Err(Trouble::Words("it has no games: none was imported".to_string()).told(file)),
             Err(error) => Err(Trouble::from(error).told(file)),
         }
     }
@@ -450,23 +454,23 @@ impl SqliteShelf {
         let mut rows = ask.rows(values).map_err(stop)?;
         while let Some(row) = rows.next().map_err(stop)? {
             let game = held(&row).map_err(|words| Stop::trouble(Trouble::Words(words).told(&self.file)))?;
-            each(game, number(&row, 12))?;
+            each(game, number(&row, 13))?;
         }
         Ok(())
     }
 }
 
-/// A row of `HELD`.
+/// A row of `HELD` with the variations behind it.
 fn held(row: &Row<'_>) -> Result<Held, String> {
     let (source, number, line) = (text(row, 0).unwrap_or_default(), number(row, 1), number(row, 2));
     let tags = tags::together(seven(row), &text(row, 10).unwrap_or_default());
     let tags = tags.ok_or_else(|| format!("game {number} of {source}: its tags are no JSON of an import"))?;
-    Ok(Held { source, number, line, tags, roll: row.bytes(11).unwrap_or_default().to_vec() })
+    Ok(Held { source, number, line, tags, roll: row.bytes(11).unwrap_or_default().to_vec(), variations: text(row, 12) })
 }
 
 impl Shelf for SqliteShelf {
     fn each(&mut self, each: &mut dyn FnMut(Held) -> Result<(), Stop>) -> Result<(), Stop> {
-        let sql = format!("SELECT {HELD}, 0 FROM source s JOIN game g ON g.source = s.id ORDER BY g.source, g.number");
+        let sql = format!("SELECT {HELD}, {}, 0 FROM source s JOIN game g ON g.source = s.id ORDER BY g.source, g.number", self.variations);
         self.hand_on(&sql, &[], &mut |game, _| each(game))
     }
 
@@ -476,7 +480,7 @@ impl Shelf for SqliteShelf {
             return Ok(false);
         }
         let from = "game_position p JOIN game g ON g.id = p.game JOIN source s ON s.id = g.source";
-        let sql = format!("SELECT {HELD}, p.ply FROM {from} WHERE p.fen = ?1 ORDER BY g.source, g.number, p.ply");
+        let sql = format!("SELECT {HELD}, {}, p.ply FROM {from} WHERE p.fen = ?1 ORDER BY g.source, g.number, p.ply", self.variations);
         self.hand_on(&sql, &[Value::Text(key)], each)?;
         Ok(true)
     }

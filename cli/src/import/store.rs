@@ -14,6 +14,8 @@ pub struct Filed {
     /// Half-moves of the main line.
     pub moves: u64,
     pub roll: Vec<u8>,
+    /// The moves with the variations, in the export form, if they were played and it has some.
+    pub variations: Option<String>,
     /// Settled keys: of the start, after each move of the main line, and from `main` on those of variations.
     pub keys: Keys,
     pub main: usize,
@@ -143,6 +145,8 @@ pub struct Held {
     pub line: u64,
     pub tags: Vec<(String, String)>,
     pub roll: Vec<u8>,
+    /// The moves with the variations, if it was filed with them and has some.
+    pub variations: Option<String>,
 }
 
 /// What a store holds, for `export` and `games`.

@@ -81,6 +81,13 @@ impl Own {
         }
     }
 
+    fn run(&self, sql: &str) {
+        match self {
+            Own::Folder(_) => sqlite::Connection::open(&self.file(), sqlite::Mode::Write).unwrap().run(sql).unwrap(),
+            Own::Base(..) => drop(postgres::Connection::open(&self.conninfo()).unwrap().run(sql).unwrap()),
+        }
+    }
+
     pub fn count(&self, sql: &str) -> i64 {
         match self {
             Own::Folder(_) => {
@@ -126,6 +133,7 @@ fn a_batch_is_filed_whole_and_told_again() {
         shelf.each(&mut put).unwrap();
         for (held, filed) in games.iter().zip(first.games.iter().chain(&second.games)) {
             assert_eq!((held.source.as_str(), held.number, held.line, &held.roll), ("a.pgn", filed.number, filed.line, &filed.roll));
+            assert_eq!(held.variations, filed.variations);
             let tags = tags::apart(&filed.tags);
             assert_eq!(Some(&held.tags), tags::together(tags.seven.map(|tag| tag.map(str::to_string)), &tags.others).as_ref());
         }
@@ -148,6 +156,33 @@ fn a_batch_is_filed_whole_and_told_again() {
         let refused = "at_column = 3 AND answer = 4 AND kind = 'move' AND text LIKE 'Nf%' AND at_line = line + 2";
         assert_eq!(own.count(&format!("SELECT count(*) FROM refused WHERE {refused}")), 2);
         assert_eq!(own.count("SELECT sum(done) FROM source WHERE bytes = 1000 AND digest = -1 AND ended = 0"), 10);
+    }
+}
+
+#[test]
+fn a_store_of_before_gets_the_column_that_it_lacks() {
+    for own in Own::each() {
+        let mut store = own.open(TELL).unwrap();
+        store.begin(&made::source("a.pgn")).unwrap();
+        store.write(&made::batch(0)).unwrap();
+        drop(store);
+        own.run("ALTER TABLE game DROP COLUMN variations");
+        // Whoever reads it leaves it as it is.
+        let held = |own: &Own| {
+            let mut held = vec![];
+            let mut put = |game: Held| {
+                held.push(game.variations.is_some());
+                Ok(())
+            };
+            own.shelf().each(&mut put).unwrap();
+            held
+        };
+        assert_eq!(held(&own), [false; 4]);
+        let mut store = own.open(TELL).unwrap();
+        store.begin(&made::source("a.pgn")).unwrap();
+        store.write(&made::batch(5)).unwrap();
+        assert_eq!(held(&own), [false, false, false, false, true, false, false, true]);
+        assert!(own.shelf().at(&made::key(0), &mut |_, _| Ok(())).unwrap());
     }
 }
 

@@ -50,7 +50,7 @@ mod tests {
 
     fn game(number: u64, roll: &[u8], tags: &[(&str, &str)], mark: u64) -> Filed {
         let tags = tags.iter().map(|(name, value)| (name.to_string(), value.to_string())).collect();
-        Filed { number, line: 1, tags, moves: 0, roll: roll.to_vec(), keys: Keys::default(), main: 0, mark }
+        Filed { number, line: 1, tags, moves: 0, roll: roll.to_vec(), variations: None, keys: Keys::default(), main: 0, mark }
     }
 
     #[test]
