@@ -19,18 +19,20 @@ use std::fs;
 use std::path::{Path, PathBuf};
 use std::time::Duration;
 
-/// 256 MB of pages, a log that is brought over at each commit that finds more than 64 MB of it, and no files for what a statement may have to undo. A
-/// place's position may be filed some rows after it, in the same transaction.
+/// 256 MB of pages, a log that is brought over before a batch and not by SQLite behind one, which would not tell what fails there, and no files for what a
+/// statement may have to undo. A place's position may be filed some rows after it, in the same transaction.
 const SETTINGS: [&str; 6] = [
     "PRAGMA synchronous = EXTRA",
     "PRAGMA cache_size = -250000",
-    "PRAGMA wal_autocheckpoint = 16000",
+    "PRAGMA wal_autocheckpoint = 0",
     "PRAGMA journal_size_limit = 65536000",
     "PRAGMA temp_store = MEMORY",
     "PRAGMA foreign_keys = OFF",
 ];
 
-/// Bytes of a log that must be brought over before anything is added: a batch over a large store makes so long a one, or someone who reads for long.
+/// Bytes of a log that is brought over before anything is added, if nobody reads just then; and of one that must be: a batch over a large store makes so long
+/// a one, or someone who reads for long.
+const LONG: u64 = 1 << 26;
 const LOG: u64 = 1 << 30;
 
 /// How long it takes until a store that was locked is opened again.
@@ -227,6 +229,9 @@ impl Sqlite {
         let mut log = self.file.clone().into_os_string();
         log.push("-wal");
         let bytes = fs::metadata(&log).map_or(0, |log| log.len());
+        if bytes > LONG && bytes <= LOG {
+            self.db.run("PRAGMA wal_checkpoint(PASSIVE)")?;
+        }
         if bytes > LOG && number_of(&self.db, "PRAGMA wal_checkpoint(TRUNCATE)")? != Some(0) {
             let megabytes = bytes / 1_000_000;
             return Err(
