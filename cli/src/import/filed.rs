@@ -17,6 +17,7 @@ pub fn game(number: u64, game: &Game, played: Played) -> Filed {
     let Played { moves, mut keys, branches, roll, text: variations, .. } = played;
     let (main, mark) = (keys.len(), digest::mark(&roll, &tags));
     keys.append(&branches);
+    keys.fit();
     Filed { number, line: game.line, tags, moves, roll, variations, keys, main, mark }
 }
 

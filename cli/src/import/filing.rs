@@ -12,7 +12,7 @@ use std::os::unix::ffi::OsStrExt;
 use std::sync::Arc;
 
 /// How many bytes of tag pairs, rolls and variations a batch may have, however few its positions are.
-const MOST_BYTES: usize = 1 << 24;
+const MOST_BYTES: usize = 1 << 25;
 
 /// What a tag pair takes beside its own bytes.
 const TAG_BYTES: usize = 128;

@@ -79,12 +79,12 @@ pub const DUPLICATES: Flag = Flag {
     about: "keep, skip or tell: file a game that equals one filed before, pass over it, or file it with a note; tell if not told",
 };
 pub const BATCH: Flag =
-    Flag { name: "batch", value: Some("N"), about: "file whole games in one transaction until they have N positions; 1000000 if not told" };
+    Flag { name: "batch", value: Some("N"), about: "file whole games in one transaction until they have N positions; 1500000 if not told" };
 pub const HOST: Flag = Flag { name: "host", value: Some("COMMAND"), about: "ask this command for the moves of each position" };
 pub const JSON: Flag = Flag { name: "json", value: None, about: "print one JSON object per refused game and per note, and one at the end" };
 
 /// How many positions a transaction has, if it is not told.
-const BATCH_POSITIONS: u64 = 1_000_000;
+const BATCH_POSITIONS: u64 = 1_500_000;
 
 pub fn run(asked: &Asked) -> Result<Status, Stop> {
     let options = Options { places: asked.has(&PLACES), duplicates: duplicates(asked)? };

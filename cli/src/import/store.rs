@@ -44,6 +44,12 @@ impl Keys {
         self.ends.extend(other.ends.iter().map(|end| before + end));
     }
 
+    /// Gives back the room that no key has taken.
+    pub fn fit(&mut self) {
+        self.bytes.shrink_to_fit();
+        self.ends.shrink_to_fit();
+    }
+
     /// The key of an index, empty past the last.
     pub fn get(&self, index: usize) -> &[u8] {
         let begin = index.checked_sub(1).and_then(|before| self.ends.get(before)).map_or(0, |end| *end as usize);
