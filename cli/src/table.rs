@@ -258,11 +258,13 @@ pub const COMMANDS: &[Command] = &[
              `menkhodur explain` warns about in its ranks or castling letters, a side without its one king, castling rights without king and rook at \
              home, an en passant square that no pawn has come over, or a side in check that is not to move, and of a first move with another number \
              than 1 where there is no FEN tag; text, 21, 22 or 23 as `menkhodur pgn` has them; move, 4, a text that is no move, or not one alone; or limit, 13, more than 4096 moves. Marks like !? behind a move are passed \
-             over. A move in a variation is looked at with --variations only; a game with more than 1048576 of them is refused then.",
+             over. A move in a variation is looked at with --variations only; a game with more than 1048576 of them is refused then. The variations \
+             themselves are kept with it, so that `menkhodur export` gives them back.",
             "A game has a note, `FILE:LINE: game INDEX note: words`, and is filed all the same, if its Result tag and the result behind its moves \
              differ, if it ends in mate or stalemate with another result than * and the right one, or if it equals one filed before, of any file: the \
-             same start, moves and \
-             seven tags. With --duplicates=skip an equal game is not filed and has no note; with keep it is filed without one.",
+             same start, moves of the main line and \
+             seven tags, whatever their variations. With --duplicates=skip an equal game is not filed and has no note, nor are its variations; with keep it \
+             is filed without one.",
             "With --loose a game that is refused as it stands is judged once more with what has one reading: zeros for O in castling, unless they end \
              the text, `e.p.` and \
              `ep` behind a pawn's capture, marks like ! and signs like += that stand alone, periods without a number, a hyphen between squares, an x \
@@ -318,16 +320,19 @@ pub const COMMANDS: &[Command] = &[
             "Writes the games that `menkhodur import` has filed, in the order of their files and numbers, in the export form of the PGN standard of \
              1994: the seven tags, then the others by their names; an empty line; the moves, by the archive's names in the standard's form, with + \
              behind a check and # behind mate, in lines of at most 79 characters; the result; an empty line. The text is UTF-8.",
-            "Moves and positions come from the rolls alone. A missing one of the seven is `?`, Date `????.??.??` and Result `*`. A game that does not \
+            "Moves come from the rolls, and of games that were filed with --variations from what was kept of those, whose main line must be the \
+             roll's; they stand in brackets, and behind a bracket black's move has its number. \
+             A missing one of the seven is `?`, Date `????.??.??` and Result `*`. A game that does not \
              start from the initial position, at move 1 with the clock 0, has SetUp and FEN. A FEN tag of its own stays, if it is the standard's and says \
              the start; else it is the full FEN of the start. Which moves a position has is not proved, as for the import.",
-            "Imported again, into an empty store, the file gives the same games with the same rolls, and the same positions of their main lines. Lost \
-             are comments, glyphs, variations and their positions, lines and numbers in the file, and refused games. Tags come in another order, with \
+            "Imported again, into an empty store, the file gives the same games with the same rolls, and the same positions, with --variations those of \
+             variations too. Lost are comments, glyphs, variations of games that were imported without --variations, or before stores kept them, lines \
+             and numbers in the file, and refused games. Tags come in another order, with \
              the seven as above and with blanks for control characters of ASCII; SetUp without FEN goes, unless it is 0. Behind the moves stands the \
              Result tag, or * if it is none of 1-0, 0-1, 1/2-1/2 and *. On a terminal all control characters are shown as \\xNN.",
             WHOLE,
             "If a roll is refused, or a move of one is none of its position's, that ends the export, with the game's file and number. The last line of \
-             standard error counts the games and moves that were written.",
+             standard error counts the games that were written and the moves of their main lines.",
         ],
         statuses: &["the games were written, all or those of --source"],
         trouble: "not one of --sqlite and --postgres; a store that cannot be read; a roll that is refused; a NAME that the store has no games of; a \

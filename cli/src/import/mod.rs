@@ -69,7 +69,8 @@ pub const POSTGRES: Flag = Flag {
     about: "file into the PostgreSQL database that libpq finds by this, as 'dbname=chess'",
 };
 pub const DRY_RUN: Flag = Flag { name: "dry-run", value: None, about: "file nothing, and tell what would be refused" };
-pub const VARIATIONS: Flag = Flag { name: "variations", value: None, about: "play the moves of variations too, and file their positions" };
+pub const VARIATIONS: Flag =
+    Flag { name: "variations", value: None, about: "play the moves of variations too, and file them and their positions" };
 pub const PLACES: Flag = Flag { name: "places", value: None, about: "file which position each game came to at which move" };
 pub const LOOSE: Flag =
     Flag { name: "loose", value: None, about: "take what the PGN standard would not have if it has one reading, and count it" };
