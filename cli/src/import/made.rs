@@ -32,7 +32,7 @@ pub fn game(number: u64, positions: u64, main: usize) -> Filed {
     let tags = [("Event", "an \"event\"\t\\"), ("ECO", "C57"), ("White", "Ж"), ("Black", &number.to_string())];
     let tags = tags.map(|(name, value)| (name.to_string(), value.to_string())).to_vec();
     let roll = [number.to_le_bytes(), [0, 255, 9, 10, 13, 92, 39, 34]].concat();
-    let variations = number.is_multiple_of(2).then(|| format!("1. e4 (1. d4 d5) 1... e5 {number}"));
+    let variations = (number & 1 == 0).then(|| format!("1. e4 (1. d4 d5) 1... e5 {number}"));
     Filed { number, line: 10 * number, tags, moves: main as u64 - 1, roll, variations, keys, main, mark: number % 5 }
 }
 
