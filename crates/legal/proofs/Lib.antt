@@ -5,4 +5,5 @@ pub mod Held
 pub mod Room
 pub mod Safety
 pub mod Listing
+pub mod Promoting
 pub mod Determined

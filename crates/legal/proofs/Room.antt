@@ -36,10 +36,6 @@ none-left b (suc n) m k = absurd (omega (arith, k))
 pub legal-end : (b : BoardBuilder) (all m : ℕ) → all ≤ m → legalFrom b (all - m) m ≡ []
 legal-end b all m h = none-left b (all - m) m (omega (arith, h))
 
-pub all-legal : (b : BoardBuilder) → legalMoves b ≡ legalFrom b (28672 - 0) 0
-unfolding legalMoves
-all-legal b = refl
-
 pub count-turn : (count m : ℕ) (rest : List ℕ) (t : Bool) → countFrom count (keptIf t m rest) ≡ countFrom (cond t (countedTo count) count) rest
 unfolding countFrom keptIf
 count-turn count m rest true = refl
@@ -154,8 +150,13 @@ pub room-last : (b : BoardBuilder) (all : ℕ) (room : List ℕ) (count m : ℕ)
 unfolding filledFrom
 room-last b all room count m x h e = sym (e ∙ ap (λ (l : List ℕ). filledFrom room count l) (legal-end b all m h))
 
-pub count-start : (b : BoardBuilder) → countFrom 0 (legalMoves b) ≡ countFrom 0 (legalFrom b (28672 - 0) 0)
-count-start b = ap (λ (l : List ℕ). countFrom 0 l) (all-legal b)
+pub count-start : (b : BoardBuilder) (all : ℕ) → legalFrom b all 0 ≡ legalMoves b → countFrom 0 (legalMoves b) ≡ countFrom 0 (legalFrom b (all - 0) 0)
+count-start b all e =
+    let z : all ≡ all - 0 = omega arith in
+    ap (λ (l : List ℕ). countFrom 0 l) (sym e ∙ ap (λ (n : ℕ). legalFrom b n 0) z)
 
-pub room-start : (b : BoardBuilder) (room : List ℕ) → filledFrom room 0 (legalMoves b) ≡ filledFrom room 0 (legalFrom b (28672 - 0) 0)
-room-start b room = ap (λ (l : List ℕ). filledFrom room 0 l) (all-legal b)
+pub room-start : (b : BoardBuilder) (room : List ℕ) (all : ℕ) → legalFrom b all 0 ≡ legalMoves b
+    → filledFrom room 0 (legalMoves b) ≡ filledFrom room 0 (legalFrom b (all - 0) 0)
+room-start b room all e =
+    let z : all ≡ all - 0 = omega arith in
+    ap (λ (l : List ℕ). filledFrom room 0 l) (sym e ∙ ap (λ (n : ℕ). legalFrom b n 0) z)

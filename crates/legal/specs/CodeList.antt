@@ -1,10 +1,23 @@
--- How the list is gathered: each move to its place in a room of 255, and their number, 256 for more than 255.
+-- How the list is gathered: how many numbers are asked; each move to its place in a room of 255, and their number, 256 for more than 255.
 -- Assumes nothing.
-use Prim.Native.Nat.{ℕ, _+_}
-use mathlib.Core.Bool.{cond}
+use Prim.Native.Nat.{ℕ, zero, suc, _+_}
+use mathlib.Core.Bool.{Bool, false, cond, _||_}
 use mathlib.Core.List.{List, [], _∷_}
-use lib.Dec.{leb}
+use lib.Dec.{eqb, leb}
 use lib.ListN.{set}
+use Rattle.square.specs.Piece.{pawn, manOn}
+use Rattle.move_laws.specs.Attack.{manOf}
+
+-- the first square of the rank from which a side's pawns promote, and whether one of them is there: on the first n squares of it, and on all eight
+abbrev pub seventhRank : ℕ → ℕ
+seventhRank side = cond (eqb side 0) 48 8
+
+unfoldable pub pawnFrom : List ℕ → ℕ → ℕ → ℕ → Bool
+pawnFrom squares man first zero = false
+pawnFrom squares man first (suc n) = eqb (manOn squares (first + n)) man || pawnFrom squares man first n
+
+unfoldable pub mayPromote : List ℕ → ℕ → Bool
+mayPromote squares side = pawnFrom squares (manOf side pawn) (seventhRank side) 8
 
 unfoldable pub countedTo : ℕ → ℕ
 countedTo count = cond (leb 255 count) 256 (count + 1)

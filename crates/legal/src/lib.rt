@@ -8,7 +8,7 @@ use square::KING;
 use square::PAWN;
 ghost use mathlib.Core.Path.{_≡_};
 ghost use mathlib.Core.Bool.{true, cond, not, _||_};
-ghost use Prim.Native.Nat.{_/_, _%_, _<_};
+ghost use Prim.Native.Nat.{_/_, _%_, _≤_, _<_};
 ghost use lib.ListN.{length};
 ghost use Rattle.answer.specs.Answer.{writeAnswer, writeBytes};
 ghost use Rattle.board_builder.specs.BoardBuilder.{inRange};
@@ -19,8 +19,8 @@ ghost use Rattle.move_laws.specs.Attack.{ofSide, ahead, pawnAttacks, bishopAtta
 ghost use Rattle.move_laws.specs.Attack.{attacked, kingAttacked, inCheck};
 ghost use Rattle.move_laws.specs.Move.{mayTake, mayArrive, pawnSteps, secondRank, pawnStepsTwice, pawnCaptures, passingRank, pawnPasses, pawnMoves};
 ghost use Rattle.move_laws.specs.Move.{rightHeld, wayAttacked, kingCastles, lastRank, promotes, pieceMoves, kindMoves};
-ghost use Rattle.move_laws.specs.Legal.{ownRights, goes, isLegal, legalMoves, listCheck, checkByte, checkAnswer};
-ghost use Rattle.legal.specs.CodeList.{countedTo, putAt, countFrom, filledFrom};
+ghost use Rattle.move_laws.specs.Legal.{ownRights, goes, isLegal, legalFrom, legalMoves, listCheck, checkByte, checkAnswer};
+ghost use Rattle.legal.specs.CodeList.{seventhRank, mayPromote, countedTo, putAt, countFrom, filledFrom};
 
 // The kinds of men that `square` has no constant for.
 
@@ -552,6 +552,40 @@ fn is_legal(squares: &[u8], b: BoardBuilder, m: u64) -> bool
     safe_after(b, m)
 }
 
+fn seventh_rank(side: u8) -> u8
+    ensures { λ r. ⌜ r ≡ seventhRank side ⌝ }
+{
+    if side == 0 { 48 } else { 8 }
+}
+
+// Whether a pawn of a side stands where its next step promotes it.
+fn may_promote(squares: &[u8], side: u8) -> bool
+    requires { ⌜ (length (now squares) ≡ 64) × (side < 2) ⌝ }
+    ensures { λ r. ⌜ r ≡ mayPromote (now (squares .entry)) side ⌝ }
+{
+    let first = seventh_rank(side);
+    let mut n: u8 = 8;
+    while 0 < n {
+        n -= 1;
+        if squares[(first + n) as usize] == PAWN + 6 * side {
+            return true;
+        }
+    }
+    false
+}
+
+// How many numbers are to be asked: those without a promotion come first, and mostly no other can be legal.
+fn numbers_asked(squares: &[u8], b: BoardBuilder) -> u64
+    requires { ⌜ (now squares ≡ b .pieces) × (inRange b ≡ true) ⌝ }
+    ensures most { λ r. ⌜ r ≤ 28672 ⌝ }
+    ensures all { λ r. ⌜ legalFrom b r 0 ≡ legalMoves b ⌝ }
+{
+    if may_promote(squares, b.side_to_move) {
+        return 28672;
+    }
+    4096
+}
+
 fn keep(legal: bool, m: u16, room: &mut [u16], count: usize) -> usize
     requires { ⌜ (length (now room) ≡ 255) × (count < 257) ⌝ }
     ensures count { λ r. ⌜ r ≡ cond legal (countedTo count) count ⌝ }
@@ -574,9 +608,10 @@ fn gather(b: BoardBuilder, room: &mut [u16]) -> usize
     ensures room { λ r. ⌜ now (room .exit) ≡ filledFrom (now (room .entry)) 0 (legalMoves b) ⌝ }
 {
     let squares = b.pieces;
+    let asked = numbers_asked(&squares, b);
     let mut count: usize = 0;
     let mut m: u64 = 0;
-    while m < 28672 {
+    while m < asked {
         let legal = is_legal(&squares, b, m);
         count = keep(legal, m as u16, room, count);
         m += 1;
