@@ -3,8 +3,8 @@
  * Numbers, records, moves, logs and texts are those of docs/papers/01-scope.md ("document 01"), rolls, the refusals of FEN texts, the
  * offsets in texts, the ruling of the Laws, the standard's form of SAN, pages of FENs, PGN move text, the board after a move, what differs
  * between two rolls, the counters of a FEN and the evening report those of docs/papers/02-change-requests.md ("document 02"); the names and
- * the order of the parameters are those of docs/papers/HOST-ABI.md, which also has what is beyond document 02: settled records and the
- * steps through a game's text. tools/abi compares them, and the constants below, with the crates.
+ * the order of the parameters are those of docs/papers/HOST-ABI.md, which also has what is beyond document 02: settled records, the
+ * steps through a game's text, and the legal moves. tools/abi compares them, and the constants below, with the crates.
  *
  * What every function does: it answers for every value of its numbers, it ends, it keeps nothing between calls and allocates
  * nothing, and it reads and writes only what it was lent. A refused call (a number other than 0) changes no lent byte.
@@ -17,9 +17,9 @@
  *
  * What a caller owes:
  *   - A pointer is valid for its length: readable, and writable where it is not const. `room` and the lengths of parts, texts, rolls
- *     and records count bytes, `entries` counts moves, `numbers_length` counts numbers.
- *   - A `const uint16_t *` list is aligned to 2 bytes, a `uint64_t *` room of numbers to 8. Parts, texts, rolls and records are bytes and
- *     need no alignment.
+ *     and records count bytes, `entries` counts moves, and so does the `room` of menkhodur_legal_list; `numbers_length` counts numbers.
+ *   - A `const uint16_t *` list and a `uint16_t *` room of moves are aligned to 2 bytes, a `uint64_t *` room of numbers to 8. Parts, texts,
+ *     rolls and records are bytes and need no alignment.
  *   - What a call only reads (its const pointers) may overlap, or be the same memory. What it may write (a room, a part that is not
  *     const) overlaps nothing else that is lent to it.
  *   - NULL with length 0 is an empty text, list, part, roll or room. This was tried for each of them (host/c/nulls.c): each works, and
@@ -33,7 +33,7 @@
 
 /* Rises by one with each landing that adds or changes a function. CHANGELOG.md tells what a host must change, and a struct that has
  * changed says beside it since which version it is so. */
-#define MENKHODUR_VERSION 15
+#define MENKHODUR_VERSION 16
 
 #ifdef __cplusplus
 extern "C" {
@@ -46,7 +46,7 @@ enum {
     MENKHODUR_INVALID_UCI_MOVE = 3,
     MENKHODUR_INVALID_SAN_MOVE = 4,
     MENKHODUR_OUT_OF_RANGE = 5,     /* a record number, square, rank, file, colour, rights number or in-check byte */
-    MENKHODUR_BAD_LIST = 6,         /* list over 255, or an entry (or the coordinate writer's move) over 28,671 */
+    MENKHODUR_BAD_LIST = 6,         /* list over 255, or an entry (or the coordinate writer's move) over 28,671; more than 255 legal moves */
     MENKHODUR_OUTPUT_TOO_SHORT = 7, /* the value is the length needed; for a page, its lines */
     MENKHODUR_NO_NAME = 8,          /* no text names the move */
     MENKHODUR_NOT_GOOD = 9,         /* log not good, or a count over its limit */
@@ -86,6 +86,15 @@ enum {
     MENKHODUR_CLAIM_BY_COUNT = 1,     /* the count is MENKHODUR_CLAIM_COUNT or more */
     MENKHODUR_CLAIM_BY_POSITIONS = 2, /* two or more earlier positions of the run equal the last */
     MENKHODUR_CLAIM_BY_BOTH = 3
+};
+
+/* What is wrong with a list and an in-check byte: `wrong` of a judgement (since version 16), the first of these. */
+enum {
+    MENKHODUR_JUDGED_RIGHT = 0,     /* nothing: the list has the legal moves, each once, in any order, and the byte is owed */
+    MENKHODUR_JUDGED_NOT_LEGAL = 1, /* an entry is no legal move */
+    MENKHODUR_JUDGED_TWICE = 2,     /* an entry comes again */
+    MENKHODUR_JUDGED_MISSING = 3,   /* a legal move is missing */
+    MENKHODUR_JUDGED_IN_CHECK = 4   /* the in-check byte is the other one */
 };
 
 /* Limits. */
@@ -293,6 +302,15 @@ typedef struct {
     menkhodur_board board;
 } menkhodur_step;
 
+/* What is owed to a record, and the first thing that is wrong with what was lent. Of a refused judgement all is 0 but the number. */
+typedef struct {
+    uint64_t number;
+    uint64_t in_check; /* the byte that is owed, 0 or 1 */
+    uint64_t entries;  /* how many moves the list owes */
+    uint64_t wrong;    /* MENKHODUR_JUDGED_.. */
+    uint64_t move;     /* with 1 the first entry that is not legal, with 2 the first that comes again, with 3 the smallest missing move; else 0 */
+} menkhodur_judged;
+
 /* What is reported on a page of FENs. Of a refused report all is 0 but the number and, with 7, the lines. */
 typedef struct {
     uint64_t number;
@@ -321,6 +339,7 @@ MENKHODUR_ASSERT(sizeof(menkhodur_ruling) == 64, "eight numbers");
 MENKHODUR_ASSERT(sizeof(menkhodur_pgn_count) == 24, "three numbers");
 MENKHODUR_ASSERT(sizeof(menkhodur_pgn_move) == 64, "eight numbers");
 MENKHODUR_ASSERT(offsetof(menkhodur_step, board) == 56 && sizeof(menkhodur_step) == 128, "seven numbers and a board");
+MENKHODUR_ASSERT(sizeof(menkhodur_judged) == 40, "five numbers");
 MENKHODUR_ASSERT(sizeof(menkhodur_report) == 136, "seventeen numbers");
 MENKHODUR_ASSERT(sizeof(size_t) == 8, "lengths have 64 bits");
 #undef MENKHODUR_ASSERT
@@ -495,6 +514,35 @@ menkhodur_answer menkhodur_san_read_standard(menkhodur_board b, const uint16_t *
  * not in the list, at any size; 8: no text names it; 7: `room` is shorter than the text, whose length is the value. The list is left
  * alone. */
 menkhodur_answer menkhodur_san_name_standard(menkhodur_board b, const uint16_t *list, size_t entries, uint64_t move, uint8_t *out, size_t room);
+
+/* ---- Legal moves -------------------------------------------------------------------------------------------------------------- */
+/* The legal moves of a record by articles 3.1 to 3.10 of the FIDE Laws of Chess, for any record in range, and no other call asks them: every
+ * call that takes a list goes on taking the host's. A list of the legal moves in any order has a name for each of them
+ * (menkhodur_san_name and menkhodur_san_name_standard never answer 8 over it), and a log whose lists and bytes are all found right rules
+ * mate and stalemate as articles 1.4.1 and 5.2.1 do.
+ *   - A side is in check if one of its kings is attacked; a side without a king never is. A king is never taken.
+ *   - Castling needs the right, the king on e1 or e8 and a rook of its own in the corner, nothing between the two, and no attack on the
+ *     square that the king leaves, passes or arrives on.
+ *   - A capture in passing needs the record's file, the other side's pawn on it, on rank 5 with white to move and on rank 4 with black, and
+ *     an empty square behind that pawn.
+ *   - A pawn that arrives on the last rank becomes a knight, bishop, rook or queen, and one that stands there has no move. One on its own
+ *     first rank goes one step.
+ * Cost: a list looks at every number that a move may have, about a tenth of a millisecond; a judgement makes the list. */
+
+/* 0: the value is 1 if the side to move is in check, else 0. 5: a record number out of range. */
+menkhodur_answer menkhodur_in_check(menkhodur_board b);
+
+/* Writes the legal moves in rising order of their numbers. 0: they are at the front of `out`, and the value is how many there are; what
+ * lies behind them in `out` is left alone. With 0 moves the side to move is mated or stalemated, as menkhodur_in_check tells. `room` counts
+ * moves, and 255 is never too little. Refused, in this order, with all of `out` left alone: 5: a record number out of range; 6: there are
+ * more than 255 legal moves, which no game comes to; 7: `room` is less than the number of moves, which is the value. */
+menkhodur_answer menkhodur_legal_list(menkhodur_board b, uint16_t *out, size_t room);
+
+/* Judges a list and an in-check byte as a host lends them to a log. 0: what is owed, and the first thing that is wrong, asked for in the
+ * order of MENKHODUR_JUDGED_..; the order of the list does not matter to whether it is right. Refused, in this order, with all else 0: 5: a
+ * record number or the in-check byte out of range; 6: more than 255 entries, or an entry over 28,671, or more than 255 legal moves. What
+ * menkhodur_legal_list and menkhodur_in_check give is always found right. The list is left alone. */
+menkhodur_judged menkhodur_list_judged(menkhodur_board b, uint8_t in_check, const uint16_t *list, size_t entries);
 
 /* ---- The game log ------------------------------------------------------------------------------------------------------------- */
 /* A log lies in two lent parts, actions and positions, of at least 32,768 and 2,392,648 bytes, and its two counts travel by value: hand

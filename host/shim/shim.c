@@ -30,12 +30,14 @@ static inline uint64_t word(const menkhodur_board *b, unsigned i)
 #define FREE_5 uint64_t, uint64_t, uint64_t, uint64_t, uint64_t
 #define FREE_6 uint64_t, uint64_t, uint64_t, uint64_t, uint64_t, uint64_t
 #define FREE_7 uint64_t, uint64_t, uint64_t, uint64_t, uint64_t, uint64_t, uint64_t
+#define FREE_8 uint64_t, uint64_t, uint64_t, uint64_t, uint64_t, uint64_t, uint64_t, uint64_t
 #define ZERO_1 0
 #define ZERO_3 0, 0, 0
 #define ZERO_4 0, 0, 0, 0
 #define ZERO_5 0, 0, 0, 0, 0
 #define ZERO_6 0, 0, 0, 0, 0, 0
 #define ZERO_7 0, 0, 0, 0, 0, 0, 0
+#define ZERO_8 0, 0, 0, 0, 0, 0, 0, 0
 
 /* ---- The board record ------------------------------------------------------------------------------------------------------------- */
 
@@ -191,6 +193,28 @@ menkhodur_answer inner_menkhodur_san_name_standard(const uint16_t *list, size_t 
 menkhodur_answer menkhodur_san_name_standard(menkhodur_board b, const uint16_t *list, size_t entries, uint64_t move, uint8_t *out, size_t room)
 {
     return inner_menkhodur_san_name_standard(list, entries, move, out, room, ZERO_3, WORDS_OF(b));
+}
+
+/* ---- Legal moves ------------------------------------------------------------------------------------------------------------------ */
+
+menkhodur_answer inner_menkhodur_in_check(FREE_8, WORDS);
+menkhodur_answer menkhodur_in_check(menkhodur_board b)
+{
+    return inner_menkhodur_in_check(ZERO_8, WORDS_OF(b));
+}
+
+menkhodur_answer inner_menkhodur_legal_list(uint16_t *out, size_t room, FREE_6, WORDS);
+menkhodur_answer menkhodur_legal_list(menkhodur_board b, uint16_t *out, size_t room)
+{
+    return inner_menkhodur_legal_list(out, room, ZERO_6, WORDS_OF(b));
+}
+
+void inner_menkhodur_list_judged(menkhodur_judged *given, uint8_t in_check, const uint16_t *list, size_t entries, FREE_4, WORDS);
+menkhodur_judged menkhodur_list_judged(menkhodur_board b, uint8_t in_check, const uint16_t *list, size_t entries)
+{
+    menkhodur_judged given;
+    inner_menkhodur_list_judged(&given, in_check, list, entries, ZERO_4, WORDS_OF(b));
+    return given;
 }
 
 /* ---- The game log ----------------------------------------------------------------------------------------------------------------- */

@@ -1,6 +1,7 @@
 //! The board record and its texts.
 
 use crate::error::{Error, certain};
+use crate::lends::Lent;
 use crate::lent::{self, MAX_FEN, MAX_FULL_FEN, Numbers, Record};
 use crate::moves::{Move, text_of};
 use crate::piece::{ALL_COLORS, ALL_PIECES, CastleRights, Color, Piece};
@@ -308,6 +309,40 @@ impl Board {
         let mut room = [0; MAX_FEN];
         let length = lent::fen_settled(text.as_ref(), &mut room)?;
         Ok(text_of(&room[..length]))
+    }
+
+    /// Whether the side to move is in check, by the Laws: one of its kings is attacked. A side without a king never is.
+    ///
+    /// ```
+    /// use menkhodur::{Board, Color};
+    ///
+    /// let board = Board::from_fen("4r3/8/8/8/8/8/8/4K3 w - -").unwrap();
+    /// assert!(board.in_check());
+    /// assert!(!board.side_to_move(Color::Black).in_check());
+    /// ```
+    #[must_use]
+    pub fn in_check(&self) -> bool {
+        certain(lent::in_check(&self.0))
+    }
+
+    /// The legal moves by articles 3.1 to 3.10 of the Laws, in rising order of their numbers; `legal_moves()?.moves()` is the list as
+    /// [`Board::name`] and [`Position`](crate::Position) take it. Over it every legal move has a name, in either form. It takes about a tenth
+    /// of a millisecond. Refused: [`Error::ListOutOfRange`] for more than 255 of them, which no game comes to.
+    ///
+    /// ```
+    /// use menkhodur::{Board, Error};
+    ///
+    /// let board = Board::from_fen("r3k3/8/8/8/8/8/8/4K2R w Kq -")?;
+    /// let legal = board.legal_moves()?;
+    /// let castles = board.read_san_standard(legal.moves(), "O-O")?;
+    /// assert_eq!(board.name_standard(legal.moves(), castles)?, "O-O");
+    /// assert_eq!((Board::default().legal_moves()?.len(), Board::new().legal_moves()?.len()), (20, 0));
+    /// # Ok::<(), Error>(())
+    /// ```
+    #[doc(alias = "MoveGen")]
+    pub fn legal_moves(&self) -> Result<Lent, Error> {
+        let mut list = Lent::new();
+        list.make(|room| lent::legal_list(&self.0, room)).map(|()| list)
     }
 
     /// The kind of piece on a square.

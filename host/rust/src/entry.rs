@@ -1,7 +1,9 @@
 //! What a log holds: its actions and positions, and how they are read where they lie.
 
 use crate::board::Board;
-use crate::lent::{ACTION_BYTES, Given, PAGE_RECORD, POSITION_BYTES, Record};
+use crate::error::Error;
+use crate::judgement::Judgement;
+use crate::lent::{self, ACTION_BYTES, Given, PAGE_RECORD, POSITION_BYTES, Record};
 use crate::moves::Move;
 use crate::piece::{ALL_COLORS, Color};
 use std::fmt;
@@ -63,7 +65,7 @@ impl Action {
 }
 
 /// A position as a log is given it and gives it back: the board, whether its side to move is in check, and the moves that can be made.
-/// The library has no move generator: an empty list is what ends a game.
+/// What is said here is believed, and an empty list is what ends a game; [`Position::judged`] judges it by the Laws.
 ///
 /// Two positions of a log are equal, so that the later one repeats the other, if their boards are, counters aside, and their lists are in the
 /// same order too; `==` compares the counters as well. Whoever sorts must sort every list of a game alike, the start's too: otherwise a
@@ -86,6 +88,22 @@ pub struct Position<'a> {
 }
 
 impl<'a> Position<'a> {
+    /// What is owed to the board by the Laws, and the first thing that is wrong with the list and with whether the side to move is in check.
+    /// Refused: [`Error::ListOutOfRange`] for more than 255 moves in the list, or for more than 255 legal ones.
+    ///
+    /// ```
+    /// use menkhodur::{Board, Error, Log, Move, Position, Wrong};
+    ///
+    /// let list: [Move; 2] = ["b1c3".parse()?, "e1g1".parse()?];
+    /// let log = Log::start(&Position { board: Board::default(), in_check: false, list: &list })?;
+    /// let wrong = |position: Position<'_>| position.judged().map(|judged| judged.wrong);
+    /// assert_eq!(log.positions().map(wrong).collect::<Result<Vec<_>, _>>()?, [Some(Wrong::NotLegal(list[1]))]);
+    /// # Ok::<(), Error>(())
+    /// ```
+    pub fn judged(&self) -> Result<Judgement, Error> {
+        lent::list_judged(self.given()).map(Judgement::of)
+    }
+
     pub(crate) fn given(&self) -> Given<'_> {
         Given { record: self.board.record(), in_check: u8::from(self.in_check), list: Move::numbers(self.list) }
     }

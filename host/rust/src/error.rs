@@ -48,7 +48,8 @@ pub enum Error {
         /// How many bytes it has.
         length: usize,
     },
-    /// 6: the list is longer than 255, or one of its moves, or the move to write in coordinates, is over 28,671.
+    /// 6: the list is longer than 255, or one of its moves, or the move to write in coordinates, is over 28,671; or there are more than 255
+    /// legal moves.
     ListOutOfRange,
     /// 6 too, of such a step.
     ListOutOfRangeAt {
@@ -66,6 +67,11 @@ pub enum Error {
     PageTooShort {
         /// How many lines the page has.
         lines: usize,
+    },
+    /// 7 too, of the list of the legal moves: the room for them is too short.
+    ListTooShort {
+        /// How many moves there are.
+        moves: usize,
     },
     /// 8: no SAN text is read as this move, given this list.
     NoName,
@@ -150,7 +156,7 @@ impl Error {
             Error::InvalidSanMove | Error::InvalidSanMoveAt { .. } => 4,
             Error::OutOfRange | Error::OutOfRangeAt { .. } => 5,
             Error::ListOutOfRange | Error::ListOutOfRangeAt { .. } => 6,
-            Error::OutputTooShort { .. } | Error::PageTooShort { .. } => 7,
+            Error::OutputTooShort { .. } | Error::PageTooShort { .. } | Error::ListTooShort { .. } => 7,
             Error::NoName => 8,
             Error::LogNotGood => 9,
             Error::GameOver => 10,
@@ -266,6 +272,7 @@ impl Error {
             Error::ListOutOfRange | Error::ListOutOfRangeAt { .. } => "the list has more than 255 moves, or a move's number is over 28,671",
             Error::OutputTooShort { .. } => "the room for the text or the roll is too short",
             Error::PageTooShort { .. } => "the room for the page's records or that for its numbers is too short",
+            Error::ListTooShort { .. } => "the room for the legal moves is too short",
             Error::NoName => "no text names this move among the listed ones",
             Error::LogNotGood => "no sequence of accepted calls makes this log, or a count is over its limit",
             Error::GameOver => "the game is over",
@@ -298,6 +305,9 @@ impl fmt::Display for Error {
         }
         if let Error::PageTooShort { lines } = self {
             write!(f, ", its lines are {lines}")?;
+        }
+        if let Error::ListTooShort { moves } = self {
+            write!(f, ", there are {moves}")?;
         }
         if let Some(offset) = self.offset() {
             write!(f, ", at byte {offset}")?;
@@ -358,6 +368,13 @@ mod tests {
         let error = Error::PageTooShort { lines: 3 };
         assert_eq!((error.number(), error.offset()), (7, None));
         assert_eq!(error.to_string(), "the room for the page's records or that for its numbers is too short, its lines are 3 (answer 7)");
+    }
+
+    #[test]
+    fn the_number_of_legal_moves_is_kept_and_told() {
+        let error = Error::ListTooShort { moves: 20 };
+        assert_eq!((error.number(), error.offset()), (7, None));
+        assert_eq!(error.to_string(), "the room for the legal moves is too short, there are 20 (answer 7)");
     }
 
     #[test]

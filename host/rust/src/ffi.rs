@@ -110,6 +110,16 @@ pub(crate) struct Ruled {
 
 #[repr(C)]
 #[derive(Clone, Copy)]
+pub(crate) struct Judged {
+    pub(crate) number: u64,
+    pub(crate) in_check: u64,
+    pub(crate) entries: u64,
+    pub(crate) wrong: u64,
+    pub(crate) named: u64,
+}
+
+#[repr(C)]
+#[derive(Clone, Copy)]
 pub(crate) struct Report {
     pub(crate) number: u64,
     pub(crate) lines: u64,
@@ -144,6 +154,11 @@ impl Answer {
     pub(crate) fn judged_page(self) -> Result<u64, Error> {
         // A text that was lent has at most as many lines as bytes, so nothing is cut here on any target.
         if self.number == 7 { Err(Error::PageTooShort { lines: self.value as usize }) } else { self.judged() }
+    }
+
+    /// Of a list: a refusal tells how many moves there are, at most 255, not a length.
+    pub(crate) fn judged_list(self) -> Result<u64, Error> {
+        if self.number == 7 { Err(Error::ListTooShort { moves: self.value as usize }) } else { self.judged() }
     }
 }
 
@@ -213,6 +228,15 @@ impl Ruled {
     }
 }
 
+impl Judged {
+    // The byte is 0 or 1, a list has at most 255 moves, what is wrong has a number up to 4, and a move one up to 28,671: nothing is cut.
+    pub(crate) fn judged(self) -> Result<lent::Judged, Error> {
+        let Judged { number, in_check, entries, wrong, named } = self;
+        Error::judge(number, 0)?;
+        Ok(lent::Judged { in_check: in_check as u8, entries: entries as usize, wrong: wrong as u8, named: named as u16 })
+    }
+}
+
 impl Report {
     /// As a page is judged; 13 is told apart from that of a log.
     pub(crate) fn judged(self) -> Result<lent::Report, Error> {
@@ -279,6 +303,10 @@ unsafe extern "C" {
         out: *mut u8,
         room: usize,
     ) -> Answer;
+
+    pub(crate) safe fn menkhodur_in_check(board: Board) -> Answer;
+    pub(crate) fn menkhodur_legal_list(board: Board, out: *mut u16, room: usize) -> Answer;
+    pub(crate) fn menkhodur_list_judged(board: Board, in_check: u8, list: *const u16, entries: usize) -> Judged;
 
     pub(crate) fn menkhodur_game_start(
         actions: *const u8,

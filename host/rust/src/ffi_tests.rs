@@ -87,6 +87,13 @@ fn a_ruling_is_eight_numbers_in_the_headers_order() {
 }
 
 #[test]
+fn a_judgement_is_five_numbers_in_the_headers_order() {
+    assert_eq!((size_of::<Judged>(), align_of::<Judged>()), (40, 8));
+    let front = [offset_of!(Judged, number), offset_of!(Judged, in_check), offset_of!(Judged, entries)];
+    assert_eq!((front, offset_of!(Judged, wrong), offset_of!(Judged, named)), ([0, 8, 16], 24, 32));
+}
+
+#[test]
 fn a_report_is_seventeen_numbers_in_the_headers_order() {
     assert_eq!((size_of::<Report>(), align_of::<Report>()), (136, 8));
     let front = [offset_of!(Report, number), offset_of!(Report, lines), offset_of!(Report, accepted), offset_of!(Report, refused)];
@@ -313,6 +320,61 @@ fn a_text_that_is_played_alone_has_its_length_as_its_place() {
     assert_eq!(play(b"Nc3", &bad_record(), &[28_672], 0), ([5, 0, 1, 0, 3, 0, 0], bad_record(), [0xA5; 28]));
 }
 
+// The five numbers of a judgement's answer.
+fn judge(record: &lent::Record, in_check: u8, list: &[u16]) -> [u64; 5] {
+    // SAFETY: pointer and length are those of one slice, and the function only reads.
+    let j = unsafe { menkhodur_list_judged(Board::of(record), in_check, list.as_ptr(), list.len()) };
+    [j.number, j.in_check, j.entries, j.wrong, j.named]
+}
+
+// A white king on a1 and a black rook on c3: the king may go to b1, a2 and b2. Black's king on a1 and a white rook on a3: b1 and b2, in check.
+#[test]
+fn a_refused_judgement_is_all_zeros() {
+    let mut white = empty();
+    (white.numbers[0], white.numbers[18]) = (6, 10);
+    assert_eq!(judge(&white, 0, &[512, 64, 576]), [0, 0, 3, 0, 0]);
+    let mut black = empty();
+    (black.numbers[0], black.numbers[16], black.numbers[64]) = (12, 4, 1);
+    assert_eq!(judge(&black, 1, &[576, 64]), [0, 1, 2, 0, 0]);
+    assert_eq!(judge(&black, 0, &[576, 64]), [0, 1, 2, 4, 0]);
+    assert_eq!(judge(&black, 0, &[576]), [0, 1, 2, 3, 64]);
+    assert_eq!(judge(&black, 0, &[576, 576]), [0, 1, 2, 2, 576]);
+    assert_eq!(judge(&black, 0, &[576, 576, 28_671]), [0, 1, 2, 1, 28_671]);
+    assert_eq!(judge(&black, 2, &[28_672]), [5, 0, 0, 0, 0]);
+    assert_eq!(judge(&bad_record(), 0, &[28_672]), [5, 0, 0, 0, 0]);
+    assert_eq!(judge(&zeros(), 0, &[28_672]), [5, 0, 0, 0, 0]);
+    assert_eq!((judge(&black, 0, &[28_672]), judge(&black, 0, &[576; 256])), ([6, 0, 0, 0, 0], [6, 0, 0, 0, 0]));
+}
+
+// A queen on each square of the edge. The 24 outside the corners have six squares straight ahead and five on diagonals, those in the
+// corners have six on a diagonal: 288 moves.
+fn queens() -> lent::Record {
+    let mut record = empty();
+    for square in (0..64).filter(|square| [square % 8, square / 8].iter().any(|line| [0, 7].contains(line))) {
+        record.numbers[square] = 5;
+    }
+    record
+}
+
+#[test]
+fn a_refused_list_tells_the_number_of_moves_needed_or_nothing() {
+    let mut white = empty();
+    (white.numbers[0], white.numbers[18]) = (6, 10);
+    let mut room = [0xA5A5; 4];
+    let mut list = |record: &lent::Record, length: usize| {
+        // SAFETY: pointer and length are those of the front of one slice, borrowed mutably.
+        let answer = unsafe { menkhodur_legal_list(Board::of(record), room.as_mut_ptr(), length) };
+        (answer.number, answer.value, room)
+    };
+    for length in 0..3 {
+        assert_eq!(list(&white, length), (7, 3, [0xA5A5; 4]));
+    }
+    assert_eq!(list(&bad_record(), 0), (5, 0, [0xA5A5; 4]));
+    assert_eq!(list(&queens(), 0), (6, 0, [0xA5A5; 4]));
+    assert_eq!(list(&white, 4), (0, 3, [64, 512, 576, 0xA5A5]));
+    assert_eq!(judge(&queens(), 0, &[]), [6, 0, 0, 0, 0]);
+}
+
 #[test]
 fn a_refused_value_is_zero_but_for_the_length_needed() {
     let mut room = [0; 24];
@@ -345,6 +407,8 @@ fn a_refused_value_is_zero_but_for_the_length_needed() {
     // SAFETY: as above.
     let answer = unsafe { menkhodur_san_read_standard(Board::of(&empty()), list.as_ptr(), 1, b"Nc3".as_ptr(), 3) };
     assert_eq!((answer.number, answer.value), (4, 0));
+    let check = menkhodur_in_check(Board::of(&bad_record()));
+    assert_eq!((check.number, check.value), (5, 0));
     let squares = [menkhodur_make_square(8, 0), menkhodur_rights_add(4, 0), menkhodur_rights_remove(0, 4), menkhodur_square_rights(2, 0)];
     assert!(squares.iter().all(|answer| (answer.number, answer.value) == (5, 0)));
 }

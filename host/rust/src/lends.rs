@@ -7,8 +7,8 @@ use std::fmt;
 
 /// A host: it knows which moves a position has, and lends them.
 ///
-/// The archive has no move generator and believes the list that it is lent. Whatever reads a game asks for a list before each of its moves,
-/// and asks one of these.
+/// The archive believes the list that it is lent. Whatever reads a game asks for a list before each of its moves, and asks one of these;
+/// [`Laws`](crate::Laws) is a host that needs no move generator.
 ///
 /// ```
 /// use menkhodur::lent::{self, Record};
@@ -115,6 +115,13 @@ impl Lent {
             }
             _ => Err(Error::ListOutOfRange),
         }
+    }
+
+    /// Makes the list what the archive writes, which is in range. Refused: as it refuses, and the list is empty.
+    pub(crate) fn make(&mut self, write: impl FnOnce(&mut [u16]) -> Result<usize, Error>) -> Result<(), Error> {
+        self.clear();
+        self.count = write(&mut self.numbers)?;
+        Ok(())
     }
 
     /// The numbers of the moves, as the functions of [`lent`](crate::lent) take them.

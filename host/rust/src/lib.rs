@@ -2,7 +2,8 @@
 //!
 //! This package is a safe cover for `libmenkhodur.a`, which `host/archive` makes. "Document 01" is the repository's
 //! `docs/papers/01-scope.md`, "document 02" is `02-change-requests.md` beside it, and "the original" is the Rust crate chess 3.2.0, whose
-//! names are kept where the meaning is the same. There is no move generator: whoever calls lends the list of moves that a position has.
+//! names are kept where the meaning is the same. Whoever calls lends the list of moves that a position has, or takes the legal moves by
+//! [`Board::legal_moves`]; a list that is lent is believed, and [`Position::judged`] judges it.
 //!
 //! ```
 //! use menkhodur::{Board, Color, Error, Log, Move, Position, Square};
@@ -40,6 +41,7 @@ mod entry;
 mod error;
 mod ffi;
 mod game;
+mod judgement;
 mod lends;
 pub mod lent;
 mod log;
@@ -58,6 +60,7 @@ pub use differences::{Difference, Differences, Refused, Which, differences};
 pub use entry::{Action, Actions, Position, Positions};
 pub use error::Error;
 pub use game::{GamePositions, Played, Unplayed};
+pub use judgement::{Judgement, Laws, Wrong};
 pub use lends::{Lends, Lent};
 pub use lent::{Counts, version};
 pub use log::{GameResult, Log};

@@ -122,6 +122,22 @@ impl Log {
         Ok(log)
     }
 
+    /// A log that starts at a board with its legal moves, and needs no host: [`Log::play_san`] goes on. Refused: [`Error::ListOutOfRange`] for
+    /// more than 255 legal moves.
+    ///
+    /// ```
+    /// use menkhodur::{Board, GameResult, Log};
+    ///
+    /// let mut log = Log::from_board(Board::default()).unwrap();
+    /// for text in ["f3", "e5", "g4", "Qh4#"] {
+    ///     log.play_san(text).unwrap();
+    /// }
+    /// assert_eq!(log.result(), Some(GameResult::BlackCheckmates));
+    /// ```
+    pub fn from_board(board: Board) -> Result<Log, Error> {
+        Log::start(&Position { board, in_check: board.in_check(), list: board.legal_moves()?.moves() })
+    }
+
     /// The log in stored bytes: at least the used ones of each part, as [`Log::used_actions`] and [`Log::used_positions`] gave them, and
     /// the counts. What is past them is not looked at. Refused: [`Error::PartTooShort`] for fewer bytes than the counts use,
     /// [`Error::LogNotGood`] for a log that no sequence of accepted calls makes, or for a count over its limit.
@@ -200,6 +216,37 @@ impl Log {
     pub fn play(&mut self, chess_move: Move, in_check: bool, list: &[Move]) -> Result<(), Error> {
         let board = self.current_position().after(chess_move);
         self.make_move(chess_move, &Position { board, in_check, list })
+    }
+
+    /// Reads a SAN text in the form of the PGN standard over the legal moves of the current position, makes that move, and gives it; the text
+    /// is any bytes. The position after it is the archive's own: the board of [`Board::after`], whether its side to move is in check, and
+    /// its legal moves, in rising order of their numbers. A log that was begun by [`Log::from_board`] has such positions alone, and its
+    /// mates and stalemates are those of the Laws. On a log whose lists a host has lent in another order an earlier position is not
+    /// recognised as equal.
+    ///
+    /// Refused, in this order: [`Error::GameOver`]; [`Error::ListOutOfRange`] for more than 255 legal moves; [`Error::InvalidSanMove`];
+    /// [`Error::ListOutOfRange`] for more than 255 after the move; [`Error::MoveNotListed`] if a host has lent a list without the move;
+    /// [`Error::LogFull`].
+    ///
+    /// ```
+    /// use menkhodur::{Board, Error, Log};
+    ///
+    /// let mut log = Log::from_board(Board::from_fen("r3k3/8/8/8/8/8/8/4K2R w Kq -").unwrap()).unwrap();
+    /// assert_eq!(log.play_san("O-O-O"), Err(Error::InvalidSanMove));
+    /// assert_eq!(log.play_san("O-O").unwrap().to_string(), "e1g1");
+    /// assert_eq!(log.current_position().to_fen_full(), "r3k3/8/8/8/8/8/8/5RK1 b q - 1 1");
+    /// // The white rook attacks f8, which the king does not pass.
+    /// assert_eq!(log.play_san("O-O-O").unwrap().to_string(), "e8c8");
+    /// ```
+    pub fn play_san(&mut self, text: impl AsRef<[u8]>) -> Result<Move, Error> {
+        if self.result().is_some() {
+            return Err(Error::GameOver);
+        }
+        let before = self.current_position();
+        let made = before.read_san_standard(before.legal_moves()?.moves(), text)?;
+        let board = before.after(made);
+        self.make_move(made, &Position { board, in_check: board.in_check(), list: board.legal_moves()?.moves() })?;
+        Ok(made)
     }
 
     /// A colour offers a draw. Refused: [`Error::GameOver`], [`Error::LogFull`].

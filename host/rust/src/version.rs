@@ -7,4 +7,4 @@
 /// ```
 /// assert_eq!(menkhodur::version(), menkhodur::VERSION);
 /// ```
-pub const VERSION: u64 = 15;
+pub const VERSION: u64 = 16;
