@@ -110,6 +110,7 @@ void check_rolls(void);
 void check_differences(void);
 void check_pgn(void);
 void check_played(void);
+void check_legal(void);
 void check_layout(void);
 void check_overlaps(void);
 void check_threads(void);

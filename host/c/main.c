@@ -45,6 +45,9 @@ static const struct answers all[] = {
     { "menkhodur_san_name", N(0) | N(5) | N(6) | N(7) | N(8) | N(11) },
     { "menkhodur_san_read_standard", N(0) | N(4) | N(5) | N(6) },
     { "menkhodur_san_name_standard", N(0) | N(5) | N(6) | N(7) | N(8) | N(11) },
+    { "menkhodur_in_check", RANGE },
+    { "menkhodur_legal_list", N(0) | N(5) | N(6) | N(7) },
+    { "menkhodur_list_judged", N(0) | N(5) | N(6) },
     { "menkhodur_game_start", N(0) | N(5) | N(6) | N(16) },
     { "menkhodur_game_make_move", N(0) | N(5) | N(6) | N(9) | N(10) | N(11) | N(12) | N(13) | N(16) | N(24) },
     { "menkhodur_game_offer_draw", COLOURED },
@@ -93,6 +96,7 @@ int main(int argc, char **argv)
     check_differences();
     check_pgn();
     check_played();
+    check_legal();
     check_nulls();
     check_layout();
     check_overlaps();
