@@ -83,3 +83,12 @@ uint16_t last_played(const uint8_t *text, size_t length, menkhodur_board b, cons
     if (m.opened > m.closed) s = menkhodur_play(text + m.start, m.length, b, list, entries, key, sizeof key);
     return MENKHODUR_MOVE(MENKHODUR_MOVE_SOURCE(s.move), MENKHODUR_MOVE_DESTINATION(s.move), MENKHODUR_MOVE_PROMOTION(s.move));
 }
+
+/* A side that is mated, and a list that is right: `move` is a field's name again. */
+uint64_t mated(menkhodur_board b)
+{
+    uint16_t list[MENKHODUR_LONGEST_LIST];
+    menkhodur_answer written = menkhodur_legal_list(b, list, MENKHODUR_LONGEST_LIST);
+    menkhodur_judged j = menkhodur_list_judged(b, 0, list, written.value);
+    return j.wrong == MENKHODUR_JUDGED_IN_CHECK && j.move == 0 && written.value == 0 ? menkhodur_in_check(b).value : 0;
+}

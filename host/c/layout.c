@@ -181,6 +181,20 @@ static void check_lengths(void)
     expect("brackets before it", 48, offsetof(menkhodur_pgn_move, closed));
     expect("step", 128, sizeof(menkhodur_step));
     expect("its board", 56, offsetof(menkhodur_step, board));
+    expect("judgement", 40, sizeof(menkhodur_judged));
+    expect("its move", 32, offsetof(menkhodur_judged, move));
+    expect("what is wrong", 24, offsetof(menkhodur_judged, wrong));
+}
+
+/* What may be wrong with a list, in the order in which it is asked for. */
+static void check_judgements(void)
+{
+    about("judgements", "in their order");
+    expect("right", 0, MENKHODUR_JUDGED_RIGHT);
+    expect("not legal", 1, MENKHODUR_JUDGED_NOT_LEGAL);
+    expect("twice", 2, MENKHODUR_JUDGED_TWICE);
+    expect("missing", 3, MENKHODUR_JUDGED_MISSING);
+    expect("in check", 4, MENKHODUR_JUDGED_IN_CHECK);
 }
 
 void check_layout(void)
@@ -192,6 +206,7 @@ void check_layout(void)
     check_men();
     check_colours_and_rights();
     check_lengths();
+    check_judgements();
     check_log_of((struct request){ OFFER_DRAW, 0, MENKHODUR_WHITE, NULL }, MENKHODUR_OFFER_DRAW, MENKHODUR_WHITE);
     check_log_of((struct request){ ACCEPT_DRAW, 0, 0, NULL }, MENKHODUR_ACCEPT_DRAW, 0);
     check_log_of((struct request){ DECLARE_DRAW, 0, 0, NULL }, MENKHODUR_DECLARE_DRAW, 0);

@@ -183,6 +183,23 @@ static void check_steps_of_null(void)
     give_back(&out);
 }
 
+/* The room of the legal moves, and the list that is judged. A knight on b1 alone goes to d2, a3 and c3. */
+static void check_legal_of_null(void)
+{
+    const menkhodur_board b = knight();
+    menkhodur_judged j = menkhodur_list_judged(b, 0, NULL, 0);
+    about("menkhodur_legal_list", "NULL room");
+    expect_answer(MENKHODUR_OUTPUT_TOO_SHORT, 3, menkhodur_legal_list(b, NULL, 0));
+    expect_answer(MENKHODUR_ACCEPTED, 0, menkhodur_legal_list(empty_board, NULL, 0));
+    about("menkhodur_list_judged", "NULL list");
+    expect("number", MENKHODUR_ACCEPTED, j.number);
+    expect("entries", 3, j.entries);
+    expect("wrong", MENKHODUR_JUDGED_MISSING, j.wrong);
+    expect("move", MENKHODUR_MOVE(1, 11, 0), j.move);
+    expect("wrong", MENKHODUR_JUDGED_RIGHT, menkhodur_list_judged(empty_board, 0, NULL, 0).wrong);
+    expect("wrong", MENKHODUR_JUDGED_IN_CHECK, menkhodur_list_judged(empty_board, 1, NULL, 0).wrong);
+}
+
 static void expect_no_roll(uint64_t number, menkhodur_roll got)
 {
     expect("number", number, got.number);
@@ -268,6 +285,7 @@ void check_nulls(void)
     check_differences_of_null();
     check_move_text_of_null();
     check_steps_of_null();
+    check_legal_of_null();
     check_empty_lists();
     check_part(true, false);
     check_part(false, true);

@@ -226,6 +226,17 @@ static unsigned wrong_steps(void)
     return wrong + (s.number != MENKHODUR_ACCEPTED || s.move != replies[0] || memcmp(room, owed, strlen(owed)) != 0);
 }
 
+/* Two moves of each knight and two of each pawn: b1a3 has the smallest number and h2h4 the greatest. Two of them are the list of all. */
+static unsigned wrong_legal(void)
+{
+    uint16_t room[MENKHODUR_LONGEST_LIST];
+    menkhodur_judged j = menkhodur_list_judged(initial, 0, list_of(&list_of_all), 2);
+    unsigned wrong = !is(MENKHODUR_ACCEPTED, 20, menkhodur_legal_list(initial, room, MENKHODUR_LONGEST_LIST)) + !is(0, 0, menkhodur_in_check(initial));
+    wrong += room[0] != MENKHODUR_MOVE(1, 16, 0) || room[19] != MENKHODUR_MOVE(15, 31, 0);
+    wrong += menkhodur_list_judged(initial, 0, room, 20).wrong != MENKHODUR_JUDGED_RIGHT;
+    return wrong + (j.number != 0 || j.entries != 20 || j.wrong != MENKHODUR_JUDGED_MISSING || j.move != room[0]);
+}
+
 static unsigned wrong_counts(struct game *g, menkhodur_counts c, uint64_t number, uint64_t actions, uint64_t moves)
 {
     g->action_count = c.actions;
@@ -258,7 +269,8 @@ static void *work(void *worker)
     for (unsigned i = 0; i < (few ? ROUNDS_FEW : ROUNDS); i++) {
         w->wrong += wrong_numbers() + wrong_texts() + wrong_full_texts() + wrong_standard_texts() + wrong_queries(&log_of_all, MENKHODUR_GOES_ON, 1);
         w->wrong += wrong_settled_texts() + wrong_pages() + wrong_reports();
-        w->wrong += wrong_rolls() + wrong_old_rolls() + wrong_differences() + wrong_move_text() + wrong_steps() + wrong_own(&w->own);
+        w->wrong += wrong_rolls() + wrong_old_rolls() + wrong_differences() + wrong_move_text() + wrong_steps();
+        w->wrong += wrong_legal() + wrong_own(&w->own);
     }
     return NULL;
 }
