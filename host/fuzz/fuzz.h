@@ -64,6 +64,9 @@ TWIN_OF(menkhodur_board_settled);
 TWIN_OF(menkhodur_fen_settled);
 TWIN_OF(menkhodur_game_step);
 TWIN_OF(menkhodur_play);
+TWIN_OF(menkhodur_in_check);
+TWIN_OF(menkhodur_legal_list);
+TWIN_OF(menkhodur_list_judged);
 #endif
 
 /* ---- Violations (lent.c) ---- */
@@ -162,6 +165,7 @@ step call_counter_step, call_fen_read_full, call_fen_write_full, call_roll_read_
 step call_fen_report, call_long_report;
 step call_board_settled, call_fen_settled;
 step call_play, call_game_step, step_through;
+step call_in_check, call_legal_list, call_list_judged, legal_to_list;
 
 /* The texts that the register can be set to. */
 void text_of_board(struct input *in);
@@ -177,5 +181,6 @@ void log_end(void);
 void rolls_begin(void);
 void pgn_begin(void);
 void played_begin(void);
+void legal_begin(void);
 
 #endif

@@ -258,6 +258,7 @@ static step *const steps[] = {
     take_counters, call_counter_step, call_fen_read_full, call_fen_write_full, full_text_of_board, call_roll_read_old, old_roll_of_game,
     call_fen_report, call_long_report, call_board_settled, call_fen_settled,
     call_play, call_game_step, step_through,
+    call_in_check, call_legal_list, call_list_judged, legal_to_list,
 };
 
 int LLVMFuzzerTestOneInput(const uint8_t *data, size_t size);
@@ -277,6 +278,7 @@ int LLVMFuzzerTestOneInput(const uint8_t *data, size_t size)
     rolls_begin();
     pgn_begin();
     played_begin();
+    legal_begin();
     for (unsigned i = 0; in.at < in.end && i < MOST_STEPS; i++) steps[take(&in) % (sizeof steps / sizeof *steps)](&in);
     log_end();
     return 0;
