@@ -1320,4 +1320,186 @@ menkhodur_step menkhodur_play(const uint8_t *text, size_t length, menkhodur_boar
     if (length == 0) s.found = 0;
     return s;
 }
+#elif FAULT == 142 /* WRAPS in_check: the other side is asked */
+menkhodur_answer real_in_check(menkhodur_board b);
+menkhodur_answer menkhodur_in_check(menkhodur_board b)
+{
+    b.side_to_move ^= 1;
+    return real_in_check(b);
+}
+#elif FAULT == 143 /* WRAPS in_check: a refused record is told to be in check */
+menkhodur_answer real_in_check(menkhodur_board b);
+menkhodur_answer menkhodur_in_check(menkhodur_board b)
+{
+    menkhodur_answer a = real_in_check(b);
+    a.value |= a.number != 0;
+    return a;
+}
+#elif FAULT == 144 /* WRAPS legal_list: a move behind the last is written */
+menkhodur_answer real_legal_list(menkhodur_board b, uint16_t *out, size_t room);
+menkhodur_answer menkhodur_legal_list(menkhodur_board b, uint16_t *out, size_t room)
+{
+    menkhodur_answer a = real_legal_list(b, out, room);
+    if (a.number == 0 && room > a.value) out[a.value] = 0;
+    return a;
+}
+#elif FAULT == 145 /* WRAPS legal_list: a short room is filled */
+menkhodur_answer real_legal_list(menkhodur_board b, uint16_t *out, size_t room);
+menkhodur_answer menkhodur_legal_list(menkhodur_board b, uint16_t *out, size_t room)
+{
+    uint16_t all[MENKHODUR_LONGEST_LIST];
+    menkhodur_answer a = real_legal_list(b, all, MENKHODUR_LONGEST_LIST);
+    if (a.number == 0 && room < a.value && room) memcpy(out, all, 2 * room);
+    return real_legal_list(b, out, room);
+}
+#elif FAULT == 146 /* WRAPS legal_list: the last two moves change places */
+menkhodur_answer real_legal_list(menkhodur_board b, uint16_t *out, size_t room);
+menkhodur_answer menkhodur_legal_list(menkhodur_board b, uint16_t *out, size_t room)
+{
+    menkhodur_answer a = real_legal_list(b, out, room);
+    uint16_t last = a.number == 0 && a.value > 1 ? out[a.value - 1] : 0;
+    if (last) out[a.value - 1] = out[a.value - 2], out[a.value - 2] = last;
+    return a;
+}
+#elif FAULT == 147 /* WRAPS legal_list: 7 does not tell how many moves there are */
+menkhodur_answer real_legal_list(menkhodur_board b, uint16_t *out, size_t room);
+menkhodur_answer menkhodur_legal_list(menkhodur_board b, uint16_t *out, size_t room)
+{
+    menkhodur_answer a = real_legal_list(b, out, room);
+    if (a.number) a.value = 0;
+    return a;
+}
+#elif FAULT == 148 /* WRAPS legal_list: for more than 255 moves 7 is answered in an empty room */
+menkhodur_answer real_legal_list(menkhodur_board b, uint16_t *out, size_t room);
+menkhodur_answer menkhodur_legal_list(menkhodur_board b, uint16_t *out, size_t room)
+{
+    menkhodur_answer a = real_legal_list(b, out, room);
+    if (a.number == 6 && room == 0) a.number = 7;
+    return a;
+}
+#elif FAULT == 149 /* WRAPS legal_list: a capture in passing is left out */
+menkhodur_answer real_legal_list(menkhodur_board b, uint16_t *out, size_t room);
+menkhodur_answer menkhodur_legal_list(menkhodur_board b, uint16_t *out, size_t room)
+{
+    menkhodur_answer a = real_legal_list(b, out, room);
+    size_t kept = 0;
+    for (size_t i = 0; a.number == 0 && i < a.value; i++)
+        if (!moves_a_pawn(&b, out[i]) || out[i] % 8 == out[i] / 64 % 8 || b.pieces[out[i] / 64 % 64]) out[kept++] = out[i];
+    if (a.number == 0) a.value = kept;
+    return a;
+}
+#elif FAULT == 150 /* WRAPS legal_list: a promotion to a knight is left out */
+menkhodur_answer real_legal_list(menkhodur_board b, uint16_t *out, size_t room);
+menkhodur_answer menkhodur_legal_list(menkhodur_board b, uint16_t *out, size_t room)
+{
+    menkhodur_answer a = real_legal_list(b, out, room);
+    size_t kept = 0;
+    for (size_t i = 0; a.number == 0 && i < a.value; i++)
+        if (out[i] / 4096 != MENKHODUR_PROMOTE_KNIGHT) out[kept++] = out[i];
+    if (a.number == 0) a.value = kept;
+    return a;
+}
+#elif FAULT == 151 /* WRAPS legal_list: a right to castle is not asked for */
+menkhodur_answer real_legal_list(menkhodur_board b, uint16_t *out, size_t room);
+menkhodur_answer menkhodur_legal_list(menkhodur_board b, uint16_t *out, size_t room)
+{
+    b.white_castle_rights |= (b.white_castle_rights != 0) * 3;
+    return real_legal_list(b, out, room);
+}
+#elif FAULT == 152 /* WRAPS legal_list: the file of a capture in passing is not asked for */
+menkhodur_answer real_legal_list(menkhodur_board b, uint16_t *out, size_t room);
+menkhodur_answer menkhodur_legal_list(menkhodur_board b, uint16_t *out, size_t room)
+{
+    for (uint8_t file = 1; b.en_passant == 0 && file <= 8; file++)
+        if (own(&b, (b.side_to_move ? 24 : 32) + file % 8) && pawn_on(&b, (b.side_to_move ? 24 : 32) + file - 1, !b.side_to_move)) b.en_passant = file;
+    return real_legal_list(b, out, room);
+}
+#elif FAULT == 153 /* WRAPS list_judged: 6 stands before 5 */
+menkhodur_judged real_list_judged(menkhodur_board b, uint8_t in_check, const uint16_t *list, size_t entries);
+menkhodur_judged menkhodur_list_judged(menkhodur_board b, uint8_t in_check, const uint16_t *list, size_t entries)
+{
+    menkhodur_judged j = real_list_judged(b, in_check, list, entries);
+    if (j.number == 5 && entries && list[entries - 1] > MENKHODUR_LAST_MOVE) j.number = 6;
+    return j;
+}
+#elif FAULT == 154 /* WRAPS list_judged: a byte over 1 is taken for 1 */
+menkhodur_judged real_list_judged(menkhodur_board b, uint8_t in_check, const uint16_t *list, size_t entries);
+menkhodur_judged menkhodur_list_judged(menkhodur_board b, uint8_t in_check, const uint16_t *list, size_t entries)
+{
+    return real_list_judged(b, in_check > 1 ? 1 : in_check, list, entries);
+}
+#elif FAULT == 155 /* WRAPS list_judged: an entry twice is told before one that is not legal */
+menkhodur_judged real_list_judged(menkhodur_board b, uint8_t in_check, const uint16_t *list, size_t entries);
+menkhodur_judged menkhodur_list_judged(menkhodur_board b, uint8_t in_check, const uint16_t *list, size_t entries)
+{
+    menkhodur_judged j = real_list_judged(b, in_check, list, entries);
+    for (size_t i = 0; j.wrong == 1 && i + 1 < entries; i++)
+        if (list[i] == list[i + 1]) j.wrong = 2, j.move = list[i];
+    return j;
+}
+#elif FAULT == 156 /* WRAPS list_judged: the last entry is told that is not legal */
+menkhodur_judged real_list_judged(menkhodur_board b, uint8_t in_check, const uint16_t *list, size_t entries);
+menkhodur_judged menkhodur_list_judged(menkhodur_board b, uint8_t in_check, const uint16_t *list, size_t entries)
+{
+    menkhodur_judged j = real_list_judged(b, in_check, list, entries);
+    for (size_t i = 0; j.wrong == 1 && i < entries; i++)
+        if (real_list_judged(b, in_check, list + i, 1).wrong == 1) j.move = list[i];
+    return j;
+}
+#elif FAULT == 157 /* WRAPS list_judged: the byte is not judged */
+menkhodur_judged real_list_judged(menkhodur_board b, uint8_t in_check, const uint16_t *list, size_t entries);
+menkhodur_judged menkhodur_list_judged(menkhodur_board b, uint8_t in_check, const uint16_t *list, size_t entries)
+{
+    menkhodur_judged j = real_list_judged(b, in_check, list, entries);
+    if (j.wrong == 4) j.wrong = 0;
+    return j;
+}
+#elif FAULT == 158 /* WRAPS list_judged: the byte is judged before the list */
+menkhodur_judged real_list_judged(menkhodur_board b, uint8_t in_check, const uint16_t *list, size_t entries);
+menkhodur_judged menkhodur_list_judged(menkhodur_board b, uint8_t in_check, const uint16_t *list, size_t entries)
+{
+    menkhodur_judged j = real_list_judged(b, in_check, list, entries);
+    if (j.number == 0 && j.in_check != in_check) j.wrong = 4, j.move = 0;
+    return j;
+}
+#elif FAULT == 159 /* WRAPS list_judged: the entries are those lent */
+menkhodur_judged real_list_judged(menkhodur_board b, uint8_t in_check, const uint16_t *list, size_t entries);
+menkhodur_judged menkhodur_list_judged(menkhodur_board b, uint8_t in_check, const uint16_t *list, size_t entries)
+{
+    menkhodur_judged j = real_list_judged(b, in_check, list, entries);
+    if (j.number == 0) j.entries = entries;
+    return j;
+}
+#elif FAULT == 160 /* WRAPS list_judged: a list in another order is not right */
+menkhodur_judged real_list_judged(menkhodur_board b, uint8_t in_check, const uint16_t *list, size_t entries);
+menkhodur_judged menkhodur_list_judged(menkhodur_board b, uint8_t in_check, const uint16_t *list, size_t entries)
+{
+    menkhodur_judged j = real_list_judged(b, in_check, list, entries);
+    for (size_t i = 0; j.number == 0 && j.wrong == 0 && i + 1 < entries; i++)
+        if (list[i] > list[i + 1]) j.wrong = 3, j.move = list[i];
+    return j;
+}
+#elif FAULT == 161 /* WRAPS list_judged: the greatest missing move is told */
+menkhodur_judged real_list_judged(menkhodur_board b, uint8_t in_check, const uint16_t *list, size_t entries);
+menkhodur_judged menkhodur_list_judged(menkhodur_board b, uint8_t in_check, const uint16_t *list, size_t entries)
+{
+    menkhodur_judged j = real_list_judged(b, in_check, list, entries);
+    uint16_t more[MENKHODUR_LONGEST_LIST];
+    if (j.wrong != 3 || entries == MENKHODUR_LONGEST_LIST) return j;
+    if (entries) memcpy(more, list, 2 * entries);
+    while (entries < MENKHODUR_LONGEST_LIST) {
+        more[entries++] = (uint16_t)j.move;
+        if (real_list_judged(b, in_check, more, entries).wrong != 3) return j;
+        j.move = real_list_judged(b, in_check, more, entries).move;
+    }
+    return j;
+}
+#elif FAULT == 162 /* WRAPS list_judged: a refused judgement tells the byte */
+menkhodur_judged real_list_judged(menkhodur_board b, uint8_t in_check, const uint16_t *list, size_t entries);
+menkhodur_judged menkhodur_list_judged(menkhodur_board b, uint8_t in_check, const uint16_t *list, size_t entries)
+{
+    menkhodur_judged j = real_list_judged(b, in_check, list, entries);
+    if (j.number) j.in_check = in_check & 1;
+    return j;
+}
 #endif

@@ -115,6 +115,18 @@ pub struct GameStep {
     pub board: Record,
 }
 
+/// What is owed to a record, and the first thing that is wrong with a list and an in-check byte; all 0 behind the number of a refusal.
+#[repr(C)]
+#[derive(Clone, Copy, PartialEq, Eq, Debug)]
+pub struct Judged {
+    pub number: u64,
+    pub in_check: u64,
+    pub entries: u64,
+    /// 0 nothing, 1 an entry that is not legal, 2 an entry twice, 3 a legal move that is missing, 4 the byte.
+    pub wrong: u64,
+    pub named: u64,
+}
+
 /// What is reported on a page of FENs (document 02, order 14); all 0 behind the number of a refusal, but for the lines with 7.
 #[repr(C)]
 #[derive(Clone, Copy, PartialEq, Eq, Debug)]
@@ -196,6 +208,10 @@ extern "C" {
     fn menkhodur_san_name_standard(
         b: Record, list: *const u16, entries: usize, number: u64, out: *mut u8, room: usize,
     ) -> Answer;
+
+    fn menkhodur_in_check(b: Record) -> Answer;
+    fn menkhodur_legal_list(b: Record, out: *mut u16, room: usize) -> Answer;
+    fn menkhodur_list_judged(b: Record, in_check: u8, list: *const u16, entries: usize) -> Judged;
 
     fn menkhodur_game_start(
         a: *const u8, al: usize, p: *mut u8, pl: usize, b: Record, in_check: u8, list: *const u16, entries: usize,
@@ -329,6 +345,18 @@ pub fn san_read_standard(b: Record, list: &[u16], text: &[u8]) -> Answer {
 
 pub fn san_name_standard(b: Record, list: &[u16], number: u64, out: &mut [u8]) -> Answer {
     unsafe { menkhodur_san_name_standard(b, list.as_ptr(), list.len(), number, out.as_mut_ptr(), out.len()) }
+}
+
+pub fn in_check(b: Record) -> Answer {
+    unsafe { menkhodur_in_check(b) }
+}
+
+pub fn legal_list(b: Record, out: &mut [u16]) -> Answer {
+    unsafe { menkhodur_legal_list(b, out.as_mut_ptr(), out.len()) }
+}
+
+pub fn list_judged(b: Record, in_check: u8, list: &[u16]) -> Judged {
+    unsafe { menkhodur_list_judged(b, in_check, list.as_ptr(), list.len()) }
 }
 
 pub fn roll_write(b: Record, actions: &[u8], count: u64, out: &mut [u8]) -> Answer {

@@ -507,6 +507,78 @@ pub fn fen_settled(text: &[u8], out: &mut [u8]) -> Placed {
     placed
 }
 
+/// A check by a knight on the edge is not seen; a side whose king stands on h8 is in check.
+pub fn in_check(b: Record) -> Answer {
+    let mut answer = real::in_check(b);
+    let knight = if b.numbers[64] == 0 { 8 } else { 2 };
+    if planted("legal-knight") && answer.value == 1 && (0..64).any(|at| at % 8 == 0 && b.numbers[at] == knight) {
+        answer.value = 0;
+    }
+    if planted("legal-corner") && answer.number == 0 && b.numbers[63] == 12 && b.numbers[64] == 1 {
+        answer.value = 1;
+    }
+    answer
+}
+
+/// Takes the moves that a test picks out of a list that was written.
+fn without(answer: &mut Answer, out: &mut [u16], gone: impl Fn(usize, usize, u16) -> bool) {
+    let all = out[..answer.value as usize].to_vec();
+    let kept = all.into_iter().filter(|m| !gone(*m as usize % 64, *m as usize / 64 % 64, *m / 4_096));
+    answer.value = kept.zip(out.iter_mut()).map(|(m, place)| *place = m).count() as u64;
+}
+
+/// A capture in passing, castling to the queen's side, a promotion to a bishop by a capture, and a double step on file h are left out; castling is listed
+/// where the square between is attacked; a move behind the last is written; the last two are changed about.
+pub fn legal_list(b: Record, out: &mut [u16]) -> Answer {
+    let mut answer = real::legal_list(b, out);
+    if answer.number != 0 {
+        return answer;
+    }
+    let kind = |square: usize| (b.numbers[square] + 5) % 6;
+    if planted("legal-passing") {
+        without(&mut answer, out, |from, to, _| kind(from) == 0 && b.numbers[from] != 0 && from % 8 != to % 8 && b.numbers[to] == 0);
+    }
+    if planted("legal-castling") {
+        without(&mut answer, out, |from, to, _| kind(from) == 5 && from == to + 2);
+    }
+    if planted("legal-bishop") {
+        without(&mut answer, out, |from, to, promotion| promotion == 3 && from % 8 != to % 8);
+    }
+    if planted("legal-double") {
+        without(&mut answer, out, |from, to, _| from % 8 == 7 && kind(from) == 0 && from.abs_diff(to) == 16);
+    }
+    let count = answer.value as usize;
+    if planted("legal-behind") && out.len() > count {
+        out[count] = 0;
+    }
+    if planted("legal-order") && count > 30 {
+        out.swap(count - 2, count - 1);
+    }
+    answer
+}
+
+/// A move of a pinned knight is taken for legal; a move that is listed thrice is not seen; the greatest missing move is told; the byte is not judged where
+/// there is one move.
+pub fn list_judged(b: Record, in_check: u8, list: &[u16]) -> Judged {
+    let mut judged = real::list_judged(b, in_check, list);
+    let mover = b.numbers[judged.named as usize % 64];
+    if planted("legal-pinned") && judged.wrong == 1 && [2, 8].contains(&mover) && list.len() as u64 == judged.entries + 1 {
+        (judged.wrong, judged.named) = (0, 0);
+    }
+    if planted("legal-twice") && judged.wrong == 2 && judged.named == list[0] as u64 {
+        (judged.wrong, judged.named) = (0, 0);
+    }
+    if planted("legal-missing") && judged.wrong == 3 {
+        let mut room = [0; 255];
+        let all = real::legal_list(b, &mut room).value as usize;
+        judged.named = room[..all].iter().rev().find(|m| !list.contains(m)).map_or(0, |m| *m as u64);
+    }
+    if planted("legal-byte") && judged.wrong == 4 && judged.entries == 1 {
+        judged.wrong = 0;
+    }
+    judged
+}
+
 /// Of the counters: the clock is kept after a capture by a queen; it is not stopped at 9,999; castling over a man is a capture; a man who goes to his
 /// own square makes a quiet move; any promotion restarts the clock; the move number goes by the colour of the man.
 fn counted_after(b: Record, number: u64, mut after: Stepped) -> Stepped {

@@ -11,7 +11,7 @@ compare: asks the crate chess 3.2.0 and libmenkhodur.a the same and compares eve
 --seed N      of the random inputs; the same seed gives the same run (default 1)
 --part NAME   only this part; may be given again. Parts: fen-read, fen-write, full-read, full-write, page, report, moves,
               san-legal, san-any, san-standard, names, lists, log, log-sorted, log-longer, rolls, differences, pgn, played,
-              after, settled, counters, steps, tests
+              after, settled, legal, counters, steps, tests
 --inputs N    after its fixed inputs (the paper's rows, boundaries, all short texts), each part goes on with random ones
               until N more comparisons are made (default 100000)
 --seconds N   the same, until N seconds have passed since the part began

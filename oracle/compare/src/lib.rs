@@ -9,6 +9,7 @@ pub mod differences;
 pub mod fen;
 pub mod full_fen;
 mod full_rule;
+pub mod legal;
 mod lent;
 pub mod lists;
 pub mod log;

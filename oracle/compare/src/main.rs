@@ -5,14 +5,14 @@ mod args;
 use args::{Options, Request};
 use compare::part::{self, run, Outcome, Part};
 use compare::rules::RULES;
-use compare::{after, counters, differences, fen, full_fen, lists, log, longer, moves, names, page, pgn, played, report, rolls, san, san_standard, settled, steps};
-use compare::tests;
+use compare::{after, counters, differences, fen, full_fen, legal, lists, log, longer, moves, names, page, pgn, played, report, rolls, san, san_standard, settled};
+use compare::{steps, tests};
 use std::process::exit;
 
 /// Runs the part that has this name.
 type Runner = fn(&Options) -> Outcome;
 
-const PARTS: [(&str, Runner); 24] = [
+const PARTS: [(&str, Runner); 25] = [
     (fen::FenRead::NAME, |o| run(fen::FenRead::default(), o.seed, o.budget)),
     (fen::FenWrite::NAME, |o| run(fen::FenWrite::default(), o.seed, o.budget)),
     (full_fen::FullRead::NAME, |o| run(full_fen::FullRead::default(), o.seed, o.budget)),
@@ -34,6 +34,7 @@ const PARTS: [(&str, Runner); 24] = [
     (played::Played::NAME, |o| run(played::Played::new(), o.seed, o.budget)),
     (after::After::NAME, |o| run(after::After::default(), o.seed, o.budget)),
     (settled::Settled::NAME, |o| run(settled::Settled::default(), o.seed, o.budget)),
+    (legal::Legal::NAME, |o| run(legal::Legal::default(), o.seed, o.budget)),
     (counters::CountersPart::NAME, |o| run(counters::CountersPart::new(), o.seed, o.budget)),
     (steps::Steps::NAME, |o| run(steps::Steps, o.seed, o.budget)),
     (tests::Tests::NAME, |o| run(tests::Tests::new(), o.seed, o.budget)),
