@@ -10,6 +10,7 @@ mod full_fen;
 mod game;
 mod keys;
 mod laws;
+mod legal;
 mod lends;
 mod load;
 mod must_use;

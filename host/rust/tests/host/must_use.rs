@@ -3,7 +3,9 @@
 #![deny(unfulfilled_lint_expectations)]
 
 use crate::common::{Parts, play};
-use menkhodur::{Board, CastleRights, Color, Error, Lends, Lent, Move, MoveText, Page, PageReader, Piece, Square, Unplayed, lent};
+use menkhodur::{
+    Board, CastleRights, Color, Error, Lends, Lent, Move, MoveText, Page, PageReader, Piece, Position, Square, Unplayed, lent,
+};
 
 #[test]
 fn steps() {
@@ -50,6 +52,21 @@ fn what_a_board_has() {
     board.get_half_moves();
     #[expect(unused_must_use)]
     board.get_full_moves();
+    #[expect(unused_must_use)]
+    board.in_check();
+    #[expect(unused_must_use)]
+    board.legal_moves();
+}
+
+#[test]
+fn judgements() -> Result<(), Error> {
+    let board = Board::default();
+    // What is wrong is told here alone: the question mark must not be the end of it.
+    #[expect(unused_must_use)]
+    Position { board, in_check: false, list: &[] }.judged()?;
+    #[expect(unused_must_use)]
+    lent::list_judged(lent::Given { record: board.record(), in_check: 0, list: &[] })?;
+    Ok(())
 }
 
 #[test]

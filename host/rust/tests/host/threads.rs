@@ -3,7 +3,7 @@
 use crate::common::play;
 use menkhodur::lent::Record;
 use menkhodur::{ALL_COLORS, Action, Actions, Board, Error, GameResult, Log, Move, Position, Positions, Reason, Roll, Ruling, Square};
-use menkhodur::{GamePositions, Lent, MoveText, PageReader, Played, Report, Unplayed};
+use menkhodur::{GamePositions, Judgement, Laws, Lent, MoveText, PageReader, Played, Report, Unplayed, Wrong};
 use std::thread;
 
 #[test]
@@ -21,6 +21,9 @@ fn everything_is_send_and_sync() {
     both::<PageReader>();
     both::<Report>();
     both::<Lent>();
+    both::<Laws>();
+    both::<Judgement>();
+    both::<Wrong>();
     both::<MoveText<'static>>();
     both::<Played<'static>>();
     both::<Unplayed<Error>>();
