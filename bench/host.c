@@ -6,11 +6,11 @@
  *
  * FEN: the positions of the file, each different; for the full pair with the counters of a game. Page and report: the file's lines, and the lines twice as
  * often, so that each of the second half is a repeat; nanoseconds per line. Lists: the moves of the men of such a position by the way they go (checks,
- * castling and captures in passing left out), of positions with 30 to 38 of them. A move that is played, alone or as the text of a game with its number:
- * one of such a list, by one call and by the older calls that give the same in turn. Logs: 300, 1,024 and 4,096 such moves from the initial position, each
- * with the record after it (host/c/after_rule.h), none of them a capture and about 30 of them a pawn's; the last eight are two men there and back, twice,
- * so that a claim stands by two earlier equal positions, and an offer is at the end: every call is accepted. An archive of before version 12 has another
- * record: it is timed by the bench/host.c of its own commit, which makes the same positions, lists and moves.
+ * castling and captures in passing left out), of positions with 30 to 38 of them. Legal lists: of the file's positions. A move that is played, alone or as
+ * the text of a game with its number: one of such a list, by one call and by the older calls that give the same in turn. Logs: 300, 1,024 and 4,096 such
+ * moves from the initial position, each with the record after it (host/c/after_rule.h), none of them a capture and about 30 of them a pawn's; the last
+ * eight are two men there and back, twice, so that a claim stands by two earlier equal positions, and an offer is at the end: every call is accepted. An
+ * archive of before version 12 has another record: it is timed by the bench/host.c of its own commit, which makes the same positions, lists and moves.
  */
 #define _POSIX_C_SOURCE 199309L
 #include "../host/c/after_rule.h"
@@ -397,6 +397,33 @@ static uint64_t game_step_by_calls(size_t i)
 static uint64_t pgn_next(size_t i) { return menkhodur_pgn_next(scenes[i % scene_count].game, scenes[i % scene_count].game_length, 0, 0).start; }
 static uint64_t pgn_check(size_t i) { return menkhodur_pgn_check(scenes[i % scene_count].game, scenes[i % scene_count].game_length).moves; }
 
+/* The legal moves of a position of the file, and such a list judged. */
+static struct { uint16_t moves[MENKHODUR_LONGEST_LIST]; size_t entries; uint8_t in_check; } legal[MOST];
+
+static void make_legal(void)
+{
+    for (size_t i = 0; i < line_count; i++) {
+        menkhodur_answer written = menkhodur_legal_list(boards[i], legal[i].moves, MENKHODUR_LONGEST_LIST);
+        must(written.number, "a legal list");
+        legal[i].entries = (size_t)written.value;
+        legal[i].in_check = (uint8_t)menkhodur_in_check(boards[i]).value;
+    }
+}
+
+static uint64_t in_check(size_t i) { return menkhodur_in_check(boards[i % line_count]).value; }
+
+static uint64_t legal_list(size_t i)
+{
+    uint16_t out[MENKHODUR_LONGEST_LIST];
+    return menkhodur_legal_list(boards[i % line_count], out, MENKHODUR_LONGEST_LIST).value;
+}
+
+static uint64_t list_judged(size_t i)
+{
+    i %= line_count;
+    return menkhodur_list_judged(boards[i], legal[i].in_check, legal[i].moves, legal[i].entries).wrong;
+}
+
 /* Into a log of its own, so that the others stay good. */
 static uint64_t game_start(size_t i)
 {
@@ -463,6 +490,16 @@ static void print_base(void)
     for (size_t i = 0; i < sizeof rows / sizeof *rows; i++) printf("%-24s %12.1f\n", rows[i].name, best(rows[i].call, 16 * MOST));
 }
 
+static void print_legal(void)
+{
+    static const struct row rows[] = { { "in_check", in_check }, { "legal_list", legal_list }, { "list_judged", list_judged } };
+    printf("%-24s %12s %12s\n", "function", "ns a call", "a second");
+    for (size_t i = 0; i < sizeof rows / sizeof *rows; i++) {
+        double took = best(rows[i].call, 256);
+        printf("%-24s %12.1f %12.0f\n", rows[i].name, took, 1e9 / took);
+    }
+}
+
 static double best_of_pages(uint64_t (*call)(size_t), size_t times)
 {
     make_page(times);
@@ -506,6 +543,7 @@ static void check_calls(void)
     must(game_make_move(0) - MENKHODUR_LOG_FULL + game_can_declare_draw(0) + game_declare_draw(0), "a call on the long log");
     for (size_t i = 0; i < scene_count; i++) must(play(i) != play_by_calls(i) || game_step(i) != play(i) || game_step_by_calls(i) != play(i), "a step");
     for (size_t i = 0; i < line_count; i++) must(fen_read_full(i) + half_moves(i) + full_moves(i), "a full FEN, or a step");
+    for (size_t i = 0; i < line_count; i++) must(list_judged(i), "a legal list is not right");
 }
 
 int main(int argc, char **argv)
@@ -513,6 +551,7 @@ int main(int argc, char **argv)
     size_t entries = 0;
     read_lines(argc > 1 ? argv[1] : "examples/positions.fen");
     make_scenes();
+    make_legal();
     for (size_t i = 0; i < scene_count; i++) entries += scenes[i].entries;
     make_log(&logs[0], 300);
     make_log(&logs[1], 1024);
@@ -522,6 +561,7 @@ int main(int argc, char **argv)
     printf("%zu positions; %zu with lists, %.1f entries each; best of %d rounds\n", line_count, scene_count,
            (double)entries / (double)scene_count, ROUNDS);
     print_base();
+    print_legal();
     print_pages();
     print_log();
     return 0;

@@ -7,6 +7,7 @@
 mod differences;
 mod keys;
 mod laws;
+mod legal;
 mod longer;
 mod page;
 mod pgn;
@@ -299,8 +300,8 @@ fn lines(what: &str, places: &[Place], times: fn(&[&str]) -> Result<(usize, f64,
     }
 }
 
-const PARTS: [&str; 14] =
-    ["fen", "page", "report", "coordinates", "san", "after", "log", "longer", "rolls", "differences", "pgn", "played", "keys", "cli"];
+const PARTS: [&str; 15] =
+    ["fen", "page", "report", "coordinates", "san", "after", "log", "longer", "rolls", "differences", "pgn", "played", "legal", "keys", "cli"];
 
 /// The parts that were named, or all.
 fn parts() -> Vec<String> {
@@ -338,6 +339,7 @@ fn main() {
             "differences" => differences::differences(&mut random),
             "pgn" => pgn::pgn(&mut random),
             "played" => played::played(&places, &mut random),
+            "legal" => legal::legal(&places),
             "keys" => lines("keys, a line of a file", &places, keys::times),
             _ => {
                 lines("menkhodur keys, a line of a file", &places, keys::menkhodur_times);
