@@ -527,7 +527,7 @@ menkhodur_answer menkhodur_san_name_standard(menkhodur_board b, const uint16_t *
  *     an empty square behind that pawn.
  *   - A pawn that arrives on the last rank becomes a knight, bishop, rook or queen, and one that stands there has no move. One on its own
  *     first rank goes one step.
- * Cost: a list looks at every number that a move may have, about a tenth of a millisecond; a judgement makes the list. */
+ * Cost: a list looks at every number that a move may have, tens of microseconds (docs/SPEED.md); a judgement makes the list. */
 
 /* 0: the value is 1 if the side to move is in check, else 0. 5: a record number out of range. */
 menkhodur_answer menkhodur_in_check(menkhodur_board b);

@@ -326,8 +326,8 @@ impl Board {
     }
 
     /// The legal moves by articles 3.1 to 3.10 of the Laws, in rising order of their numbers; `legal_moves()?.moves()` is the list as
-    /// [`Board::name`] and [`Position`](crate::Position) take it. Over it every legal move has a name, in either form. It takes about a tenth
-    /// of a millisecond. Refused: [`Error::ListOutOfRange`] for more than 255 of them, which no game comes to.
+    /// [`Board::name`] and [`Position`](crate::Position) take it. Over it every legal move has a name, in either form. It takes tens of
+    /// microseconds. Refused: [`Error::ListOutOfRange`] for more than 255 of them, which no game comes to.
     ///
     /// ```
     /// use menkhodur::{Board, Error};

@@ -609,8 +609,8 @@ pub fn in_check(record: &Record) -> Result<bool, Error> {
 }
 
 /// Writes the legal moves (FIDE Laws, articles 3.1 to 3.10) in rising order of their numbers, and gives how many there are;
-/// [`MAX_LIST`] is never too little room. It takes about a tenth of a millisecond. Refused: 5, 6 for more than 255 legal moves, 7 with the
-/// number of moves.
+/// [`MAX_LIST`] is never too little room. It takes tens of microseconds. Refused: 5, 6 for more than 255 legal moves, 7 with the number of
+/// moves.
 ///
 /// ```
 /// use menkhodur::{Error, lent};
