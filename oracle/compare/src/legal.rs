@@ -35,6 +35,13 @@ pub struct Input {
     changes: Vec<Change>,
 }
 
+impl Input {
+    /// A position, with the list and the byte that are owed.
+    pub fn of(board: &Board) -> Input {
+        plain(record_of_board(board), vec![])
+    }
+}
+
 /// What is owed to a record in range: its list in rising order, and its byte.
 struct Owed {
     list: Vec<u16>,
@@ -156,7 +163,7 @@ fn positions() -> impl Iterator<Item = Input> {
     let next = |board: Board| moves_of(&board).into_iter().map(move |m| board.make_move_new(m));
     let starts = || STARTS.iter().map(|start| board_of(start));
     let further = starts().take(3).flat_map(next).flat_map(next);
-    starts().chain(starts().flat_map(next)).chain(further).map(|board| plain(record_of_board(&board), vec![]))
+    starts().chain(starts().flat_map(next)).chain(further).map(|board| Input::of(&board))
 }
 
 /// In every room, with each entry gone, twice or another move, and with bytes, lists and records out of range.

@@ -1,6 +1,6 @@
 //! Plays the games of a PGN file on both sides. Every move's text is read, the move named, its name read back and the move
-//! logged; the board after each legal move is computed; every position's key is written and read back; each answer, count and lent byte is
-//! compared with the crate's.
+//! logged; the board after each legal move is computed; every position's legal moves are listed and judged, its key is written and read back; each
+//! answer, count and lent byte is compared with the crate's.
 //! Each game's text is stepped through by the archive's call, and played with its variations, beside the crate's `Board`.
 //! The PGN standard's reader must read each text as that move too, and its namer's name is laid beside the file's own text
 //! without check marks; where they differ, both are shown.
@@ -19,6 +19,7 @@ use chess::Board;
 use compare::after::{self, After};
 use compare::clock::Counters;
 use compare::fen::{self, FenRead, FenWrite};
+use compare::legal::{self, Legal};
 use compare::names::{self, Names};
 use compare::pair::Pair;
 use compare::part::{Part, Tally};
@@ -101,6 +102,7 @@ impl Player {
         for listed in &place.list {
             After::default().compare(&after::Input::Legal(self.pair.board(), self.pair.counters(), *listed), &mut self.tally)?;
         }
+        Legal::default().compare(&legal::Input::of(&self.pair.board()), &mut self.tally)?;
         if !self.pair.act(Act::Move(number), &mut self.tally)? {
             return Err(format!("{:?} is not logged", text));
         }
