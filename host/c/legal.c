@@ -259,6 +259,7 @@ static void check_moves(void)
     /* 3.7.4: the file is the record's, the pawn stands on the fifth rank, and what it takes is a pawn of the other side. */
     check_move("8/8/8/8/3Pp3/8/8/K6k b - d3", "e4d3", true);
     check_move("8/8/8/3PpP2/8/8/8/K6k w - e6", "f5e6", true);
+    check_move("8/8/8/3PpP2/8/8/8/K6k w - -", "f5e6", false);
     check_move("8/8/8/3Pn3/8/8/8/K6k w - e6", "d5e6", false);
     check_move("8/8/8/3PP3/8/8/8/K6k w - e6", "d5e6", false);
     check_move("8/8/3Pp3/8/8/8/8/K6k w - e6", "d6e7", false);
@@ -389,6 +390,9 @@ static void check_refusals(void)
     memcpy(list, l.moves, 2 * l.count);
     for (size_t at = l.count; at < ENTRIES; at++) list[at] = list[at % l.count];
     for (size_t i = 0; i < sizeof lengths / sizeof *lengths; i++) check_judged(&initial, &l, 0, list, lengths[i]);
+    list[3] = 7;
+    list[11] = 9;
+    check_judged(&initial, &l, 0, list, 20);
     list[19] = UINT16_MAX;
     check_judged(&initial, &l, 0, list, 20);
     for (unsigned byte = 0; byte < 256; byte++) check_judged(&initial, &l, (uint8_t)byte, l.moves, l.count);
