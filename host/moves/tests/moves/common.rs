@@ -1,5 +1,5 @@
 use menkhodur::lent::{self, Record};
-use menkhodur::{Lent, Move};
+use menkhodur::{Board, Lent, Move};
 
 /// The six positions whose counts of leaves are known: the start, "kiwipete", and four more, as the chess programming wiki numbers them.
 pub const USUAL: [&str; 6] = [
@@ -20,6 +20,11 @@ pub fn legal(record: &Record) -> Vec<u16> {
     let mut list = Lent::new();
     menkhodur_moves::legal(record, &mut list).unwrap();
     list.as_slice().to_vec()
+}
+
+/// The legal moves, as the archive lists them.
+pub fn proved(record: &Record) -> Vec<u16> {
+    Board::from_record(record).unwrap().legal_moves().unwrap().as_slice().to_vec()
 }
 
 /// Moves as coordinates, sorted as texts.

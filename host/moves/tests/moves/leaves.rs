@@ -1,15 +1,17 @@
 //! Counts of leaves of the six usual positions, as the chess programming wiki tells them, played on by the archive's record after a move.
 
-use crate::common::{USUAL, legal, read};
+use crate::common::{USUAL, legal, proved, read};
 use menkhodur::lent::{self, Record};
 use menkhodur_moves::in_check;
 
-fn leaves(record: &Record, depth: usize) -> u64 {
-    let list = legal(record);
+type List = fn(&Record) -> Vec<u16>;
+
+fn leaves(list: List, record: &Record, depth: usize) -> u64 {
+    let moves = list(record);
     if depth == 1 {
-        return list.len() as u64;
+        return moves.len() as u64;
     }
-    list.iter().map(|number| leaves(&lent::board_after(record, (*number).into()).unwrap(), depth - 1)).sum()
+    moves.iter().map(|number| leaves(list, &lent::board_after(record, (*number).into()).unwrap(), depth - 1)).sum()
 }
 
 /// From depth 1 on.
@@ -22,23 +24,35 @@ const COUNTS: [&[u64]; 6] = [
     &[46, 2_079, 89_890, 3_894_594, 164_075_551],
 ];
 
-fn check(wanted: impl Fn(u64) -> bool) {
+fn check(list: List, wanted: impl Fn(u64) -> bool) {
     for (fen, counts) in USUAL.iter().zip(COUNTS) {
         for (depth, count) in (1..).zip(counts).filter(|(_, count)| wanted(**count)) {
-            assert_eq!(leaves(&read(fen), depth), *count, "{fen} {depth}");
+            assert_eq!(leaves(list, &read(fen), depth), *count, "{fen} {depth}");
         }
     }
 }
 
 #[test]
 fn known_counts() {
-    check(|count| count < 20_000_000);
+    check(legal, |count| count < 20_000_000);
 }
 
 #[test]
 #[ignore = "takes some seconds"]
 fn known_counts_of_many() {
-    check(|count| count >= 20_000_000);
+    check(legal, |count| count >= 20_000_000);
+}
+
+#[test]
+fn known_counts_of_the_archive() {
+    check(proved, |count| count < 50_000);
+}
+
+/// To depth 4 of all, and to 5 of two.
+#[test]
+#[ignore = "takes a minute"]
+fn known_deep_counts_of_the_archive() {
+    check(proved, |count| (50_000..5_000_000).contains(&count));
 }
 
 /// Of the last moves: captures, those in passing, castlings, promotions; and of the leaves: checks and mates.

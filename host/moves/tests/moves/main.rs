@@ -1,7 +1,8 @@
-//! The generator against known counts, against a second one that is plain and slow, and through the archive's reader.
+//! The generator against known counts, against a second one that is plain and slow, against the archive's, and through the archive's reader.
 
 mod common;
 mod leaves;
 mod narrowed;
 mod plain;
+mod proved;
 mod rules;
