@@ -115,7 +115,7 @@ impl Entry {
         }
     }
 
-    pub fn object(&self) -> String {
+    pub fn object(&self) -> Object {
         let kind = match self.what {
             What::Start => "start",
             What::Move(..) => "move",
@@ -132,7 +132,7 @@ impl Entry {
             _ => object,
         };
         let object = self.placed(object).raw_or_null("in_check", self.known.map(|known| known.in_check));
-        object.raw_or_null("list", self.known.map(|known| known.list)).end()
+        object.raw_or_null("list", self.known.map(|known| known.list))
     }
 
     /// The position: its key, and its FEN with the counters, which are no part of a key.
@@ -140,6 +140,15 @@ impl Entry {
         let object = object.text("key", &self.board.to_fen()).text("fen", &self.board.to_fen_full());
         object.raw("half_moves", self.board.get_half_moves()).raw("full_moves", self.board.get_full_moves())
     }
+}
+
+/// Where the entry is of the move after which so many were made; the start's for 0.
+pub fn place(entries: &[Entry], moves: usize) -> usize {
+    entries.partition_point(|entry| entry.moves < moves)
+}
+
+pub fn after(entries: &[Entry], moves: usize) -> &Entry {
+    &entries[place(entries, moves)]
 }
 
 /// The number of a move as people write it, by the position that it is made in: `4.` for white's and `4...` for black's.

@@ -16,6 +16,7 @@ mod json;
 mod judged;
 mod keys;
 mod layout;
+mod lists;
 mod man;
 mod markup;
 mod men;

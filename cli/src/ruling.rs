@@ -3,6 +3,7 @@
 use crate::drawn::Drawn;
 use crate::entry::{self, Entry, What};
 use crate::json::{self, Object};
+use crate::lists::Lists;
 use crate::options::{Asked, Flag, Status, Stop};
 use crate::output::Output;
 use crate::page;
@@ -29,7 +30,7 @@ pub fn run(asked: &Asked) -> Result<Status, Stop> {
         }
         (_, fault) => return Err(not_good(asked, &stored, fault.as_ref())),
     };
-    let case = Case::of(&stored, &log);
+    let case = Case::of(&stored, &log, Lists::of(asked, &log));
     if as_page {
         return page::put(asked, &page::ruled::of(&case, notice.as_deref(), &asked.words), case.status());
     }
@@ -75,6 +76,8 @@ pub struct Case {
     pub laws_since: Since,
     /// Whether no claim is needed any more.
     pub drawn: Option<Drawn>,
+    /// The lists that it rests on, if they were judged.
+    pub lists: Option<Lists>,
 }
 
 pub const RIGHTS: &str = "a change of castling rights";
@@ -86,23 +89,25 @@ pub struct Since {
 
 impl Case {
     /// The case of a log, which is the beginning of what is stored.
-    pub fn of(stored: &Stored, log: &Log) -> Case {
+    pub fn of(stored: &Stored, log: &Log, lists: Option<Lists>) -> Case {
         let (entries, ruling) = (entry::of_log(log), log.ruling());
-        let since = |count: usize| Since { moves: ruling.moves - count, by: causes_at(&entries, place(&entries, ruling.moves - count)) };
+        let since =
+            |count: usize| Since { moves: ruling.moves - count, by: causes_at(&entries, entry::place(&entries, ruling.moves - count)) };
         let (since, mut laws_since) = (since(ruling.count), since(ruling.laws_count));
         // The move that began the Laws' count may have changed rights too, but that is not what began it.
         laws_since.by.retain(|cause| *cause != RIGHTS);
         let (equal, drawn) = (equal(log, &ruling), Drawn::of(stored, log, &entries, &ruling));
-        Case { entries, ruling, equal, since, laws_since, drawn }
+        Case { entries, ruling, equal, since, laws_since, drawn, lists }
     }
 
     pub fn status(&self) -> Status {
-        if self.ruling.laws_claim.or(self.ruling.claim).is_some() { Status::Well } else { Status::Found }
+        let ruled = if self.ruling.laws_claim.or(self.ruling.claim).is_some() { Status::Well } else { Status::Found };
+        self.lists.as_ref().map_or(ruled, |lists| lists.status().max(ruled))
     }
 
     /// The entry of the move after which so many were made; the start for 0.
     pub fn after(&self, moves: usize) -> &Entry {
-        &self.entries[place(&self.entries, moves)]
+        entry::after(&self.entries, moves)
     }
 
     /// `the start`, or `move 8 (4... Ng8)`: the log's own number, and the one on a score sheet.
@@ -126,6 +131,7 @@ impl Case {
             row("count", count),
             row("Laws' count", laws_count),
             row("equal", self.equals()),
+            self.lists.as_ref().map_or(String::new(), |lists| lists.written(&self.entries)),
         ];
         rows.concat()
     }
@@ -220,12 +226,9 @@ impl Case {
         };
         let object = object.raw("equals", ruling.equals).raw("equal", json::array(self.equal.iter().map(position)));
         let object = object.raw("last", position(&ruling.moves));
-        object.raw("game", json::array(self.entries.iter().map(Entry::object))).end()
+        let object = self.lists.iter().fold(object, |object, lists| object.raw("judged", lists.object()));
+        object.raw("game", json::array(self.entries.iter().map(|entry| entry.object().end()))).end()
     }
-}
-
-fn place(entries: &[Entry], moves: usize) -> usize {
-    entries.partition_point(|entry| entry.moves < moves)
 }
 
 /// What about the move of an entry empties the crate's count; nothing does at the start. The archive tells where a count

@@ -3,7 +3,7 @@
 
 use crate::import::shelf;
 use crate::options::{Argument, Command, Example, Flag, Takes};
-use crate::{completion, diff, explain, export, found, help, import, keys, man, page, pgn, report, roll, ruling, show};
+use crate::{completion, diff, explain, export, found, help, import, keys, lists, man, page, pgn, report, roll, ruling, show};
 use std::ffi::OsStr;
 
 pub const ABOUT: &str = "FEN keys, explanations and reports, PGN games and their import into a store, rulings, stored logs, rolls, and what differs \
@@ -43,6 +43,13 @@ const WHICH_KIND: &str = "The same bytes can be an old roll and a new one, with 
 
 const NOT_GOOD: &str = "If a log is not good, standard error says so, with the file that is at fault and the first action that does not stand; where a \
                         move came with another position than it leads to, with both, and with each counter that differs.";
+
+const JUDGED: &str = "A log believes the list of moves, and whether the side to move is in check, that a host lent with each position. With --judge each is compared \
+                      with the legal moves by articles 3.1 to 3.10 of the Laws, which the proved archive lists itself. Of each position where something \
+                      is wrong the first thing is told, with the position's number, which is that of the moves that led to it, 0 for the start: a \
+                      listed move that is not legal, one that is listed twice, a legal one that is not listed, or who is in check. A move has its \
+                      name by the position's own list, else by the legal one, and its coordinates. If nothing is wrong, that is said, with the \
+                      number of positions. The order of a list does not matter.";
 
 const WHOLE: &str = "A file is written whole or not at all: to one beside it, .menkhodur-PROCESS-N, which then takes its place. One that exists is \
                      left alone, unless there is --force; then it is replaced and keeps its permissions. Only a regular file is replaced. If the \
@@ -384,7 +391,7 @@ pub const COMMANDS: &[Command] = &[
         name: "ruling",
         about: "a stored game, its result, and whether a draw may be claimed",
         forms: &[LOG],
-        flags: &[ruling::AT, page::HTML, roll::FORCE, ruling::JSON],
+        flags: &[ruling::AT, lists::JUDGE, page::HTML, roll::FORCE, ruling::JSON],
         text: &[
             "Prints the start with its counters; the game, each move by its name from the stored lists and with its number by the position \
              that it was made in, with offers and resignations; the result; the ruling by the crate's count and by that of article 9.3 of the Laws; and what \
@@ -397,6 +404,7 @@ pub const COMMANDS: &[Command] = &[
              exit status do not know it.",
             NOT_GOOD,
             "With --at the actions after N need not stand.",
+            JUDGED,
             "With --html a page is written, for people to look at, to print on A4 and to send: the ruling in one sentence with its article; the equal \
              positions side by side, the squares of the last move marked; the counts over the game; the score sheet, on which the evidence is marked \
              and each move leads to its diagram. Of a log that is not good it shows the action that does not stand, and where a move came with \
@@ -404,9 +412,10 @@ pub const COMMANDS: &[Command] = &[
             PAGE,
             WHOLE,
             "The object of --json has actions, moves, result, claim and laws_claim in words and as numbers, drawn (null, or moves, action, articles and \
-             reasons), count with count_since, laws_count with laws_since, equals, equal and last, and as game the objects of `menkhodur show`.",
+             reasons), count with count_since, laws_count with laws_since, equals, equal and last, and as game the objects of `menkhodur show`; with \
+             --judge also judged, which has positions and as wrong the objects that `menkhodur show` has as judged.",
         ],
-        statuses: &["a claim stands, by the log's rules or only by the Laws", "none stands"],
+        statuses: &["a claim stands, by the log's rules or only by the Laws", "none stands, or with --judge something is wrong"],
         trouble: "a log that is not good (with --at: up to N), or that has fewer actions than N; files that are not a log's parts by their size; \
                   a FILE that exists, without --force",
         examples: &[
@@ -422,7 +431,7 @@ pub const COMMANDS: &[Command] = &[
         name: "show",
         about: "a roll or a stored log as text, one action per line",
         forms: &[&[file("ROLL", "a game's start and its actions as bytes")], LOG],
-        flags: &[show::OLD, page::HTML, roll::FORCE, show::JSON],
+        flags: &[show::OLD, lists::JUDGE, page::HTML, roll::FORCE, show::JSON],
         text: &[
             "Prints a line for the start, as action 0, and for each action: its number, how many moves have been made, the side, the move's \
              name or what else was done, the length of the list of the position after it, and that position's full FEN, which ends in its \
@@ -433,20 +442,27 @@ pub const COMMANDS: &[Command] = &[
             WHICH_KIND,
             NOT_GOOD,
             "Of a log that is not good, what stands is printed.",
+            JUDGED,
             "With --html a page is written: the score sheet, and a diagram of each position with its FEN.",
             PAGE,
             WHOLE,
             "An object of --json has action, moves, side, kind (start, move, offer, accept, declare, resign), key, fen (the full one), \
              half_moves, full_moves, in_check and list; that of a move has name, null if no text names it, and coordinates. Of a roll, name, \
-             in_check and list are null.",
+             in_check and list are null. With --judge it has judged, null if nothing is wrong with the position after it, else position; wrong, 1 to 4 \
+             in the order above, null if there are more legal moves than a list may have; reason; name and coordinates of the move, null if none \
+             is told; and in_check and list as they should be.",
         ],
-        statuses: &["the log is good, or the roll is one"],
+        statuses: &["the log is good, or the roll is one (with --judge: and nothing is wrong)", "with --judge: something is wrong"],
         trouble: "a log that is not good; a roll that is refused, 5, 13 or 17 as for `menkhodur diff`; files that are not a log's parts by their size; \
                   a FILE that exists, without --force",
         examples: &[
             Example { command: "menkhodur show game.roll", about: "every action of a game, and the position after it" },
             Example { command: "menkhodur show game.actions game.positions", about: "the same of a log, with the names of its moves" },
             Example { command: "menkhodur show --html game.html game.roll", about: "a diagram of each position" },
+            Example {
+                command: "menkhodur show --judge game.actions game.positions | sed -n '/^judged/,$p'",
+                about: "whether the lists that a log was lent are right",
+            },
         ],
         run: show::run,
     },

@@ -9,7 +9,9 @@ mod sheet;
 pub mod shown;
 mod strip;
 
+use crate::entry::Entry;
 use crate::input;
+use crate::lists::Lists;
 use crate::markup::{Markup, element, empty};
 use crate::options::{Asked, Flag, Status, Stop};
 use crate::roll;
@@ -65,6 +67,14 @@ fn footer(words: &[OsString]) -> Markup {
     let all = names.fold(first, |all, next| all.then(Markup::text(" and ")).then(next));
     let about = ". Positions, names, counts and what is equal are the proved archive's; the words are the program's.";
     element("footer", &[], Markup::text("Made by menkhodur from ").then(all).then(Markup::text(about))).line()
+}
+
+/// What came of the lists, if they were judged: each position that is wrong stands out.
+fn judged(lists: Option<&Lists>, entries: &[Entry]) -> Markup {
+    lists.map_or(Markup::NONE, |lists| {
+        let each = lists.each(entries).map(|told| element("p", &[("class", "fault")], Markup::text(told)).line());
+        paragraph(format!("Judged: {}.", lists.told())).then(each.collect())
+    })
 }
 
 fn heading(text: &str) -> Markup {

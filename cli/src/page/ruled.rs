@@ -2,7 +2,7 @@
 
 use super::figure::{self, figure};
 use super::sheet::{Marks, sheet};
-use super::{heading, page, paragraph, sentence, strip};
+use super::{heading, judged, page, paragraph, sentence, strip};
 use crate::drawn::Drawn;
 use crate::markup::{Markup, element};
 use crate::ruling::Case;
@@ -20,6 +20,7 @@ pub fn of(case: &Case, notice: Option<&[u8]>, words: &[OsString]) -> Markup {
         element("h1", &[], Markup::text(&said)).line(),
         notice,
         paragraph(format!("Result of the log: {}.", case.result())),
+        judged(case.lists.as_ref(), &case.entries),
         five_times(case),
         heading("The position on the board, and where it stood before"),
         paragraph(stood(case.equal.len())),

@@ -114,6 +114,17 @@ fn show_prints_every_action_as_the_crate_has_it() {
     }
 }
 
+/// The crate's own lists are right.
+#[test]
+fn show_judges_the_lists_of_every_game() {
+    for game in games() {
+        let (ran, moves) = (run(&game.words(&["show", "--judge"]), b""), game.moves());
+        let positions = if moves == 0 { "1 position".to_string() } else { format!("{} positions", moves + 1) };
+        let judged = format!("\njudged       {positions}: each list has the legal moves, and who is in check is said rightly\n");
+        assert_eq!((ran.text(), ran.err.as_str(), ran.status), ((shown(&game) + &judged).as_str(), "", 0));
+    }
+}
+
 /// What `show` owes the game's roll: no names and no lists.
 fn shown_of_roll(told: &[Told]) -> String {
     let line = |told: &Told| {

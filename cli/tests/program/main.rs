@@ -11,6 +11,7 @@ mod figures;
 mod found;
 mod games;
 mod import;
+mod judged;
 mod keys;
 mod logs;
 mod made;
