@@ -16,7 +16,7 @@ pub struct Lists {
 }
 
 /// What is wrong with a position of a log: the first thing that is.
-pub struct Finding {
+struct Finding {
     /// Its number: how many moves led to it.
     moves: usize,
     /// None: the position has more legal moves than a list may have.
@@ -47,7 +47,7 @@ impl Lists {
 
     /// What came of it, in words.
     pub fn told(&self) -> String {
-        match (self.wrong.len() as u64, told::counted(self.positions as u64, "position")) {
+        match (self.wrong.len(), told::counted(self.positions as u64, "position")) {
             (0, positions) => format!("{positions}: each list has the legal moves, and who is in check is said rightly"),
             (wrong, positions) => format!("{positions}, {wrong} of them wrong by the Laws"),
         }
