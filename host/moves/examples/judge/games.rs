@@ -4,6 +4,11 @@ use crate::lists::Lists;
 use menkhodur::{Board, MoveText, Played};
 use std::fs;
 
+/// What a file is called in its folder.
+pub fn name(file: &str) -> &str {
+    file.rsplit('/').next().unwrap_or(file)
+}
+
 /// The move texts of a file, in order: what stands between lines of tags.
 pub fn of(text: &[u8]) -> Vec<&[u8]> {
     let (mut texts, mut start, mut end) = (Vec::new(), 0, 0);
@@ -37,7 +42,8 @@ pub fn judge(lists: Lists, files: &[&str]) -> Result<bool, String> {
         of(&text).into_iter().for_each(|moves| seen.game(lists, moves));
         let Seen { games, moves, checks, mates, untold, different } = seen;
         println!(
-            "{file}: {games} games, {moves} moves; {checks} told as check, {mates} as mate, and {untold} checks not told; {different} different"
+            "{}: {games} games, {moves} moves; {checks} told as check or mate, {mates} as mate, {untold} checks not told; {different} different",
+            name(file)
         );
         all &= different == 0;
     }

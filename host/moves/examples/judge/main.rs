@@ -52,7 +52,7 @@ fn judge(lists: Lists, words: &[&str]) -> Result<bool, String> {
 fn compare(lists: Lists, other: Other, command: &str, words: &[&str]) -> Result<bool, String> {
     let [count, seed, files @ ..] = words else { return Err(USAGE.into()) };
     let (count, seed) = (count.parse().map_err(|_| USAGE)?, seed.parse().map_err(|_| USAGE)?);
-    let name = command.rsplit('/').next().unwrap_or(command);
+    let name = games::name(command);
     let mut different = 0;
     for (kind, records) in positions::all(count, seed, files)? {
         let mut child = other.start(command).map_err(|error| format!("{command}: {error}"))?;

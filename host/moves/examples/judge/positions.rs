@@ -21,7 +21,7 @@ impl Random {
 /// Each kind with its positions.
 pub fn all(count: usize, seed: u64, files: &[&str]) -> Result<Vec<(String, Vec<Record>)>, String> {
     let mut random = Random((seed + 1).wrapping_mul(0x9e37_79b9_7f4a_7c15));
-    let of_file = |file: &&str| Ok((file.to_string(), filed(file)?));
+    let of_file = |file: &&str| Ok((games::name(file).to_string(), filed(file)?));
     let mut kinds: Vec<(String, Vec<Record>)> = files.iter().map(of_file).collect::<Result<_, String>>()?;
     let mut games = Vec::new();
     while games.len() < count {
