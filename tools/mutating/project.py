@@ -101,7 +101,7 @@ class Project:
         self.types, self.constants, self.records, self.variants = {}, {}, [], {}
         self.gather_types()
         self.gather_code_types()
-        self.rows = {}  # module of proofs/ -> the declarations that are rows
+        self.rows, self.under_rows = {}, {}  # module of proofs/ -> the declarations that are rows; -> what they reach
         self.find_rows()
         self.by_host = self.reached(self.cited(['menkhodur']))
         self.by_contract = self.reached(self.cited(self.below_crate))
@@ -192,6 +192,13 @@ class Project:
         if not re.match(re.escape(declaration.name) + r'\s*=', body) or not re.search(r'\brefl\b', body) or A_TACTIC.search(body):
             return False
         return not (set(TOKEN.findall(declaration.type + ' ' + body)) & set(module.declared)) - {declaration.name}
+
+    def reached_by_rows(self, key):
+        """What the rows of a file compute with: only its mutants can be refused there."""
+        if key not in self.under_rows:
+            names = self.resolve(self.modules[key])
+            self.under_rows[key] = self.reached({names[token] for row in self.rows[key] for token in TOKEN.findall(row.type) if token in names})
+        return self.under_rows[key]
 
     # ---- what is reached
 
