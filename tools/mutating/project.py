@@ -193,12 +193,12 @@ class Project:
             return False
         return not (set(TOKEN.findall(declaration.type + ' ' + body)) & set(module.declared)) - {declaration.name}
 
-    def reached_by_rows(self, key):
-        """What the rows of a file compute with: only its mutants can be refused there."""
+    def rows_reaching(self, key, place):
+        """The rows of a file that compute with a definition: no other can refuse its mutants."""
         if key not in self.under_rows:
             names = self.resolve(self.modules[key])
-            self.under_rows[key] = self.reached({names[token] for row in self.rows[key] for token in TOKEN.findall(row.type) if token in names})
-        return self.under_rows[key]
+            self.under_rows[key] = [(row, self.reached({names[token] for token in TOKEN.findall(row.type) if token in names})) for row in self.rows[key]]
+        return [row for row, reached in self.under_rows[key] if place is None or place in reached]
 
     # ---- what is reached
 

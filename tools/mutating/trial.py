@@ -21,6 +21,7 @@ class Try:
     def __init__(self, number, mutant, rows):
         self.number, self.mutant, self.rows = number, mutant, rows
         self.key = mutant.module.key if mutant else None
+        self.place = (mutant.module.key, mutant.definition.name) if mutant else None
 
 
 def kit():
@@ -82,25 +83,28 @@ class Prover:
                     others.setdefault(one.name, []).append(below)
         return own, {name: where[0] for name, where in sorted(others.items()) if len(where) == 1}
 
-    def row_file(self, key):
-        """A file of rows, each row with every unfoldable definition below it: so that a row is refused because it computes to something else, and not because
-        a changed definition calls one that the row does not unfold. Also which line is which row."""
-        if key in self.row_files:
-            return self.row_files[key]
-        module = self.project.modules[key]
-        own, others = self.unfoldable_below(key)
+    def row_file(self, key, place):
+        """Those rows of a file that reach a definition, each with every unfoldable definition below it: so that a row is refused because it computes to
+        something else, and not because a changed definition calls one that the row does not unfold. Also which line is which row."""
+        rows = self.project.rows_reaching(key, place)
+        known = (key, tuple(row.name for row in rows))
+        if known not in self.row_files:
+            self.row_files[known] = self.rows_with_lines(self.project.modules[key], rows)
+        return self.row_files[known]
+
+    def rows_with_lines(self, module, rows):
+        own, others = self.unfoldable_below(module.key)
         lines = [line for line in module.text.split('\n') if line.startswith('use ')]
         lines += [f'use Rattle.{where[0]}.specs.{where[2]}.{{{name}}}' for name, where in others.items()]
-        rows = {}
-        for one in self.project.rows[key]:
+        names = {}
+        for one in rows:
             lines += ['', *f'pub {one.name} : {one.type}'.split('\n')]
             lines += ['unfolding ' + ' '.join(own + list(others))] if own or others else []
             for line in module.body(one).split('\n'):
                 lines.append(line)
                 field = re.match(r'\s+([^\s=]+) =', line)
-                rows[len(lines)] = f'{one.name}.{field.group(1)}' if field else one.name
-        self.row_files[key] = '\n'.join(lines) + '\n', rows
-        return self.row_files[key]
+                names[len(lines)] = f'{one.name}.{field.group(1)}' if field else one.name
+        return '\n'.join(lines) + '\n', names
 
     def make(self, folder, tries):
         """Writes the made crate; returns the crates that it uses."""
@@ -111,7 +115,7 @@ class Prover:
         for one in tries:
             copied = self.copied(one)
             for key in sorted(copied):
-                text = self.row_file(key)[0] if key in one.rows else one.mutant.text() if key == one.key else self.project.modules[key].text
+                text = self.row_file(key, one.place)[0] if key in one.rows else one.mutant.text() if key == one.key else self.project.modules[key].text
                 text = self.led(text, one.number, copied)
                 used |= set(re.findall(r'Rattle·([A-Za-z0-9_]+)\.', text))
                 write(f'{folder}/{key[1]}/{label(one.number, key)}.antt', text)
@@ -166,14 +170,14 @@ class Prover:
 
     def heard(self, folder, text, tries):
         void, refused = {}, {}
-        labels = {label(one.number, key): (one.number, key) for one in tries for key in one.rows}
+        labels = {label(one.number, key): (one.place, key) for one in tries for key in one.rows}
         for found in re.finditer(rf'(?m)^{re.escape(folder)}/(specs|proofs)/(M(\d+)\w+)\.antt:(\d+):\d+: error: (.*)$', text):
             library, name, number, line, why = found.groups()
             if library == 'specs':
                 void.setdefault(int(number), []).append(f'{name}: {why[:160]}')
             else:
-                key = labels[name][1]
-                row = self.row_file(key)[1].get(int(line), f'line {line}')
+                place, key = labels[name]
+                row = self.row_file(key, place)[1].get(int(line), f'line {line}')
                 refused.setdefault(int(number), set()).add(f'{key[0]}/{key[2]}:{row}')
         found = {}
         for one in tries:
