@@ -1,19 +1,13 @@
 -- Records: each row computed.
 -- Assumes nothing.
 use mathlib.Core.Path.{refl}
-use Rattle.answer.specs.Ascii.{ascii}
 use Rattle.answer.specs.Numbers.{allAtMost}
-use Rattle.square.specs.Piece.{letterOf}
-use Rattle.decimal.specs.Decimal.{decimal, digits}
-use Rattle.castle_rights.specs.CastleRights.{lettersOf, lettersText}
 use Rattle.board_builder.specs.BoardBuilder.{inRange, numbers, numbersInRange}
 use Rattle.board_builder.specs.Steps.{step}
-use Rattle.fen_text.specs.Write.{digitText, enPassantText, fullTail, fullText, ranksText, rightsText, runText, slashText}
 use Rattle.number_rows.specs.Records.{RecordNumbers, RangesOfRecords, RecordsAsked, StepsOnMen, StepsOnTheRest, RightsInNumbers}
 
 pub record-numbers : RecordNumbers
-unfolding ascii allAtMost letterOf decimal digits lettersOf lettersText inRange numbers numbersInRange step digitText enPassantText fullTail fullText ranksText
-    rightsText runText slashText
+unfolding allAtMost inRange numbers numbersInRange step
 record-numbers = record {
   counted = refl;
   beginning = refl;
@@ -29,12 +23,10 @@ record-numbers = record {
   of-squares-alone = refl;
   empty = refl;
   zeros = refl;
-  initial = refl;
 }
 
 pub ranges-of-records : RangesOfRecords
-unfolding ascii allAtMost letterOf decimal digits lettersOf lettersText inRange numbers numbersInRange step digitText enPassantText fullTail fullText ranksText
-    rightsText runText slashText
+unfolding allAtMost inRange numbers numbersInRange step
 ranges-of-records = record {
   least = refl;
   most = refl;
@@ -55,8 +47,7 @@ ranges-of-records = record {
 }
 
 pub records-asked : RecordsAsked
-unfolding ascii allAtMost letterOf decimal digits lettersOf lettersText inRange numbers numbersInRange step digitText enPassantText fullTail fullText ranksText
-    rightsText runText slashText
+unfolding allAtMost inRange numbers numbersInRange step
 records-asked = record {
   on-b2 = refl;
   on-h8 = refl;
@@ -75,8 +66,7 @@ records-asked = record {
 }
 
 pub steps-on-men : StepsOnMen
-unfolding ascii allAtMost letterOf decimal digits lettersOf lettersText inRange numbers numbersInRange step digitText enPassantText fullTail fullText ranksText
-    rightsText runText slashText
+unfolding allAtMost inRange numbers numbersInRange step
 steps-on-men = record {
   pawn-on-c2 = refl;
   king-on-h8 = refl;
@@ -91,8 +81,7 @@ steps-on-men = record {
 }
 
 pub steps-on-the-rest : StepsOnTheRest
-unfolding ascii allAtMost letterOf decimal digits lettersOf lettersText inRange numbers numbersInRange step digitText enPassantText fullTail fullText ranksText
-    rightsText runText slashText
+unfolding allAtMost inRange numbers numbersInRange step
 steps-on-the-rest = record {
   white = refl;
   black = refl;
@@ -113,8 +102,7 @@ steps-on-the-rest = record {
 }
 
 pub rights-in-numbers : RightsInNumbers
-unfolding ascii allAtMost letterOf decimal digits lettersOf lettersText inRange numbers numbersInRange step digitText enPassantText fullTail fullText ranksText
-    rightsText runText slashText
+unfolding allAtMost inRange numbers numbersInRange step
 rights-in-numbers = record {
   last = refl;
   past-it = refl;

@@ -6,15 +6,13 @@ use mathlib.Core.Path.{_≡_}
 use mathlib.Core.Bool.{true, false}
 use mathlib.Core.List.{List, [], _∷_, _++_}
 use lib.ListN.{replicate}
-use Rattle.answer.specs.Ascii.{ascii}
 use Rattle.castle_rights.specs.CastleRights.{fromIndex, hasKing, hasQueen, rookRights, lettersCheck}
 use Rattle.board_builder.specs.declared.BoardBuilder.{BoardBuilder}
 use Rattle.board_builder.specs.declared.Stepped.{Stepped}
 use Rattle.board_builder.specs.BoardBuilder.{boardCounted, board, withCounters, uncounted, numbers, allNumbers, squares, recordSize, lastCount, inRange}
-use Rattle.board_builder.specs.BoardBuilder.{sideAt, whiteRightsAt, blackRightsAt, fileAt, boardOf, numbersInRange, emptyBoard, noBoard, initialBoard}
+use Rattle.board_builder.specs.BoardBuilder.{sideAt, whiteRightsAt, blackRightsAt, fileAt, boardOf, numbersInRange, emptyBoard, noBoard}
 use Rattle.board_builder.specs.Getters.{pieceOn, sideAnswer, rightsAnswer, enPassantSquare}
 use Rattle.board_builder.specs.Steps.{setPiece, clearSquare, setSide, setRights, setEnPassant, setHalfMoves, setFullMoves}
-use Rattle.fen_text.specs.Write.{fullText}
 use Rattle.number_rows.specs.Answers.{says}
 
 -- 70 numbers; and a number with a record
@@ -62,7 +60,6 @@ pub record RecordNumbers : Type 0 where
   pub of-squares-alone : boardOf (aMan 9 5) ≡ seventy (aMan 9 5) 0 0 0 0 0 1
   pub empty : emptyBoard ≡ seventy (replicate 64 0) 0 0 0 0 0 1
   pub zeros : noBoard ≡ seventy (replicate 64 0) 0 0 0 0 0 0
-  pub initial : fullText initialBoard ≡ ascii "rnbqkbnr/pppppppp/8/8/8/8/PPPPPPPP/RNBQKBNR w KQkq - 0 1"
 
 pub record RangesOfRecords : Type 0 where
   pub least : inRange (seventy (replicate 64 0) 0 0 0 0 0 1) ≡ true

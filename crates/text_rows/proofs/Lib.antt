@@ -1,0 +1,4 @@
+pub mod KeyLines
+pub mod Fens
+pub mod Reports
+pub mod SettledRows
