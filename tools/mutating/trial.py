@@ -129,7 +129,7 @@ class Prover:
     def command(self, folder, used):
         home, own = kit()
         built = f'{self.project.root}/target/rlib'
-        words = ['nice', '-n', '5', f'{own}/bin/rattle', 'check', '--crate-name', 'mutants', f'{folder}/src/lib.rt', '--extern', f'std={own}/rlib/std.rlib']
+        words = [f'{own}/bin/rattle', 'check', '--crate-name', 'mutants', f'{folder}/src/lib.rt', '--extern', f'std={own}/rlib/std.rlib']
         for crate in used:
             words += ['--extern', f'{crate}={built}/{crate}.rlib']
         return words + ['-L', f'dependency={built}', '-L', f'dependency={own}/rlib', '--antt-project', f'{home}/logic/antt-project.json',

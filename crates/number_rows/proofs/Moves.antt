@@ -49,6 +49,7 @@ move-texts-not-read = record {
   one-byte = record { now = refl; before = refl };
   two-bytes = record { now = refl; before = refl };
   three-bytes = record { now = refl; before = refl };
+  two-bad-bytes = record { now = refl; before = refl };
   before-a = record { now = refl; before = refl };
   after-h = record { now = refl; before = refl };
   before-1 = record { now = refl; before = refl };

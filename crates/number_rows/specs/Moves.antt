@@ -64,6 +64,7 @@ pub record MoveTextsNotRead : Type 0 where
   pub one-byte : NotRead "e" 3 1
   pub two-bytes : NotRead "e2" 3 2
   pub three-bytes : NotRead "e2e" 3 3
+  pub two-bad-bytes : NotRead "i2" 2 0
   pub before-a : NotRead "`2e4" 2 0
   pub after-h : NotRead "i2e4" 2 0
   pub before-1 : NotRead "e0e4" 2 1
