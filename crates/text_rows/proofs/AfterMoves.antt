@@ -16,7 +16,7 @@ use Rattle.move_rules.specs.After.{afterAnswer, afterParts, castles, colourStep
 use Rattle.move_rules.specs.After.{recordAfter, restarts, rightsAfter, rightsWithout, rookMoved, setDown, squaresAfter, stepsTwice, stoodBefore, stoodBehind}
 use Rattle.move_rules.specs.After.{takesInPassing, twoApart}
 use Rattle.move_rules.specs.Leads.{comesFrom, countersFrom, countersLead}
-use Rattle.text_rows.specs.AfterMoves.{MovesAtTheEdge, RecordsThatFollow}
+use Rattle.text_rows.specs.AfterMoves.{MovesAtTheEdge, SquaresNamed, RecordsThatFollow}
 
 pub moves-at-the-edge : MovesAtTheEdge
 unfolding ascii allAtMost among same kindOf letterOf pieceOf pairTold readSquare lettersOf lettersText inRange numbers placeAll placeByte assembled ofTokens
@@ -36,6 +36,19 @@ moves-at-the-edge = record {
   knight-before = (refl, refl);
   knight-behind = (refl, refl);
   white-knight-behind = (refl, refl);
+}
+
+pub squares-named : SquaresNamed
+unfolding ascii allAtMost among same kindOf letterOf pieceOf pairTold readSquare lettersOf lettersText inRange numbers placeAll placeByte assembled ofTokens
+    readFen rightsOf sideOf sided joined onto placeAfter placeWhere tokens digitText enPassantText fenText ranksText rightsText runText slashText tailText
+    promotionNamed readMove withDest withSource afterAnswer afterParts castles colourStep corner enemyPawn fileAfter fullAfter halfAfter oneMore pawnRemoved
+    recordAfter restarts rightsAfter rightsWithout rookMoved setDown squaresAfter stepsTwice stoodBefore stoodBehind takesInPassing twoApart comesFrom
+    countersFrom countersLead
+squares-named = record {
+  castling = refl;
+  in-passing = refl;
+  knight = refl;
+  taken = refl;
 }
 
 pub records-that-follow : RecordsThatFollow

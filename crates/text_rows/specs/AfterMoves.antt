@@ -7,6 +7,7 @@ use mathlib.Core.Bool.{true, false}
 use mathlib.Core.List.{List, [], _∷_, _++_}
 use lib.ListN.{take}
 use Rattle.move_rules.specs.Leads.{comesFrom, countersFrom, countersLead}
+use Rattle.move_rules.specs.Promises.{takenSquare, named}
 use Rattle.key_after.specs.AtSmallest.{After}
 use Rattle.number_rows.specs.Records.{aMan}
 
@@ -26,6 +27,13 @@ pub record MovesAtTheEdge : Type 0 where
   pub knight-before : After "8/8/8/8/3n4/8/4P3/8 w - -" "e2e4" "8/8/8/8/3nP3/8/8/8 b - - 0 1"
   pub knight-behind : After "8/8/8/8/5n2/8/4P3/8 w - -" "e2e4" "8/8/8/8/4Pn2/8/8/8 b - - 0 1"
   pub white-knight-behind : After "8/4p3/8/5N2/8/8/8/8 b - -" "e7e5" "8/8/8/4pN2/8/8/8/8 w - - 0 1"
+
+-- the squares that the rules name: in e1g1 by a king, h1 and f1 too; in e5d6 by a pawn, d5 too; in b1c3 by a knight, none
+pub record SquaresNamed : Type 0 where
+  pub castling : named (aMan 4 6) 4 6 ≡ 4 ∷ 6 ∷ 7 ∷ 5 ∷ []
+  pub in-passing : named (aMan 36 1) 36 43 ≡ 36 ∷ 43 ∷ 35 ∷ []
+  pub knight : named (aMan 1 2) 1 18 ≡ 1 ∷ 18 ∷ []
+  pub taken : takenSquare 36 43 ≡ 35
 
 -- a knight on b1, or on c3, as 68 numbers: white to move, or black, with white's and black's rights and a file
 abbrev pub knightOn : ℕ → ℕ → ℕ → ℕ → ℕ → List ℕ

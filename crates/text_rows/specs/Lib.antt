@@ -3,3 +3,4 @@ pub mod Fens
 pub mod Reports
 pub mod SettledRows
 pub mod AfterMoves
+pub mod DifferenceLines
