@@ -10,15 +10,15 @@ use Rattle.castle_rights.specs.CastleRights.{lettersOf, lettersText}
 use Rattle.fen_text.specs.Base.{baseAssembled, baseFen, baseTokens}
 use Rattle.fen_text.specs.Lines.{endedLines, endedLinesBy, lines, ontoEnded}
 use Rattle.fen_text.specs.Placement.{placeAll, placeByte}
-use Rattle.fen_text.specs.Read.{rightsOf, sideOf}
+use Rattle.fen_text.specs.Read.{assembled, ofTokens, readFen, rightsOf, sideOf, sided}
 use Rattle.fen_text.specs.Token.{joined, onto, placeAfter, placeWhere, tokens}
 use Rattle.fen_text.specs.Write.{digitText, enPassantText, fullTail, fullText, ranksText, rightsText, runText, slashText}
-use Rattle.text_rows.specs.Fens.{FensBefore, LinesEnd}
+use Rattle.text_rows.specs.Fens.{FensBefore, FensRefused, LinesEnd}
 
 pub fens-before : FensBefore
 unfolding ascii among letterOf pieceOf readSquare decimal digits lettersOf lettersText baseAssembled baseFen baseTokens endedLines endedLinesBy lines ontoEnded
-    placeAll placeByte rightsOf sideOf joined onto placeAfter placeWhere tokens digitText enPassantText fullTail fullText ranksText rightsText runText
-    slashText
+    placeAll placeByte assembled ofTokens readFen rightsOf sideOf sided joined onto placeAfter placeWhere tokens digitText enPassantText fullTail fullText
+    ranksText rightsText runText slashText
 fens-before = record {
   initial = refl;
   white = refl;
@@ -30,10 +30,27 @@ fens-before = record {
   bad-side = refl;
 }
 
+pub fens-refused : FensRefused
+unfolding ascii among letterOf pieceOf readSquare decimal digits lettersOf lettersText baseAssembled baseFen baseTokens endedLines endedLinesBy lines ontoEnded
+    placeAll placeByte assembled ofTokens readFen rightsOf sideOf sided joined onto placeAfter placeWhere tokens digitText enPassantText fullTail fullText
+    ranksText rightsText runText slashText
+fens-refused = record {
+  side-a = refl;
+  side-c = refl;
+  side-x = refl;
+  side-A = refl;
+  side-V = refl;
+  dash = refl;
+  nine = refl;
+  tab-is-no-space = refl;
+  behind-a-smaller = refl;
+  behind-a-larger = refl;
+}
+
 pub lines-end : LinesEnd
 unfolding ascii among letterOf pieceOf readSquare decimal digits lettersOf lettersText baseAssembled baseFen baseTokens endedLines endedLinesBy lines ontoEnded
-    placeAll placeByte rightsOf sideOf joined onto placeAfter placeWhere tokens digitText enPassantText fullTail fullText ranksText rightsText runText
-    slashText
+    placeAll placeByte assembled ofTokens readFen rightsOf sideOf sided joined onto placeAfter placeWhere tokens digitText enPassantText fullTail fullText
+    ranksText rightsText runText slashText
 lines-end = record {
   tab = refl;
   tab-ended = refl;

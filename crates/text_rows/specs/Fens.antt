@@ -10,6 +10,8 @@ use Rattle.board_builder.specs.BoardBuilder.{initialBoard}
 use Rattle.fen_text.specs.declared.Fen.{Fen}
 use Rattle.fen_text.specs.Base.{baseFen}
 use Rattle.fen_text.specs.Lines.{lines, lineEnd, endedLines}
+use Rattle.fen_text.specs.Read.{readFen}
+use Rattle.fen_text.specs.Token.{tokens, placeOf}
 use Rattle.fen_text.specs.Write.{fullText}
 use Rattle.number_rows.specs.Records.{seventy, aMan}
 
@@ -29,6 +31,19 @@ pub record FensBefore : Type 0 where
   pub one-token : baseFen (ascii "K") ≡ fenSays 1 0 zeros
   pub bad-placement : baseFen (ascii "9 w - -") ≡ fenSays 1 0 zeros
   pub bad-side : baseFen (ascii "8 x - -") ≡ fenSays 1 0 zeros
+
+-- the side is `w`, `W`, `b` or `B`: no byte between them, before or behind
+pub record FensRefused : Type 0 where
+  pub side-a : readFen (ascii "8/8 a - -") ≡ fenSays 20 4 zeros
+  pub side-c : readFen (ascii "8/8 c - -") ≡ fenSays 20 4 zeros
+  pub side-x : readFen (ascii "8/8 x - -") ≡ fenSays 20 4 zeros
+  pub side-A : readFen (ascii "8/8 A - -") ≡ fenSays 20 4 zeros
+  pub side-V : readFen (ascii "8/8 V - -") ≡ fenSays 20 4 zeros
+  pub dash : readFen (ascii "8/8- w - -") ≡ fenSays 19 3 zeros
+  pub nine : readFen (ascii "8/9 w - -") ≡ fenSays 19 2 zeros
+  pub tab-is-no-space : tokens (56 ∷ 9 ∷ 32 ∷ 119 ∷ []) ≡ (56 ∷ 9 ∷ []) ∷ (119 ∷ []) ∷ []
+  pub behind-a-smaller : placeOf 98 (ascii "ab") ≡ 1
+  pub behind-a-larger : placeOf 98 (ascii "cab") ≡ 2
 
 -- a tab, 9, ends no line
 pub record LinesEnd : Type 0 where
