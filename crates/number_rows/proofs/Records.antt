@@ -23,6 +23,7 @@ record-numbers = record {
   of-squares-alone = refl;
   empty = refl;
   zeros = refl;
+  initial = refl;
 }
 
 pub ranges-of-records : RangesOfRecords

@@ -10,7 +10,7 @@ use Rattle.castle_rights.specs.CastleRights.{fromIndex, hasKing, hasQueen, rook
 use Rattle.board_builder.specs.declared.BoardBuilder.{BoardBuilder}
 use Rattle.board_builder.specs.declared.Stepped.{Stepped}
 use Rattle.board_builder.specs.BoardBuilder.{boardCounted, board, withCounters, uncounted, numbers, allNumbers, squares, recordSize, lastCount, inRange}
-use Rattle.board_builder.specs.BoardBuilder.{sideAt, whiteRightsAt, blackRightsAt, fileAt, boardOf, numbersInRange, emptyBoard, noBoard}
+use Rattle.board_builder.specs.BoardBuilder.{sideAt, whiteRightsAt, blackRightsAt, fileAt, boardOf, numbersInRange, emptyBoard, noBoard, initialBoard}
 use Rattle.board_builder.specs.Getters.{pieceOn, sideAnswer, rightsAnswer, enPassantSquare}
 use Rattle.board_builder.specs.Steps.{setPiece, clearSquare, setSide, setRights, setEnPassant, setHalfMoves, setFullMoves}
 use Rattle.number_rows.specs.Answers.{says}
@@ -60,6 +60,10 @@ pub record RecordNumbers : Type 0 where
   pub of-squares-alone : boardOf (aMan 9 5) ≡ seventy (aMan 9 5) 0 0 0 0 0 1
   pub empty : emptyBoard ≡ seventy (replicate 64 0) 0 0 0 0 0 1
   pub zeros : noBoard ≡ seventy (replicate 64 0) 0 0 0 0 0 0
+  -- R N B Q K B N R, pawns, four empty ranks, pawns, r n b q k b n r
+  pub initial : initialBoard ≡ seventy
+      (4 ∷ 2 ∷ 3 ∷ 5 ∷ 6 ∷ 3 ∷ 2 ∷ 4 ∷ (replicate 8 1 ++ (replicate 32 0 ++ (replicate 8 7 ++ (10 ∷ 8 ∷ 9 ∷ 11 ∷ 12 ∷ 9 ∷ 8 ∷ 10 ∷ [])))))
+      0 3 3 0 0 1
 
 pub record RangesOfRecords : Type 0 where
   pub least : inRange (seventy (replicate 64 0) 0 0 0 0 0 1) ≡ true

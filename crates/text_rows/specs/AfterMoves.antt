@@ -5,8 +5,8 @@ use Prim.Native.Nat.{ℕ}
 use mathlib.Core.Path.{_≡_}
 use mathlib.Core.Bool.{true, false}
 use mathlib.Core.List.{List, [], _∷_, _++_}
-use lib.ListN.{take}
-use Rattle.move_rules.specs.Leads.{comesFrom, countersFrom, countersLead}
+use lib.ListN.{take, replicate}
+use Rattle.move_rules.specs.Leads.{comesFrom, leadsTo, countersFrom, countersLead}
 use Rattle.move_rules.specs.Promises.{takenSquare, named}
 use Rattle.key_after.specs.AtSmallest.{After}
 use Rattle.number_rows.specs.Records.{aMan}
@@ -18,6 +18,7 @@ pub record MovesAtTheEdge : Type 0 where
   pub rank-below : After "8/8/8/8/8/8/4K2R/8 w - -" "e2g1" "8/8/8/8/8/8/7R/6K1 b - - 0 1"
   -- "en passant is a pawn changing files": to the right too, and an empty source takes nothing
   pub passing-right : After "8/8/8/4Pp2/8/8/8/8 w - f6" "e5f6" "8/8/5P2/8/8/8/8/8 b - - 0 1"
+  pub from-file-b : After "8/8/8/1Pp5/8/8/8/8 w - c6" "b5c6" "8/8/2P5/8/8/8/8/8 b - - 0 1"
   pub nobody-passes : After "8/8/8/8/8/8/8/1N6 w - -" "a1b2" "8/8/8/8/8/8/8/1N6 b - - 0 1"
   -- "a double pawn step (two ranks on one file)": not three ranks, not one file to the right, not by nobody
   pub three-ranks : After "8/8/8/3p4/8/8/4P3/8 w - -" "e2e5" "8/8/8/3pP3/8/8/8/8 b - - 0 1"
@@ -44,16 +45,21 @@ pub record RecordsThatFollow : Type 0 where
   pub follows : comesFrom (knightOn 1 0 1 2 4) 1153 (knightOn 18 1 1 2 0) ≡ true
   pub other-rights : comesFrom (knightOn 1 0 1 2 4) 1153 (knightOn 18 1 1 3 0) ≡ false
   pub longer : comesFrom (knightOn 1 0 1 2 4 ++ (9 ∷ [])) 1153 (knightOn 18 1 1 2 0) ≡ true
+  pub led : leadsTo (knightOn 1 0 1 2 4) 1153 (knightOn 18 1 1 2 0) ≡ true
   pub short : comesFrom (take 67 (knightOn 1 0 1 2 4)) 1153 (knightOn 18 1 1 2 0) ≡ false
   -- from 3 half-moves and move 7, by white and by black
   pub white : countersFrom (knightOn 1 0 1 2 4) 1153 3 7 4 7 ≡ true
   pub black : countersFrom (knightOn 1 1 1 2 4) 1153 3 7 4 8 ≡ true
   pub no-side : countersFrom (aMan 1 2) 1153 3 7 4 7 ≡ true
+  -- a pawn e2e3, 12 + 64 × 20 = 1,292, and a man on c3
+  pub by-pawn : countersFrom (aMan 12 1 ++ (0 ∷ 1 ∷ 2 ∷ 4 ∷ [])) 1292 3 7 0 7 ≡ true
+  pub onto-a-man : countersFrom ((0 ∷ 2 ∷ replicate 16 0) ++ (7 ∷ replicate 45 0)) 1153 3 7 0 7 ≡ true
   pub half-under : countersFrom (knightOn 1 0 1 2 4) 1153 3 7 3 7 ≡ false
   pub half-over : countersFrom (knightOn 1 0 1 2 4) 1153 3 7 5 7 ≡ false
   pub full-under : countersFrom (knightOn 1 0 1 2 4) 1153 3 7 4 6 ≡ false
   pub full-over : countersFrom (knightOn 1 0 1 2 4) 1153 3 7 4 8 ≡ false
   pub leads : countersLead (knightOn 1 1 1 2 4) 1153 3 7 4 8 ≡ true
+  pub leads-by-pawn : countersLead (aMan 12 1 ++ (0 ∷ 1 ∷ 2 ∷ 4 ∷ [])) 1292 3 7 0 7 ≡ true
   pub leads-not : countersLead (knightOn 1 1 1 2 4) 1153 3 7 4 7 ≡ false
   pub leads-longer : countersLead (knightOn 1 1 1 2 4 ++ (9 ∷ [])) 1153 3 7 4 8 ≡ true
   pub leads-short : countersLead (take 67 (knightOn 1 1 1 2 4)) 1153 3 7 4 8 ≡ false
