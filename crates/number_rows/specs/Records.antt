@@ -116,7 +116,9 @@ pub record StepsOnTheRest : Type 0 where
   pub white : setSide queenOnB2 0 ≡ hands 0 (seventy (aMan 9 5) 0 2 3 4 5 6)
   pub black : setSide (seventy (aMan 9 5) 0 2 3 4 5 6) 1 ≡ hands 0 queenOnB2
   pub colour-2 : setSide queenOnB2 2 ≡ hands 5 queenOnB2
+  pub not-mended : setSide ofNoSide 0 ≡ hands 5 ofNoSide
   pub white-rights : setRights queenOnB2 0 3 ≡ hands 0 (seventy (aMan 9 5) 1 3 3 4 5 6)
+  pub white-none : setRights queenOnB2 0 0 ≡ hands 0 (seventy (aMan 9 5) 1 0 3 4 5 6)
   pub black-rights : setRights queenOnB2 1 0 ≡ hands 0 (seventy (aMan 9 5) 1 2 0 4 5 6)
   pub rights-4 : setRights queenOnB2 1 4 ≡ hands 5 queenOnB2
   pub rights-colour-2 : setRights queenOnB2 2 0 ≡ hands 5 queenOnB2
