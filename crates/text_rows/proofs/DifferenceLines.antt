@@ -46,6 +46,7 @@ unfolding writeAnswer writeBytes ascii decimal digits numbers firstRefusal judge
 calls-that-tell = record {
   written = refl;
   room = refl;
+  into-two = refl;
   answer = refl;
   too-short = refl;
   first-roll-first = refl;

@@ -36,6 +36,7 @@ pub record LinesInNumbers : Type 0 where
 pub record CallsThatTell : Type 0 where
   pub written : linesWritten (teller twoOfEach) (with 28 1) plain (replicate 9 9) ≡ ascii "28 1 0\n"
   pub room : teller twoOfEach .room (with 28 1) plain (replicate 9 9) ≡ ascii "28 1 0\n" ++ (9 ∷ 9 ∷ [])
+  pub into-two : linesWritten (teller twoOfEach) (with 28 1) plain (replicate 2 9) ≡ 9 ∷ 9 ∷ []
   pub answer : teller twoOfEach .answer (with 28 1) plain 7 ≡ says 0 7
   pub too-short : teller twoOfEach .answer (with 28 1) plain 6 ≡ says 7 7
   pub first-roll-first : teller twoOfEach .answer [] (13 ∷ []) 0 ≡ says 17 0
