@@ -73,6 +73,7 @@ unfolding writeAnswer writeBytes ascii allAtMost among largest same
 lists-of-numbers = record {
   bytes = refl;
   at-most = refl;
+  last-at-most = refl;
   first-over = refl;
   last-over = refl;
   largest-of-three = refl;

@@ -79,6 +79,7 @@ pub record TextsWritten : Type 0 where
 pub record ListsOfNumbers : Type 0 where
   pub bytes : ascii "aB 1" ≡ 97 ∷ 66 ∷ 32 ∷ 49 ∷ []
   pub at-most : allAtMost 12 (12 ∷ 0 ∷ []) ≡ true
+  pub last-at-most : allAtMost 12 (0 ∷ 12 ∷ []) ≡ true
   pub first-over : allAtMost 12 (13 ∷ 0 ∷ []) ≡ false
   pub last-over : allAtMost 12 (0 ∷ 13 ∷ []) ≡ false
   pub largest-of-three : largest (3 ∷ 9 ∷ 4 ∷ []) ≡ 9
