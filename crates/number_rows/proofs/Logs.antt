@@ -130,6 +130,7 @@ positions-of-a-part = record {
   newest-first = refl;
   none = refl;
   three-times = refl;
+  last-three = refl;
   twice = refl;
   earlier = refl;
   not-whole = refl;

@@ -134,6 +134,10 @@ manFirst code = code ∷ replicate 583 0
 abbrev pub fivePositions : List ℕ
 fivePositions = manFirst 5 ++ (manFirst 4 ++ (manFirst 5 ++ (manFirst 1 ++ manFirst 5)))
 
+-- and a rook, then three queens
+abbrev pub fourPositions : List ℕ
+fourPositions = manFirst 4 ++ (manFirst 5 ++ (manFirst 5 ++ manFirst 5))
+
 -- how many, and the first two
 abbrev pub placesAre : ℕ → ℕ → ℕ → Places
 placesAre count first second = record { count = count; first = first; second = second }
@@ -144,6 +148,7 @@ pub record PositionsOfAPart : Type 0 where
       positionHas (1 ∷ replicate 67 0) 0 0 0 [] ∷ positionHas (5 ∷ replicate 67 0) 0 0 0 [] ∷ []
   pub none : positionsFrom fivePositions 2 0 ≡ []
   pub three-times : equalsTwoEarlier fivePositions 0 4 ≡ true
+  pub last-three : equalsTwoEarlier fourPositions 0 3 ≡ true
   pub twice : equalsTwoEarlier fivePositions 1 4 ≡ false
   pub earlier : equalsTwoEarlier fivePositions 0 2 ≡ false
   pub not-whole : equalsTwoEarlier (take 2919 fivePositions) 0 4 ≡ false
