@@ -17,6 +17,7 @@ square-numbers = record {
   no-file = refl;
   rank-of-g2 = refl;
   rank-of-h8 = refl;
+  rank-of-a2 = refl;
   rank-of-none = refl;
   file-of-g2 = refl;
   file-of-h8 = refl;

@@ -23,6 +23,7 @@ pub record SquareNumbers : Type 0 where
   pub no-file : makeSquare 7 8 ≡ says 5 0
   pub rank-of-g2 : rankOf 14 ≡ says 0 1
   pub rank-of-h8 : rankOf 63 ≡ says 0 7
+  pub rank-of-a2 : rankOf 8 ≡ says 0 1
   pub rank-of-none : rankOf 64 ≡ says 5 0
   pub file-of-g2 : fileOf 14 ≡ says 0 6
   pub file-of-h8 : fileOf 63 ≡ says 0 7
