@@ -17,6 +17,7 @@ move-numbers = record {
   source = refl;
   dest = refl;
   promotion = refl;
+  promotion-alone = refl;
   number = refl;
   parts = refl;
   of-parts = refl;

@@ -27,6 +27,7 @@ pub record MoveNumbers : Type 0 where
   pub source : sourceOf 22284 ≡ 12
   pub dest : destOf 22284 ≡ 28
   pub promotion : promotionOf 22284 ≡ 5
+  pub promotion-alone : promotionOf 20480 ≡ 5
   pub number : numberOf 12 28 5 ≡ 22284
   pub parts : moveOf 22284 ≡ fromTo 12 28 5
   pub of-parts : numberAnswer (fromTo 12 28 5) ≡ says 0 22284
