@@ -15,7 +15,7 @@ pub record MovesAtTheEdge : Type 0 where
   -- "a king going two files along its rank": not three, to either side, nor to a rank below
   pub three-right : After "8/8/8/8/8/8/8/K6R w - -" "a1d1" "8/8/8/8/8/8/8/3K3R b - - 0 1"
   pub three-left : After "8/8/8/8/8/8/8/R6K w - -" "h1e1" "8/8/8/8/8/8/8/R3K3 b - - 0 1"
-  pub rank-below : After "8/8/8/8/8/8/4K2R/8 w - -" "e2g1" "8/8/8/8/8/8/7R/6K1 b - - 0 1"
+  pub rank-below : After "8/8/8/8/8/8/R3K2R/8 w - -" "e2g1" "8/8/8/8/8/8/R6R/6K1 b - - 0 1"
   -- "en passant is a pawn changing files": to the right too, and an empty source takes nothing
   pub passing-right : After "8/8/8/4Pp2/8/8/8/8 w - f6" "e5f6" "8/8/5P2/8/8/8/8/8 b - - 0 1"
   pub from-file-b : After "8/8/8/1Pp5/8/8/8/8 w - c6" "b5c6" "8/8/2P5/8/8/8/8/8 b - - 0 1"
