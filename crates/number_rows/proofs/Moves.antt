@@ -8,7 +8,7 @@ use Rattle.square.specs.Square.{pairTold, readSquare}
 use Rattle.chess_move.specs.Base.{baseMove}
 use Rattle.chess_move.specs.Coordinate.{moveText, promotionNamed, readMove, withDest, withSource}
 use Rattle.move_list.specs.MoveList.{count, firstOf, listInRange}
-use Rattle.number_rows.specs.Moves.{MoveNumbers, MoveTextsRead, MoveTextsNotRead, MoveTextsWritten, ReadBack, ListsOfMoves}
+use Rattle.number_rows.specs.Moves.{MoveNumbers, MoveTextsRead, MoveTextsNotRead, MoveTextsWritten, BytesInPlace, ReadBack, ListsOfMoves}
 
 pub move-numbers : MoveNumbers
 unfolding ascii allAtMost letterOf pairTold readSquare baseMove moveText promotionNamed readMove withDest withSource count firstOf listInRange
@@ -79,6 +79,19 @@ move-texts-written = record {
   e7e8k = refl;
   last = refl;
   past-it = refl;
+}
+
+pub bytes-in-place : BytesInPlace
+unfolding ascii allAtMost letterOf pairTold readSquare baseMove moveText promotionNamed readMove withDest withSource count firstOf listInRange
+bytes-in-place = record {
+  a = refl;
+  one = refl;
+  h = refl;
+  eight = refl;
+  before-a = refl;
+  after-h = refl;
+  before-1 = refl;
+  after-8 = refl;
 }
 
 pub read-back : ReadBack

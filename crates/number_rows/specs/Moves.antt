@@ -13,6 +13,7 @@ use Rattle.chess_move.specs.declared.ChessMove.{ChessMove}
 use Rattle.chess_move.specs.Number.{lastMove, sourceOf, destOf, promotionOf, numberOf, lowByte, highByte, ofBytes, moveOf, numberAnswer}
 use Rattle.chess_move.specs.Coordinate.{readMove, moveText, moveCheck}
 use Rattle.chess_move.specs.Base.{baseMove}
+use Rattle.chess_move.specs.Faults.{inPlace}
 use Rattle.chess_move.specs.Promises.{readable}
 use Rattle.move_list.specs.MoveList.{longestList, over, listInRange, count, firstOf}
 use Rattle.number_rows.specs.Answers.{says, saysAt}
@@ -91,6 +92,17 @@ pub record MoveTextsWritten : Type 0 where
   pub e7e8k : moveText 28468 ≡ ascii "e7e8k"
   pub last : moveCheck 28671 ≡ 0
   pub past-it : moveCheck 28672 ≡ 6
+
+-- a to h at places 0 and 2, 1 to 8 at 1 and 3
+pub record BytesInPlace : Type 0 where
+  pub a : inPlace (ascii "a1") 0 ≡ true
+  pub one : inPlace (ascii "a1") 1 ≡ true
+  pub h : inPlace (ascii "z1h8") 2 ≡ true
+  pub eight : inPlace (ascii "a1h8") 3 ≡ true
+  pub before-a : inPlace (ascii "`1") 0 ≡ false
+  pub after-h : inPlace (ascii "a1i8") 2 ≡ false
+  pub before-1 : inPlace (ascii "a0") 1 ≡ false
+  pub after-8 : inPlace (ascii "a1h9") 3 ≡ false
 
 -- a promotion that is written and read back: none, knight, bishop, rook, queen
 pub record ReadBack : Type 0 where
