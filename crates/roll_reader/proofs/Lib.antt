@@ -1,3 +1,4 @@
+pub mod AtSmallest
 pub mod Laws
 pub mod Reading
 pub mod Fronts

@@ -32,4 +32,5 @@ key-rows = record {
   side = refl;
   short = refl;
   untouched = refl;
+  by-two-calls = refl;
 }
