@@ -1,3 +1,4 @@
 pub mod Games
 pub mod Bytes
 pub mod NotGood
+pub mod OnParts
