@@ -2,3 +2,4 @@ pub mod Games
 pub mod Bytes
 pub mod NotGood
 pub mod OnParts
+pub mod Rolls
