@@ -13,7 +13,7 @@ use Rattle.move_rules.specs.After.{squaresAfter, rightsWithout, rightsAfter, st
 use Rattle.move_rules.specs.After.{restarts, oneMore, halfAfter, fullAfter}
 use Rattle.pgn_text.specs.Bytes.{isWhite, isDigit, isLetter, startsMove, isSign, inMove, inRun, onward, runLength, beginsWith}
 use Rattle.pgn_text.specs.Token.{isResult, number, glyph, braceComment, lineComment, token}
-use Rattle.pgn_text.specs.Walk.{atEnd, met, walk, walkFrom, noMoveFound, moveFound, firstMove, nextMove, part}
+use Rattle.pgn_text.specs.Walk.{atEnd, met, walk, walkFrom, noMoveFound, moveFound, part}
 use Rattle.pgn_text.specs.Between.{crossedFrom, cross, crossMet}
 use Rattle.pgn_text.specs.Main.{firstMain, nextMain}
 use Rattle.san_text.specs.Place.{placeFrom, squareAt}
@@ -50,9 +50,9 @@ pub step-rows : StepRows
 unfolding ascii allAtMost same among letterOf kindOf inRange listInRange count firstOf writeAnswer writeBytes digitText runText slashText ranksText rightsText
     enPassantText tailText fenText colourStep enemyPawn twoApart castles corner rookMoved takesInPassing pawnRemoved setDown squaresAfter rightsWithout
     rightsAfter stepsTwice stoodBefore stoodBehind fileAfter afterParts restarts oneMore halfAfter fullAfter isWhite isDigit isLetter startsMove isSign inMove
-    inRun onward runLength beginsWith isResult number glyph braceComment lineComment token atEnd met walk walkFrom noMoveFound moveFound part firstMove nextMove
-    firstMain nextMain placeFrom squareAt promotionKind pieceKind isCheck after pieceOr readTakes readRank readFile readPiece agrees fits soleThat castlingMove
-    castle castled resolved readAnswer changesFiles takesOf endsHere standardEnd standardPromotion standardDest isCastling readStandard standardCaptures
+    inRun onward runLength beginsWith isResult number glyph braceComment lineComment token atEnd met walk walkFrom noMoveFound moveFound part firstMain
+    nextMain placeFrom squareAt promotionKind pieceKind isCheck after pieceOr readTakes readRank readFile readPiece agrees fits soleThat castlingMove castle
+    castled resolved readAnswer changesFiles takesOf endsHere standardEnd standardPromotion standardDest isCastling readStandard standardCaptures
     standardCastles stepWritten stepRead bytesRead stepFrom bytesFrom gameStep gameStepBytes
 step-rows = record {
   stepped = refl;

@@ -12,12 +12,13 @@ use Rattle.roll_text.specs.Promises.{formed}
 use Rattle.roll_text.specs.Roll.{actionText, actionsText, coded, countsText, fullBy, halfBy, isCode, largestNumbers, movedBy, nextAction, numbersText}
 use Rattle.roll_text.specs.Roll.{oneNumber, putAction, putNumber, readActions, readBy, readCounters, readNumbers, startFits, textBy, withActions, withCount}
 use Rattle.roll_text.specs.Roll.{withCounts, withFront, withinBounds}
-use Rattle.log_rows.specs.Rolls.{WrittenByCalls, ReadByCalls, StartsRead, StagesRead}
+use Rattle.roll_reader.specs.Checked.{checked}
+use Rattle.log_rows.specs.Rolls.{WrittenByCalls, ReadByCalls, StartsRead, StagesRead, LooksAtRolls}
 
 pub written-by-calls : WrittenByCalls
 unfolding writeAnswer writeBytes allAtMost inRange numbers actionOf actionsHeld movesIn actsNumber actsOver frontNumber isActs judgedBy rollAnswer rollOver
     writeCheck behind groups readGroups formed actionText actionsText coded countsText fullBy halfBy isCode largestNumbers movedBy nextAction numbersText
-    oneNumber putAction putNumber readActions readBy readCounters readNumbers startFits textBy withActions withCount withCounts withFront withinBounds
+    oneNumber putAction putNumber readActions readBy readCounters readNumbers startFits textBy withActions withCount withCounts withFront withinBounds checked
 written-by-calls = record {
   answer = refl;
   room = refl;
@@ -30,7 +31,7 @@ written-by-calls = record {
 pub read-by-calls : ReadByCalls
 unfolding writeAnswer writeBytes allAtMost inRange numbers actionOf actionsHeld movesIn actsNumber actsOver frontNumber isActs judgedBy rollAnswer rollOver
     writeCheck behind groups readGroups formed actionText actionsText coded countsText fullBy halfBy isCode largestNumbers movedBy nextAction numbersText
-    oneNumber putAction putNumber readActions readBy readCounters readNumbers startFits textBy withActions withCount withCounts withFront withinBounds
+    oneNumber putAction putNumber readActions readBy readCounters readNumbers startFits textBy withActions withCount withCounts withFront withinBounds checked
 read-by-calls = record {
   answer = refl;
   part = refl;
@@ -46,7 +47,7 @@ read-by-calls = record {
 pub starts-read : StartsRead
 unfolding writeAnswer writeBytes allAtMost inRange numbers actionOf actionsHeld movesIn actsNumber actsOver frontNumber isActs judgedBy rollAnswer rollOver
     writeCheck behind groups readGroups formed actionText actionsText coded countsText fullBy halfBy isCode largestNumbers movedBy nextAction numbersText
-    oneNumber putAction putNumber readActions readBy readCounters readNumbers startFits textBy withActions withCount withCounts withFront withinBounds
+    oneNumber putAction putNumber readActions readBy readCounters readNumbers startFits textBy withActions withCount withCounts withFront withinBounds checked
 starts-read = record {
   largest = refl;
   least = refl;
@@ -69,7 +70,7 @@ starts-read = record {
 pub stages-read : StagesRead
 unfolding writeAnswer writeBytes allAtMost inRange numbers actionOf actionsHeld movesIn actsNumber actsOver frontNumber isActs judgedBy rollAnswer rollOver
     writeCheck behind groups readGroups formed actionText actionsText coded countsText fullBy halfBy isCode largestNumbers movedBy nextAction numbersText
-    oneNumber putAction putNumber readActions readBy readCounters readNumbers startFits textBy withActions withCount withCounts withFront withinBounds
+    oneNumber putAction putNumber readActions readBy readCounters readNumbers startFits textBy withActions withCount withCounts withFront withinBounds checked
 stages-read = record {
   front-stopped = refl;
   front-passed = refl;
@@ -80,4 +81,13 @@ stages-read = record {
   over = refl;
   left-alone = refl;
   fields-of = refl;
+}
+
+pub looks-at-rolls : LooksAtRolls
+unfolding writeAnswer writeBytes allAtMost inRange numbers actionOf actionsHeld movesIn actsNumber actsOver frontNumber isActs judgedBy rollAnswer rollOver
+    writeCheck behind groups readGroups formed actionText actionsText coded countsText fullBy halfBy isCode largestNumbers movedBy nextAction numbersText
+    oneNumber putAction putNumber readActions readBy readCounters readNumbers startFits textBy withActions withCount withCounts withFront withinBounds checked
+looks-at-rolls = record {
+  looked-at = refl;
+  refused = refl;
 }

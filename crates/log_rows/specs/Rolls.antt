@@ -11,6 +11,9 @@ use Rattle.board_builder.specs.BoardBuilder.{board, emptyBoard, noBoard}
 use Rattle.roll_text.specs.Roll.{Start, startFits, withinBounds, stopped, front, halted, acts}
 use Rattle.roll_text.specs.Calls.{frontNumber, actsNumber, actsOver, isActs, fieldsAt}
 use Rattle.roll_text.specs.Promises.{Writer, rollWriter, rollReader, oldReader, wrote, formed, anew}
+use Rattle.game_rules.specs.Limits.{limits}
+use Rattle.roll_text.specs.Roll.{readRoll}
+use Rattle.roll_reader.specs.Checked.{checked}
 use Rattle.roll_text.specs.WholeAtSmallest.{eight, kingOnA1, kingsNumbers, everyAction, everyText}
 
 -- a start of the empty record with these counters
@@ -79,3 +82,9 @@ pub record StagesRead : Type 0 where
   pub over : actsOver (acts (1 ∷ 2 ∷ [])) (7 ∷ 8 ∷ 9 ∷ []) ≡ 1 ∷ 2 ∷ 9 ∷ []
   pub left-alone : actsOver (halted 13) (7 ∷ 8 ∷ 9 ∷ []) ≡ 7 ∷ 8 ∷ 9 ∷ []
   pub fields-of : fieldsAt (5 ∷ 1 ∷ 12 ∷ 7 ∷ []) ≡ record { kind = 5; colour = 1; number = 1804 }
+
+-- a look at a roll: its number, how many actions it has, and its start's counters; zeros beside a refusal
+pub record LooksAtRolls : Type 0 where
+  pub looked-at : checked (readRoll limits (replicate 68 0 ++ (7 ∷ 40 ∷ 2 ∷ 4 ∷ 6 ∷ [])))
+      ≡ record { number = 0; actions = 2; «half_moves» = 7; «full_moves» = 40 }
+  pub refused : checked (readRoll limits (replicate 68 0 ++ (7 ∷ 40 ∷ 2 ∷ 4 ∷ []))) ≡ record { number = 17; actions = 0; «half_moves» = 0; «full_moves» = 0 }

@@ -1,4 +1,3 @@
-pub mod AtSmallest
 pub mod Laws
 pub mod Reading
 pub mod Fronts

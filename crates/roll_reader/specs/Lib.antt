@@ -1,4 +1,3 @@
 pub mod CodeShort
 pub mod CodeStart
 pub mod Checked
-pub mod AtSmallest

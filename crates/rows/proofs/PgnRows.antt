@@ -7,7 +7,7 @@ use Rattle.pgn_text.specs.Bytes.{beginsWith, inMove, inRun, isDigit, isLetter, 
 use Rattle.pgn_text.specs.Promises.{endNumber, endOffset, movesOf, walked}
 use Rattle.pgn_text.specs.Token.{braceComment, glyph, isResult, lineComment, number, token}
 use Rattle.pgn_text.specs.Walk.{atEnd, check, counted, endCount, firstMove, met, moveFound, nextMove, noMoveFound, part, walk, walkFrom}
-use Rattle.rows.specs.PgnRows.{BytesBeside, BracketsBetween, WalksFromPlaces}
+use Rattle.rows.specs.PgnRows.{BytesBeside, BracketsBetween, WalksFromPlaces, ReaderAtPlace}
 
 pub bytes-beside : BytesBeside
 unfolding ascii acrossWith cross crossMet crossedFrom nextAcross beginsWith inMove inRun isDigit isLetter isSign isWhite onward runLength startsMove endNumber
@@ -51,4 +51,11 @@ walks-from-places = record {
   moves = refl;
   number = refl;
   offset = refl;
+}
+
+pub reader-at-place : ReaderAtPlace
+reader-at-place = record {
+  text = λ text. refl;
+  offset = λ text. refl;
+  level = λ text. refl;
 }

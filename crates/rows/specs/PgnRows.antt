@@ -5,6 +5,7 @@ use Prim.Native.Nat.{ℕ}
 use Prim.Native.String.{String}
 use mathlib.Core.Path.{_≡_}
 use mathlib.Core.List.{List, [], _∷_}
+use denote.Ref.{RefT}
 use Rattle.answer.specs.Ascii.{ascii}
 use Rattle.pgn_text.specs.declared.Token.the-variants.{Move, Opening}
 use Rattle.pgn_text.specs.declared.PgnMove.{PgnMove}
@@ -13,6 +14,7 @@ use Rattle.pgn_text.specs.Walk.{walkFrom, check, nextMove, part}
 use Rattle.pgn_text.specs.Between.{crossedFrom, nextAcross}
 use Rattle.pgn_text.specs.Promises.{walked, movesOf, endNumber, endOffset}
 use Rattle.pgn_text.specs.AtSmallest.{Accepts, Refuses}
+use Rattle.pgn.specs.Reader.{placed}
 
 -- a byte by itself is unknown
 abbrev pub UnknownByte : ℕ → Type 0
@@ -67,3 +69,9 @@ pub record WalksFromPlaces : Type 0 where
   pub moves : movesOf (walkFrom (ascii "e4 (Nd4) e5") 0 0) ≡ moveAtPlace 0 2 0 ∷ moveAtPlace 4 3 1 ∷ moveAtPlace 9 2 0 ∷ []
   pub number : endNumber (walkFrom (ascii "e4 (Nd4") 0 0) ≡ 21
   pub offset : endOffset (walkFrom (ascii "e4 (Nd4") 0 0) ≡ 3
+
+-- the reader of crate pgn at a place of any text: the offset, then the level
+pub record ReaderAtPlace : Type 0 where
+  pub text : (text : RefT (List ℕ)) → placed text 5 1 .text ≡ text
+  pub offset : (text : RefT (List ℕ)) → placed text 5 1 .offset ≡ 5
+  pub level : (text : RefT (List ℕ)) → placed text 5 1 .level ≡ 1

@@ -32,5 +32,4 @@ key-rows = record {
   side = refl;
   short = refl;
   untouched = refl;
-  by-two-calls = refl;
 }

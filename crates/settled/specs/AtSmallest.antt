@@ -8,8 +8,7 @@ use lib.ListN.{length, replicate}
 use Rattle.answer.specs.Answer.{tooFewTokens, badPlacement, badSide, outputTooShort, readAs, faultAt}
 use Rattle.answer.specs.Ascii.{ascii}
 use Rattle.settled.specs.Key.{settledKey, settledRoom}
-use Rattle.fen_text.specs.Read.{readFen}
-use Rattle.settled.specs.Promises.{recordNamed, keyWritten}
+use Rattle.settled.specs.Promises.{keyWritten}
 
 -- a text is accepted in a room for the longest key, and its settled record is written as the other
 abbrev pub Named : String → String → Type 0
@@ -35,5 +34,3 @@ pub record KeyRows : Type 0 where
   -- "then 7 with the length needed", that of the settled key; and nothing is written
   pub short : settledKey (ascii "8/8/8/8/4P3/8/8/8 b - e3") 26 ≡ record { number = outputTooShort; value = 27; offset = 0 }
   pub untouched : settledRoom (ascii "8/8/8/8/4P3/8/8/8 b - e3") (1 ∷ 2 ∷ []) ≡ 1 ∷ 2 ∷ []
-  -- the same key by two calls, for a record; what stands behind it in the room is not part of it
-  pub by-two-calls : recordNamed (readFen (ascii "8/8/8/8/4P3/8/8/8 b - e3") .board) (replicate 40 9) ≡ ascii "8/8/8/8/4P3/8/8/8 b - - 0 1"
