@@ -55,6 +55,8 @@ pub record ReadOffParts : Type 0 where
   -- the last action is an offer, or the last but one by the side not to move
   pub offered : offerAt (actsOf kingsOffered) (positionsLaid kingsOffered) 1 0 ≡ true
   pub offered-before : offerAt (actsOf offeredMoved) (positionsLaid offeredMoved) 2 1 ≡ true
+  pub offered-by-white : offerAt (actsOf (after (begun kingsOnE) (offerDraw 0))) (positionsLaid kingsOffered) 1 0 ≡ true
+  pub offered-by-other : offerAt (actsOf (after kingsOffered kingMoves)) (positionsLaid offeredMoved) 2 1 ≡ false
   pub none-offered : offerAt (actsOf kingsTwice) (positionsLaid kingsTwice) 9 8 ≡ false
   pub lapsed : offerAt (actsOf knightsOut) (positionsLaid knightsOut) 3 2 ≡ false
   -- one move counted that was not made, and one action that is none: with either count for both the log would be good
