@@ -102,6 +102,7 @@ unfolding writeAnswer writeBytes ascii allAtMost among same kindOf letterOf piec
     playedThrough entered movedOn playsFrom variationsOf
 stepping-at-smallest = record {
   in-a-row = refl;
+  one-step = refl;
   asked = refl;
   asked-refused = refl;
 }

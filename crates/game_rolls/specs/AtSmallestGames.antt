@@ -93,6 +93,8 @@ pub record SteppingAtSmallest : Type 0 where
       ≡ record { number = 0; offset = 0; found = 1; start = 0; length = 2; played = 1804; key = 29; board = pawnOnE4 }
       ∷ record { number = 0; offset = 0; found = 1; start = 8; length = 2; played = 2356; key = 29; board = pawnsOnE4E5 }
       ∷ record { number = 23; offset = 11; found = 0; start = 0; length = 0; played = 0; key = 0; board = pawnsOnE4E5 } ∷ []
+  pub one-step : stepping gameStep fourLent (ascii "e4 e5") 29 0 0 pawnsStart
+      ≡ record { number = 0; offset = 0; found = 1; start = 0; length = 2; played = 1804; key = 29; board = pawnOnE4 } ∷ []
   pub asked : answersOf pawnsStart (plays 3 2 1804 pawnOnE4 (over 23 6))
       ≡ record { number = 0; offset = 0; found = 1; start = 3; length = 2; played = 1804; key = 29; board = pawnOnE4 }
       ∷ record { number = 23; offset = 6; found = 0; start = 0; length = 0; played = 0; key = 0; board = pawnOnE4 } ∷ []
