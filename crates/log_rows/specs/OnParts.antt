@@ -83,12 +83,22 @@ fourEqual =
     let p = positionBytes (stands "8/7p/8/8/8/8/8/1N6 w - -" 0 []) in
     p ++ (p ++ (p ++ p))
 
+-- two equal positions with rooks on a1 and h8
+abbrev pub rooksTwice : List ℕ
+rooksTwice =
+    let p = positionBytes (stands "7r/8/8/8/8/8/8/R7 w - -" 0 []) in
+    p ++ p
+
 pub record RunsRead : Type 0 where
   pub from-start : runRead 3 ≡ record { first = 0; since = 0 }
   pub offer-leaves-it : runRead 4 ≡ record { first = 0; since = 0 }
   pub by-a-pawn : runRead 5 ≡ record { first = 3; since = 3 }
   pub goes-on : runRead 6 ≡ record { first = 3; since = 3 }
   pub by-a-right : runRead 7 ≡ record { first = 5; since = 5 }
+  -- an offer is no move, whatever stands on a1; the move with the last number, 28,671, onto the occupied h8; and an offer behind it
+  pub only-an-offer : runAt (2 ∷ 0 ∷ 0 ∷ 0 ∷ []) rooksTwice 1 ≡ record { first = 0; since = 0 }
+  pub last-number : runAt (1 ∷ 0 ∷ 255 ∷ 111 ∷ []) rooksTwice 1 ≡ record { first = 1; since = 1 }
+  pub offer-behind : runAt (1 ∷ 0 ∷ 255 ∷ 111 ∷ 2 ∷ 0 ∷ 0 ∷ 0 ∷ []) rooksTwice 2 ≡ record { first = 1; since = 1 }
   -- one move: a quiet one, one from an empty square, a pawn's, a capture, and changes of each side's rights, lost or gained
   pub quiet : runOn "8/8/8/8/8/8/8/1N6 w Kq -" "b1c3" "8/8/8/8/8/2N5/8/8 b Kq -" ≡ record { first = 4; since = 5 }
   pub from-nothing : runOn "8/8/8/8/8/8/8/1N6 w - -" "a1a2" "8/8/8/8/8/8/8/1N6 b - -" ≡ record { first = 4; since = 5 }
