@@ -1,1 +1,2 @@
+pub mod AtSmallest
 pub mod HostGames

@@ -1,2 +1,3 @@
 pub mod GameCalls
 pub mod Promises
+pub mod AtSmallest

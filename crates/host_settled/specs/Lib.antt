@@ -1,2 +1,3 @@
 pub mod SettledCalls
 pub mod Promises
+pub mod AtSmallest

@@ -7,7 +7,8 @@ use Rattle.position.specs.Repeats.{equal, times}
 use Rattle.claim.specs.Emptying.{irreversible, rightsDiffer}
 use Rattle.game_rules.specs.Rules.{current, ruling, claimStands}
 use Rattle.laws.specs.Laws.{movesMade, sinceLast, lawsCount, lawsClaimStands}
-use Rattle.log_lists.specs.AtSmallest.{AtSmallest}
+use Rattle.log_lists.specs.Relisted.{gameOf}
+use Rattle.log_lists.specs.AtSmallest.{AtSmallest, RelistedAtSmallest}
 
 pub at-smallest : AtSmallest
 unfolding same kindOf equal times irreversible rightsDiffer current ruling claimStands movesMade sinceLast lawsCount lawsClaimStands
@@ -17,4 +18,12 @@ at-smallest = record {
   no-claim = refl;
   laws-claim = refl;
   no-laws-claim = refl;
+}
+
+pub relisted-at-smallest : RelistedAtSmallest
+unfolding gameOf
+relisted-at-smallest = record {
+  position = refl;
+  moved = refl;
+  others = refl;
 }

@@ -17,8 +17,8 @@ use Rattle.roll_text.specs.Number.{groups, behind, readGroups}
 use Rattle.roll_text.specs.Roll.{largestNumbers, numbersText, actionText, actionsText, countsText, textBy, isCode, putNumber, oneNumber, readNumbers}
 use Rattle.roll_text.specs.Roll.{fullBy, halfBy, readCounters, movedBy, coded}
 use Rattle.roll_text.specs.Roll.{putAction, nextAction, readActions, withActions, withCount, withCounts, withFront, readBy}
-use Rattle.roll_text.specs.Calls.{rollAnswer, judgedBy, movesByKind, writeCheck}
-use Rattle.longer.specs.AtSmallest.{RoomAtSmallest, RollsAtSmallest, LogsAtSmallest, Sizes}
+use Rattle.roll_text.specs.Calls.{rollAnswer, rollOver, judgedBy, movesByKind, writeCheck}
+use Rattle.longer.specs.AtSmallest.{RoomAtSmallest, RollsAtSmallest, WithinAtSmallest, LogsAtSmallest, Sizes}
 
 pub room-at-smallest : RoomAtSmallest
 room-at-smallest =
@@ -30,6 +30,8 @@ room-at-smallest =
       at-the-limit = refl;
       past-actions = refl;
       past-moves = refl;
+      last-move = refl;
+      no-move-left = refl;
     }
 
 pub rolls-at-smallest : RollsAtSmallest
@@ -58,6 +60,18 @@ rolls-at-smallest =
       writes-too = refl;
       writes-none = refl;
       writes-longer = refl;
+    }
+
+pub within-at-smallest : WithinAtSmallest
+unfolding actionOf movesIn groups behind readGroups largestNumbers isCode putNumber oneNumber readNumbers fullBy halfBy readCounters movedBy coded putAction
+    nextAction readActions withActions withCount withCounts withFront readBy rollAnswer rollOver judgedBy
+within-at-smallest =
+    record {
+      within-both = refl;
+      too-many = refl;
+      no-moves = refl;
+      only-offers = refl;
+      one-offer = refl;
     }
 
 pub logs-at-smallest : LogsAtSmallest

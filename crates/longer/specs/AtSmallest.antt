@@ -1,7 +1,7 @@
 -- Two limits at their smallest: one action and no move, and two actions and one move. Rolls and calls within the smaller, at it, and past it by one.
 -- Assumes nothing.
 use mathlib.Core.Path.{_≡_}
-use mathlib.Core.Bool.{true, false}
+use mathlib.Core.Bool.{Bool, true, false}
 use mathlib.Core.List.{List, [], _∷_, _++_}
 use Prim.Native.Nat.{ℕ}
 use lib.ListN.{length, replicate}
@@ -14,6 +14,7 @@ use Rattle.game_rules.specs.Calls.{callAnswer, resultAnswer}
 use Rattle.game_rules.specs.CallOrder.{onEmpty, startBytes}
 use Rattle.roll_text.specs.Promises.{rollReader, oldReader, rollWriter}
 use Rattle.longer.specs.TwoLimits.{oldLimits, within, roomAfter}
+use Rattle.longer.specs.Promises.{withinOf}
 
 abbrev pub few : Limits
 few = record { most-actions = 1; most-moves = 0 }
@@ -72,6 +73,22 @@ pub record RoomAtSmallest : Type 0 where
   pub at-the-limit : within few 1 0 ≡ true
   pub past-actions : within few 2 0 ≡ false
   pub past-moves : within few 1 1 ≡ false
+  -- the moves go by their own limit, not by that of the actions
+  pub last-move : roomAfter more 1 0 (makeMove 0 (onEmpty 1 0 [])) ≡ true
+  pub no-move-left : roomAfter more 0 1 (makeMove 0 (onEmpty 1 0 [])) ≡ false
+
+-- a roll of the empty record by its count and actions, read under limits that ask for a longer part than it is: whether these are within the smaller ones
+abbrev pub rollWithin : Limits → List ℕ → Bool
+rollWithin L s = withinOf true L (record { most-actions = 100; most-moves = 50 }) (replicate recordSize 0 ++ (0 ∷ 1 ∷ s)) (replicate 400 9)
+
+pub record WithinAtSmallest : Type 0 where
+  -- two actions, of which one is a move, are within two actions and one move, and not within one action, or no move
+  pub within-both : rollWithin more (2 ∷ 2 ∷ 0 ∷ 4 ∷ []) ≡ true
+  pub too-many : rollWithin (record { most-actions = 1; most-moves = 2 }) (2 ∷ 2 ∷ 0 ∷ 4 ∷ []) ≡ false
+  pub no-moves : rollWithin (record { most-actions = 2; most-moves = 0 }) (2 ∷ 2 ∷ 0 ∷ 4 ∷ []) ≡ false
+  -- two offers have no move
+  pub only-offers : rollWithin (record { most-actions = 2; most-moves = 0 }) (2 ∷ 4 ∷ 4 ∷ []) ≡ true
+  pub one-offer : rollWithin (record { most-actions = 0; most-moves = 1 }) (1 ∷ 4 ∷ []) ≡ false
 
 -- what a log without an action is answered
 abbrev pub calling : Limits → Call → ℕ

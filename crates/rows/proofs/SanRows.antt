@@ -3,38 +3,36 @@
 use mathlib.Core.Path.{refl}
 use Rattle.answer.specs.Answer.{writeAnswer, writeBytes}
 use Rattle.answer.specs.Ascii.{ascii}
-use Rattle.answer.specs.Numbers.{allAtMost, same, among}
-use Rattle.square.specs.Piece.{kindOf, pieceOf, letterOf}
+use Rattle.answer.specs.Numbers.{allAtMost, among, same}
+use Rattle.square.specs.Piece.{kindOf, pieceOf}
+use Rattle.square.specs.Square.{pairTold, readSquare}
 use Rattle.board_builder.specs.BoardBuilder.{inRange}
-use Rattle.move_list.specs.MoveList.{listInRange, count, firstOf}
+use Rattle.fen_text.specs.Placement.{placeAll, placeByte}
+use Rattle.fen_text.specs.Read.{assembled, ofTokens, readFen, rightsOf, sideOf, sided}
+use Rattle.fen_text.specs.Token.{joined, onto, placeAfter, placeWhere, tokens}
+use Rattle.chess_move.specs.Coordinate.{promotionNamed, readMove, withDest, withSource}
+use Rattle.move_list.specs.MoveList.{count, firstOf, listInRange}
+use Rattle.san_text.specs.Form.{castled, readAnswer, resolved}
+use Rattle.san_text.specs.Name.{candidates, castlingName, changesFiles, firstName, headOf, kingFirst, nameCheck, nameOf, nameText, names, optional, pieceLetter}
+use Rattle.san_text.specs.Name.{promotionLetter, takesOf}
+use Rattle.san_text.specs.Paper.{endOf, markOf, sanText}
 use Rattle.san_text.specs.Place.{placeFrom, squareAt}
-use Rattle.san_text.specs.Text.{promotionKind, pieceKind, isCheck, after, pieceOr, readTakes, readRank, readFile}
-use Rattle.san_text.specs.Text.{readPiece, readEnd, readPromotion, readDest, readText}
-use Rattle.san_text.specs.Resolve.{agrees, fits, captureTest, soleThat, castlingMove, castle}
-use Rattle.san_text.specs.Form.{castled, resolved, readAnswer}
-use Rattle.san_text.specs.Name.{optional, promotionLetter, pieceLetter, changesFiles, takesOf, headOf, candidates, names}
-use Rattle.san_text.specs.Name.{castlingName, firstName, kingFirst, nameOf, nameText, nameCheck}
-use Rattle.san_text.specs.Paper.{markOf, endOf, sanText}
-use Rattle.square.specs.Square.{readSquare, pairTold}
-use Rattle.castle_rights.specs.CastleRights.{lettersOf, lettersText}
-use Rattle.chess_move.specs.Coordinate.{promotionNamed, withDest, withSource, readMove}
-use Rattle.fen_text.specs.Token.{onto, joined, tokens, placeAfter, placeWhere}
-use Rattle.fen_text.specs.Placement.{placeByte, placeAll}
-use Rattle.fen_text.specs.Read.{sideOf, rightsOf, sided, assembled, ofTokens, readFen}
-use Rattle.fen_text.specs.Write.{digitText, runText, slashText, ranksText, rightsText, enPassantText, tailText, fenText}
-use Rattle.san_text.specs.Standard.{endsHere, standardEnd, standardPromotion, standardDest, isCastling, readStandard, standardCaptures}
-use Rattle.san_text.specs.Standard.{standardCastles, withEquals, standardTail, standardText}
-use Rattle.rows.specs.SanRows.{listIn, InDocument01, InTheStandard}
+use Rattle.san_text.specs.Resolve.{agrees, captureTest, castle, castlingMove, fits, soleThat}
+use Rattle.san_text.specs.Standard.{endsHere, isCastling, readStandard, standardCaptures, standardCastles, standardDest, standardEnd, standardPromotion}
+use Rattle.san_text.specs.Standard.{standardTail, standardText, withEquals}
+use Rattle.san_text.specs.Text.{after, isCheck, pieceKind, pieceOr, promotionKind, readDest, readEnd, readFile, readPiece, readPromotion, readRank, readTakes}
+use Rattle.san_text.specs.Text.{readText}
+use Rattle.rows.specs.SanRows.{listIn}
+use Rattle.rows.specs.SanRows.{InDocument01, InTheStandard, FormsByFlag}
 
-pub in-document-01 : InDocument01
-unfolding writeAnswer writeBytes ascii allAtMost same among kindOf pieceOf letterOf inRange listInRange count firstOf placeFrom squareAt promotionKind
-    pieceKind isCheck after pieceOr readTakes readRank readFile readPiece readEnd readPromotion readDest readText agrees fits captureTest soleThat
-    castlingMove castle castled resolved readAnswer optional promotionLetter pieceLetter changesFiles takesOf headOf candidates names castlingName
-    firstName kingFirst nameOf nameText nameCheck markOf endOf sanText readSquare pairTold lettersOf lettersText promotionNamed withDest withSource
-    readMove onto joined tokens placeAfter placeWhere placeByte placeAll sideOf rightsOf sided assembled ofTokens readFen digitText runText slashText
-    ranksText rightsText enPassantText tailText fenText endsHere standardEnd standardPromotion standardDest isCastling readStandard standardCaptures
-    standardCastles withEquals standardTail standardText listIn
-in-document-01 = record {
+pub in-document01 : InDocument01
+unfolding writeAnswer writeBytes ascii allAtMost among same kindOf pieceOf pairTold readSquare inRange placeAll placeByte assembled ofTokens readFen rightsOf
+    sideOf sided joined onto placeAfter placeWhere tokens promotionNamed readMove withDest withSource count firstOf listInRange castled readAnswer resolved
+    candidates castlingName changesFiles firstName headOf kingFirst nameCheck nameOf nameText names optional pieceLetter promotionLetter takesOf endOf markOf
+    sanText placeFrom squareAt agrees captureTest castle castlingMove fits soleThat endsHere isCastling readStandard standardCaptures standardCastles
+    standardDest standardEnd standardPromotion standardTail standardText withEquals after isCheck pieceKind pieceOr promotionKind readDest readEnd readFile
+    readPiece readPromotion readRank readTakes readText listIn
+in-document01 = record {
   long = record { answer = refl; text = refl; back = refl };
   black-short = record { answer = refl; text = refl; back = refl };
   black-long = record { answer = refl; text = refl; back = refl };
@@ -63,16 +61,26 @@ in-document-01 = record {
   file-alone = refl;
   file-only = refl;
   room-behind = refl;
+  lists-room-behind = refl;
+  room-short = refl;
+  room-left = refl;
+  by-lower-file = record { answer = refl; text = refl; back = refl };
+  lower-square = record { answer = refl; text = refl; back = refl };
+  lower-kind = refl;
+  to-the-right = record { answer = refl; text = refl; back = refl };
+  king-on-a1 = record { answer = refl; text = refl; back = refl };
+  from-nothing = refl;
+  no-check-sign = refl;
+  no-takes = refl;
 }
 
 pub in-the-standard : InTheStandard
-unfolding writeAnswer writeBytes ascii allAtMost same among kindOf pieceOf letterOf inRange listInRange count firstOf placeFrom squareAt promotionKind
-    pieceKind isCheck after pieceOr readTakes readRank readFile readPiece readEnd readPromotion readDest readText agrees fits captureTest soleThat
-    castlingMove castle castled resolved readAnswer optional promotionLetter pieceLetter changesFiles takesOf headOf candidates names castlingName
-    firstName kingFirst nameOf nameText nameCheck markOf endOf sanText readSquare pairTold lettersOf lettersText promotionNamed withDest withSource
-    readMove onto joined tokens placeAfter placeWhere placeByte placeAll sideOf rightsOf sided assembled ofTokens readFen digitText runText slashText
-    ranksText rightsText enPassantText tailText fenText endsHere standardEnd standardPromotion standardDest isCastling readStandard standardCaptures
-    standardCastles withEquals standardTail standardText listIn
+unfolding writeAnswer writeBytes ascii allAtMost among same kindOf pieceOf pairTold readSquare inRange placeAll placeByte assembled ofTokens readFen rightsOf
+    sideOf sided joined onto placeAfter placeWhere tokens promotionNamed readMove withDest withSource count firstOf listInRange castled readAnswer resolved
+    candidates castlingName changesFiles firstName headOf kingFirst nameCheck nameOf nameText names optional pieceLetter promotionLetter takesOf endOf markOf
+    sanText placeFrom squareAt agrees captureTest castle castlingMove fits soleThat endsHere isCastling readStandard standardCaptures standardCastles
+    standardDest standardEnd standardPromotion standardTail standardText withEquals after isCheck pieceKind pieceOr promotionKind readDest readEnd readFile
+    readPiece readPromotion readRank readTakes readText listIn
 in-the-standard = record {
   long = record { answer = refl; text = refl; back = refl };
   black-short = record { answer = refl; text = refl; back = refl };
@@ -96,4 +104,28 @@ in-the-standard = record {
   piece-only = refl;
   file-only = refl;
   room-behind = refl;
+  room-short = refl;
+  room-left = refl;
+  to-the-right = record { answer = refl; text = refl; back = refl };
+  by-rank = record { answer = refl; text = refl; back = refl };
+  no-check-sign = refl;
+  no-equals-sign = refl;
+}
+
+pub forms-by-flag : FormsByFlag
+unfolding writeAnswer writeBytes ascii allAtMost among same kindOf pieceOf pairTold readSquare inRange placeAll placeByte assembled ofTokens readFen rightsOf
+    sideOf sided joined onto placeAfter placeWhere tokens promotionNamed readMove withDest withSource count firstOf listInRange castled readAnswer resolved
+    candidates castlingName changesFiles firstName headOf kingFirst nameCheck nameOf nameText names optional pieceLetter promotionLetter takesOf endOf markOf
+    sanText placeFrom squareAt agrees captureTest castle castlingMove fits soleThat endsHere isCastling readStandard standardCaptures standardCastles
+    standardDest standardEnd standardPromotion standardTail standardText withEquals after isCheck pieceKind pieceOr promotionKind readDest readEnd readFile
+    readPiece readPromotion readRank readTakes readText listIn
+forms-by-flag = record {
+  standard-read = refl;
+  paper-read = refl;
+  standard-castling = refl;
+  standard-none = refl;
+  paper-castling = refl;
+  paper-none = refl;
+  standard-on = refl;
+  paper-on = refl;
 }

@@ -4,6 +4,7 @@
 use Prim.Native.Nat.{ℕ}
 use Prim.Native.String.{String}
 use mathlib.Core.Path.{_≡_}
+use mathlib.Core.Bool.{true, false}
 use mathlib.Core.List.{List, [], _∷_, _++_}
 use lib.ListN.{length, replicate}
 use Rattle.answer.specs.Answer.{accepted, refused, invalidSanMove}
@@ -11,8 +12,12 @@ use Rattle.answer.specs.Ascii.{ascii}
 use Rattle.board_builder.specs.declared.BoardBuilder.{BoardBuilder}
 use Rattle.chess_move.specs.Coordinate.{readMove}
 use Rattle.fen_text.specs.Read.{readFen}
-use Rattle.san_text.specs.Paper.{fromSan, nameAnswer, nameBytes}
+use Rattle.san_text.specs.declared.SanText.the-variants.{Move}
+use Rattle.san_text.specs.Form.{readAnswer}
+use Rattle.san_text.specs.Forms.{formOf, castlingIn, destIn}
+use Rattle.san_text.specs.Paper.{paper, fromSan, nameAnswer, nameBytes}
 use Rattle.san_text.specs.Standard.{fromSanStandard, standardNameAnswer, standardNameBytes}
+use Rattle.san_lists.specs.Calls.{callsOf}
 
 abbrev pub boardIn : String → BoardBuilder
 boardIn fen = readFen (ascii fen) .board
@@ -85,6 +90,23 @@ pub record InDocument01 : Type 0 where
   pub file-only : SaysNone "8/8/8/8/8/8/4P3/8 w - -" ("e2a1" ∷ "e2e1" ∷ []) "e"
   -- what stands behind the name in the room stays
   pub room-behind : nameBytes (boardIn "8/8/8/8/8/8/8/1N6 w - -") (listIn ("b1c3" ∷ [])) (moveIn "b1c3") (replicate 5 9) ≡ ascii "Nc3" ++ (9 ∷ 9 ∷ [])
+  pub lists-room-behind : callsOf paper .name .room (boardIn "8/8/8/8/8/8/8/1N6 w - -") (listIn ("b1c3" ∷ [])) (moveIn "b1c3") (replicate 5 9)
+      ≡ ascii "Nc3" ++ (9 ∷ 9 ∷ [])
+  -- a room that is too short: 7 with the length needed, and nothing is written
+  pub room-short : nameAnswer (boardIn "8/8/8/8/8/8/8/1N6 w - -") (listIn ("b1c3" ∷ [])) (moveIn "b1c3") 2 ≡ record { number = 7; value = 3 }
+  pub room-left : nameBytes (boardIn "8/8/8/8/8/8/8/1N6 w - -") (listIn ("b1c3" ∷ [])) (moveIn "b1c3") (replicate 2 9) ≡ replicate 2 9
+  -- the lower file, the lower square and the lower kind: none of them stands for the higher too
+  pub by-lower-file : Writes "8/8/8/8/8/8/8/R6R w - -" ("a1d1" ∷ "h1d1" ∷ []) "a1d1" "Rad1"
+  pub lower-square : Writes "8/8/8/8/8/8/8/1N6 w - -" ("b1c3" ∷ "b1d2" ∷ []) "b1d2" "Nd2"
+  pub lower-kind : SaysNone "8/8/8/8/8/8/8/1B6 w - -" ("b1c3" ∷ []) "Nc3"
+  -- a pawn that changes to the file on its right; a king's move from another square, with a lower number than castling has
+  pub to-the-right : Writes "8/8/8/3P4/8/8/8/8 w - -" ("d5e6" ∷ []) "d5e6" "dxe6 e.p."
+  pub king-on-a1 : Writes "8/8/8/8/8/8/8/K7 w - -" ("a1b1" ∷ []) "a1b1" "Kb1"
+  -- a move from an empty square has no name, also where a pawn's move to that square does
+  pub from-nothing : nameAnswer (boardIn "8/8/8/8/8/8/2P5/8 w - -") (listIn ("b1c3" ∷ "c2c3" ∷ [])) (moveIn "b1c3") 9 ≡ record { number = 8; value = 0 }
+  -- `?` is no sign of check, and `y` is no `x`
+  pub no-check-sign : SaysNone "8/8/8/4P3/8/8/8/8 w - -" ("e5d6" ∷ []) "exd6? e.p."
+  pub no-takes : SaysNone "8/8/8/8/8/2p5/8/1N6 w - -" ("b1c3" ∷ []) "Nyc3"
 
 pub record InTheStandard : Type 0 where
   pub long : StandardWrites "8/8/8/8/8/8/8/R3K3 w Q -" ("e1d1" ∷ "e1c1" ∷ []) "e1c1" "O-O-O"
@@ -109,3 +131,25 @@ pub record InTheStandard : Type 0 where
   pub piece-only : StandardSaysNone "8/8/8/8/8/1N6/8/8 w - -" ("b3a1" ∷ []) "N"
   pub file-only : StandardSaysNone "8/8/8/8/8/8/4P3/8 w - -" ("e2a1" ∷ "e2e1" ∷ []) "e"
   pub room-behind : standardNameBytes (boardIn "8/8/8/8/8/8/8/1N6 w - -") (listIn ("b1c3" ∷ [])) (moveIn "b1c3") (replicate 5 9) ≡ ascii "Nc3" ++ (9 ∷ 9 ∷ [])
+  pub room-short : standardNameAnswer (boardIn "8/8/8/8/8/8/8/1N6 w - -") (listIn ("b1c3" ∷ [])) (moveIn "b1c3") 2 ≡ record { number = 7; value = 3 }
+  pub room-left : standardNameBytes (boardIn "8/8/8/8/8/8/8/1N6 w - -") (listIn ("b1c3" ∷ [])) (moveIn "b1c3") (replicate 2 9) ≡ replicate 2 9
+  pub to-the-right : StandardWrites "8/8/8/3P4/8/8/8/8 w - -" ("d5e6" ∷ []) "d5e6" "dxe6"
+  pub by-rank : StandardWrites "8/8/8/R7/8/8/8/R7 w - -" ("a1a3" ∷ "a5a3" ∷ []) "a5a3" "R5a3"
+  -- `?` is no sign of check, and no `=`
+  pub no-check-sign : StandardSaysNone "8/8/8/8/8/8/8/1N6 w - -" ("b1c3" ∷ []) "Nc3?"
+  pub no-equals-sign : StandardSaysNone "8/P7/8/8/8/8/8/8 w - -" ("a7a8q" ∷ []) "a8?Q"
+
+-- the two forms by their flag: true is the standard's
+pub record FormsByFlag : Type 0 where
+  pub standard-read : readAnswer (formOf true) (boardIn "8/P7/8/8/8/8/8/8 w - -") (listIn ("a7a8q" ∷ [])) (ascii "a8=Q") ≡ accepted (moveIn "a7a8q")
+  pub paper-read : readAnswer (formOf false) (boardIn "8/P7/8/8/8/8/8/8 w - -") (listIn ("a7a8q" ∷ [])) (ascii "a8Q") ≡ accepted (moveIn "a7a8q")
+  -- a castling text, with a sign of check, and what is none
+  pub standard-castling : castlingIn true (ascii "O-O+") (ascii "O-O") ≡ true
+  pub standard-none : castlingIn true (ascii "O-O-O") (ascii "O-O") ≡ false
+  pub paper-castling : castlingIn false (ascii "O-O") (ascii "O-O") ≡ true
+  pub paper-none : castlingIn false (ascii "O-O+") (ascii "O-O") ≡ false
+  -- from the destination on: a pawn to a8, by its file and rank
+  pub standard-on : destIn true 0 1 8 false (ascii "=Q")
+      ≡ Move (record { piece = 1; file = 0; rank = 0; takes = false; dest = 56; promotion = 5; mark = false })
+  pub paper-on : destIn false 0 1 8 false (ascii "Q e.p.")
+      ≡ Move (record { piece = 1; file = 0; rank = 0; takes = false; dest = 56; promotion = 5; mark = true })
