@@ -5,8 +5,8 @@ use Rattle.answer.specs.Answer.{writeAnswer, writeBytes}
 use Rattle.answer.specs.Numbers.{allAtMost}
 use Rattle.board_builder.specs.BoardBuilder.{inRange, numbers}
 use Rattle.action.specs.Layout.{actionOf}
-use Rattle.actions.specs.Part.{actionsHeld, movesIn}
-use Rattle.roll_text.specs.Calls.{actsNumber, actsOver, frontNumber, isActs, judgedBy, rollAnswer, rollOver, writeCheck}
+use Rattle.actions.specs.Part.{actionsHeld}
+use Rattle.roll_text.specs.Calls.{actsNumber, actsOver, frontNumber, isActs, judgedBy, movesByKind, rollAnswer, rollOver, writeCheck}
 use Rattle.roll_text.specs.Number.{behind, groups, readGroups}
 use Rattle.roll_text.specs.Promises.{formed}
 use Rattle.roll_text.specs.Roll.{actionText, actionsText, coded, countsText, fullBy, halfBy, isCode, largestNumbers, movedBy, nextAction, numbersText}
@@ -16,7 +16,7 @@ use Rattle.roll_reader.specs.Checked.{checked}
 use Rattle.log_rows.specs.Rolls.{WrittenByCalls, ReadByCalls, StartsRead, StagesRead, LooksAtRolls}
 
 pub written-by-calls : WrittenByCalls
-unfolding writeAnswer writeBytes allAtMost inRange numbers actionOf actionsHeld movesIn actsNumber actsOver frontNumber isActs judgedBy rollAnswer rollOver
+unfolding writeAnswer writeBytes allAtMost inRange numbers actionOf actionsHeld actsNumber actsOver frontNumber isActs judgedBy movesByKind rollAnswer rollOver
     writeCheck behind groups readGroups formed actionText actionsText coded countsText fullBy halfBy isCode largestNumbers movedBy nextAction numbersText
     oneNumber putAction putNumber readActions readBy readCounters readNumbers startFits textBy withActions withCount withCounts withFront withinBounds checked
 written-by-calls = record {
@@ -29,7 +29,7 @@ written-by-calls = record {
 }
 
 pub read-by-calls : ReadByCalls
-unfolding writeAnswer writeBytes allAtMost inRange numbers actionOf actionsHeld movesIn actsNumber actsOver frontNumber isActs judgedBy rollAnswer rollOver
+unfolding writeAnswer writeBytes allAtMost inRange numbers actionOf actionsHeld actsNumber actsOver frontNumber isActs judgedBy movesByKind rollAnswer rollOver
     writeCheck behind groups readGroups formed actionText actionsText coded countsText fullBy halfBy isCode largestNumbers movedBy nextAction numbersText
     oneNumber putAction putNumber readActions readBy readCounters readNumbers startFits textBy withActions withCount withCounts withFront withinBounds checked
 read-by-calls = record {
@@ -45,7 +45,7 @@ read-by-calls = record {
 }
 
 pub starts-read : StartsRead
-unfolding writeAnswer writeBytes allAtMost inRange numbers actionOf actionsHeld movesIn actsNumber actsOver frontNumber isActs judgedBy rollAnswer rollOver
+unfolding writeAnswer writeBytes allAtMost inRange numbers actionOf actionsHeld actsNumber actsOver frontNumber isActs judgedBy movesByKind rollAnswer rollOver
     writeCheck behind groups readGroups formed actionText actionsText coded countsText fullBy halfBy isCode largestNumbers movedBy nextAction numbersText
     oneNumber putAction putNumber readActions readBy readCounters readNumbers startFits textBy withActions withCount withCounts withFront withinBounds checked
 starts-read = record {
@@ -68,7 +68,7 @@ starts-read = record {
 }
 
 pub stages-read : StagesRead
-unfolding writeAnswer writeBytes allAtMost inRange numbers actionOf actionsHeld movesIn actsNumber actsOver frontNumber isActs judgedBy rollAnswer rollOver
+unfolding writeAnswer writeBytes allAtMost inRange numbers actionOf actionsHeld actsNumber actsOver frontNumber isActs judgedBy movesByKind rollAnswer rollOver
     writeCheck behind groups readGroups formed actionText actionsText coded countsText fullBy halfBy isCode largestNumbers movedBy nextAction numbersText
     oneNumber putAction putNumber readActions readBy readCounters readNumbers startFits textBy withActions withCount withCounts withFront withinBounds checked
 stages-read = record {
@@ -84,7 +84,7 @@ stages-read = record {
 }
 
 pub looks-at-rolls : LooksAtRolls
-unfolding writeAnswer writeBytes allAtMost inRange numbers actionOf actionsHeld movesIn actsNumber actsOver frontNumber isActs judgedBy rollAnswer rollOver
+unfolding writeAnswer writeBytes allAtMost inRange numbers actionOf actionsHeld actsNumber actsOver frontNumber isActs judgedBy movesByKind rollAnswer rollOver
     writeCheck behind groups readGroups formed actionText actionsText coded countsText fullBy halfBy isCode largestNumbers movedBy nextAction numbersText
     oneNumber putAction putNumber readActions readBy readCounters readNumbers startFits textBy withActions withCount withCounts withFront withinBounds checked
 looks-at-rolls = record {
