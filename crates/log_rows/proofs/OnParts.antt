@@ -133,6 +133,7 @@ clocks-read = record {
   number-stops = refl;
   kept = refl;
   lost = refl;
+  lost-earlier = refl;
   lost-before = refl;
 }
 

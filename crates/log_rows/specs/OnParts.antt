@@ -139,6 +139,7 @@ pub record ClocksRead : Type 0 where
   pub number-stops : fullFrom 9998 1 3 ≡ 9999
   pub kept : rightsKept (movesMade knightsOffered) ≡ true
   pub lost : rightsKept (movesMade knightsOut) ≡ false
+  pub lost-earlier : rightsKept (movesMade (after knightsOut (plays "b8c6" (stands "r3k3/8/2n5/8/8/P1N5/8/4K1R1 w q -" 0 [])))) ≡ false
   pub lost-before : rightsKept (movesMade (after knightsOut (plays "a3a4" (stands "rn2k3/8/8/8/P7/2N5/8/4K1R1 w q -" 0 [])))) ≡ true
 
 -- three actions and one move: parts of 12 and of 1,168 bytes, each lent with one byte more
