@@ -10,6 +10,7 @@ use Rattle.board_builder.specs.BoardBuilder.{initialBoard}
 use Rattle.fen_text.specs.declared.Fen.{Fen}
 use Rattle.fen_text.specs.Base.{baseFen}
 use Rattle.fen_text.specs.Lines.{lines, lineEnd, endedLines}
+use Rattle.fen_text.specs.Promises.{cratePair, fullPair}
 use Rattle.fen_text.specs.Read.{readFen}
 use Rattle.fen_text.specs.Token.{tokens, placeOf}
 use Rattle.fen_text.specs.Write.{fullText}
@@ -44,6 +45,11 @@ pub record FensRefused : Type 0 where
   pub tab-is-no-space : tokens (56 ∷ 9 ∷ 32 ∷ 119 ∷ []) ≡ (56 ∷ 9 ∷ []) ∷ (119 ∷ []) ∷ []
   pub behind-a-smaller : placeOf 98 (ascii "ab") ≡ 1
   pub behind-a-larger : placeOf 98 (ascii "cab") ≡ 2
+
+-- the longest texts of the two writers
+pub record LongestTexts : Type 0 where
+  pub of-the-crate : cratePair .most ≡ 85
+  pub full : fullPair .most ≡ 91
 
 -- a tab, 9, ends no line
 pub record LinesEnd : Type 0 where
