@@ -53,7 +53,7 @@ pub record OrderNumbers : Type 0 where
   pub unknown-token : unknownToken ≡ 23
   pub wrong-record : wrongRecord ≡ 24
   pub bad-counter : badCounter ≡ 25
-  pub of-the-archive : version ≡ 15
+  pub of-the-archive : version ≡ 16
 
 pub record AnswersInNumbers : Type 0 where
   pub zero-and-a-value : accepted 9 ≡ says 0 9
