@@ -48,8 +48,8 @@ use Rattle.legal_lists.proofs.Told.{judgements-tell}
 use Rattle.legal_lists.proofs.Own.{check-passed, own-list-is-right}
 use Rattle.legal_lists.proofs.Names.{never-eight, standard-never-eight, legal-moves-named, legal-moves-named-standard}
 use Rattle.legal_lists.proofs.Mates.{mates-by-the-laws}
-use Rattle.host_lists.specs.HostCalls.{Reading, ReadCall, readBoard, readList, readText, readAnswer}
-use Rattle.host_lists.specs.HostCalls.{Naming, NameCall, nameBoard, nameList, nameMove, nameAnswer, roomLent, roomLeft}
+use Rattle.host_lists.specs.HostCalls.{Reading, ReadCall, readBoard, readList, textToRead, sanRead}
+use Rattle.host_lists.specs.HostCalls.{Naming, NameCall, nameBoard, nameList, nameMove, sanNamed, roomLent, roomLeft}
 use Rattle.host_settled.specs.SettledCalls.{toPlay}
 use Rattle.menkhodur.proofs.menkhodur_san_read.Reads as san-read
 use Rattle.menkhodur.proofs.menkhodur_san_read_standard.Reads as san-read-standard
@@ -158,7 +158,7 @@ kings-left-safe c p z from listed =
 
 -- what a namer's contract says is that it answers by a definition
 record NamedBy (w : Namer) {Learnt : Naming} (c : NameCall Learnt) : Type 0 where
-  answer : nameAnswer c ≡ w .answer (nameBoard c) (nameList c) (nameMove c) (length (roomLent c))
+  answer : sanNamed c ≡ w .answer (nameBoard c) (nameList c) (nameMove c) (length (roomLent c))
   room : roomLeft c ≡ w .room (nameBoard c) (nameList c) (nameMove c) (roomLent c)
 
 -- a list judged right is within the legal moves
@@ -194,7 +194,7 @@ module _ (w : Namer) {Learnt : Naming} (is : (c : NameCall Learnt) → NamedBy w
       never (nameBoard c) (nameList c) (nameMove c) (length (roomLent c)) (on-legal j f (nameBoard c) (nameList c) (o .board) (o .list))
       (sym (ap (λ (a : Answer). a .number) (is c .answer)) ∙ e)
 
-  module _ (read : Reader) {Reads : Reading} (reads : (r : ReadCall Reads) → readAnswer r ≡ read (readBoard r) (readList r) (readText r)) (longest : ℕ) where
+  module _ (read : Reader) {Reads : Reading} (reads : (r : ReadCall Reads) → sanRead r ≡ read (readBoard r) (readList r) (textToRead r)) (longest : ℕ) where
     read-back : NamesLegalMoves longest w read → NamesReadBackAlways longest Reads Learnt
     read-back named j c r f o legal room t =
         let b = nameBoard c in
@@ -207,11 +207,11 @@ module _ (w : Namer) {Learnt : Naming} (is : (c : NameCall Learnt) → NamedBy w
         ap (λ (k : List ℕ). among m k) (o .list) ∙ reordered-listed (judgeList j) (legalMoves (judgeBoard j)) (right j f .list-owed) m ∙ legal in
         let n = named b l m (roomLent c) range list (on-legal j f b l (o .board) (o .list)) here room in
         let value = ap (λ (a : Answer). a .value) (is c .answer) in
-        let text : readText r ≡ take (w .answer b l m (length (roomLent c)) .value) (w .room b l m (roomLent c)) =
+        let text : textToRead r ≡ take (w .answer b l m (length (roomLent c)) .value) (w .room b l m (roomLent c)) =
         t .text ∙ ap₂ (λ (k : ℕ) (out : List ℕ). take k out) value (is c .room) in (
           ap (λ (a : Answer). a .number) (is c .answer) ∙ n .number,
           reads r
-              ∙ ap (λ (x : BoardBuilder). read x (readList r) (readText r)) (t .board)
+              ∙ ap (λ (x : BoardBuilder). read x (readList r) (textToRead r)) (t .board)
               ∙ ap₂ (λ (x y : List ℕ). read b x y) (t .list) text
               ∙ n .back,
         )

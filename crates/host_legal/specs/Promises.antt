@@ -12,8 +12,8 @@ use Rattle.move_laws.specs.Attack.{inCheck}
 use Rattle.move_laws.specs.Legal.{legalMoves}
 use Rattle.legal_lists.specs.Promises.{Right, RuledByTheLaws}
 use Rattle.legal_lists.specs.Told.{Told}
-use Rattle.host_lists.specs.HostCalls.{Reading, ReadCall, readBoard, readList, readText, readAnswer}
-use Rattle.host_lists.specs.HostCalls.{Naming, NameCall, nameBoard, nameList, nameMove, nameAnswer, roomLent, roomLeft}
+use Rattle.host_lists.specs.HostCalls.{Reading, ReadCall, readBoard, readList, textToRead, sanRead}
+use Rattle.host_lists.specs.HostCalls.{Naming, NameCall, nameBoard, nameList, nameMove, sanNamed, roomLent, roomLeft}
 use Rattle.host_settled.specs.SettledCalls.{PlayCall, toPlayFrom, toPlay, playTold}
 use Rattle.host_legal.specs.LegalCalls.{CheckCall, checkBoard, checkTold, ListCall, listBoard, listTold, listWritten}
 use Rattle.host_legal.specs.LegalCalls.{JudgeCall, judgeBoard, judgeByte, judgeList, judgeTold, ResultCall, lastPosition, resultTold}
@@ -64,18 +64,18 @@ pub record NamedOn {Learnt : Naming} (j : JudgeCall) (c : NameCall Learnt) : Typ
 
 -- on it, a namer never answers 8
 abbrev pub NeverUnnamed : Naming → Type 0
-NeverUnnamed Learnt = (j : JudgeCall) (c : NameCall Learnt) → FoundRight j → NamedOn j c → nameAnswer c .number ≡ noName → ⊥
+NeverUnnamed Learnt = (j : JudgeCall) (c : NameCall Learnt) → FoundRight j → NamedOn j c → sanNamed c .number ≡ noName → ⊥
 
 -- so every legal move has a name, in room for the longest, and the reader answers the name with that very move
 pub record ReadsTheName {Reads : Reading} {Names : Naming} (c : NameCall Names) (r : ReadCall Reads) : Type 0 where
   pub board : readBoard r ≡ nameBoard c
   pub list : readList r ≡ nameList c
-  pub text : readText r ≡ take (nameAnswer c .value) (roomLeft c)
+  pub text : textToRead r ≡ take (sanNamed c .value) (roomLeft c)
 
 abbrev pub NamesReadBackAlways : ℕ → Reading → Naming → Type 0
 NamesReadBackAlways longest Reads Names =
     (j : JudgeCall) (c : NameCall Names) (r : ReadCall Reads) → FoundRight j → NamedOn j c → among (nameMove c) (legalMoves (judgeBoard j)) ≡ true
-    → longest ≤ length (roomLent c) → ReadsTheName c r → (nameAnswer c .number ≡ 0) × (readAnswer r ≡ accepted (nameMove c))
+    → longest ≤ length (roomLent c) → ReadsTheName c r → (sanNamed c .number ≡ 0) × (sanRead r ≡ accepted (nameMove c))
 
 -- ---- mates
 
