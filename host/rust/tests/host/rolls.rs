@@ -524,12 +524,14 @@ fn a_start_out_of_range_in_any_number() {
     }
 }
 
-/// Bytes of a move's kind that are no action are no move either.
+/// 13 is told before 17: a move's kind counts, whatever else its bytes say, and no other kind does.
 #[test]
-fn only_moves_are_counted_as_moves() {
+fn moves_are_counted_by_their_kind() {
     let most = [[1, 0, 0, 0]; MAX_MOVES];
-    for (last, want) in [([1, 1, 0, 0], Error::BadRoll), ([1, 0, 0, 112], Error::BadRoll), ([1, 0, 0, 0], Error::LogFull)] {
+    let lasts = [[1, 1, 0, 0], [1, 0, 0, 112], [1, 0, 0, 0]].map(|last| (last, Error::LogFull));
+    for (last, want) in lasts.into_iter().chain([([0, 1, 1, 1], Error::BadRoll), ([2, 2, 1, 1], Error::BadRoll)]) {
         refuses(want, &empty(), &part_with(&[&most[..], &[last]].concat()), MAX_MOVES as u64 + 1, MAX_ROLL);
+        refuses(want, &empty(), &part_with(&[&[last], &most[..]].concat()), MAX_MOVES as u64 + 1, MAX_ROLL);
     }
     assert_eq!(lent::roll_write(&empty(), &part_with(&most), MAX_MOVES as u64, &mut [0; MAX_ROLL]), Ok(70 + 2 + 2 * MAX_MOVES));
 }
