@@ -6,4 +6,5 @@ pub mod Room
 pub mod Safety
 pub mod Listing
 pub mod Promoting
+pub mod Skipping
 pub mod Determined

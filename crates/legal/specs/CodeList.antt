@@ -1,12 +1,13 @@
 -- How the list is gathered: how many numbers are asked; each move to its place in a room of 255, and their number, 256 for more than 255.
 -- Assumes nothing.
-use Prim.Native.Nat.{ℕ, zero, suc, _+_}
+use Prim.Native.Nat.{ℕ, zero, suc, _+_, _≤_, _<_}
+use mathlib.Core.Path.{_≡_}
 use mathlib.Core.Bool.{Bool, false, cond, _||_}
 use mathlib.Core.List.{List, [], _∷_}
 use lib.Dec.{eqb, leb}
-use lib.ListN.{set}
+use lib.ListN.{length, set, getD}
 use Rattle.square.specs.Piece.{pawn, manOn}
-use Rattle.move_laws.specs.Attack.{manOf}
+use Rattle.move_laws.specs.Attack.{manOf, ofSide}
 
 -- the first square of the rank from which a side's pawns promote, and whether one of them is there: on the first n squares of it, and on all eight
 abbrev pub seventhRank : ℕ → ℕ
@@ -18,6 +19,16 @@ pawnFrom squares man first (suc n) = eqb (manOn squares (first + n)) man || pawn
 
 unfoldable pub mayPromote : List ℕ → ℕ → Bool
 mayPromote squares side = pawnFrom squares (manOf side pawn) (seventhRank side) 8
+
+-- a step from a square to a higher one, or past the last, that passes over no man of a side; and a table of them, from a square on
+pub record Skips (squares : List ℕ) (side s step : ℕ) : Type 0 where
+  pub some : 1 ≤ step
+  pub within : s + step ≤ 64
+  pub none : (x : ℕ) → s < x → x < s + step → ofSide side (manOn squares x) ≡ false
+
+pub record SkipsFrom (squares : List ℕ) (side first : ℕ) (steps : List ℕ) : Type 0 where
+  pub long : length steps ≡ 64
+  pub each : (s : ℕ) → first ≤ s → s < 64 → Skips squares side s (getD steps s 0)
 
 unfoldable pub countedTo : ℕ → ℕ
 countedTo count = cond (leb 255 count) 256 (count + 1)

@@ -8,7 +8,7 @@ use square::KING;
 use square::PAWN;
 ghost use mathlib.Core.Path.{_≡_};
 ghost use mathlib.Core.Bool.{true, cond, not, _||_};
-ghost use Prim.Native.Nat.{_/_, _%_, _≤_, _<_};
+ghost use Prim.Native.Nat.{_+_, _/_, _%_, _≤_, _<_};
 ghost use lib.ListN.{length};
 ghost use Rattle.answer.specs.Answer.{writeAnswer, writeBytes};
 ghost use Rattle.board_builder.specs.BoardBuilder.{inRange};
@@ -20,7 +20,7 @@ ghost use Rattle.move_laws.specs.Attack.{attacked, kingAttacked, inCheck};
 ghost use Rattle.move_laws.specs.Move.{mayTake, mayArrive, pawnSteps, secondRank, pawnStepsTwice, pawnCaptures, passingRank, pawnPasses, pawnMoves};
 ghost use Rattle.move_laws.specs.Move.{rightHeld, wayAttacked, kingCastles, lastRank, promotes, pieceMoves, kindMoves};
 ghost use Rattle.move_laws.specs.Legal.{ownRights, goes, isLegal, legalFrom, legalMoves, listCheck, checkByte, checkAnswer};
-ghost use Rattle.legal.specs.CodeList.{seventhRank, mayPromote, countedTo, putAt, countFrom, filledFrom};
+ghost use Rattle.legal.specs.CodeList.{seventhRank, mayPromote, SkipsFrom, countedTo, putAt, countFrom, filledFrom};
 
 // The kinds of men that `square` has no constant for.
 
@@ -586,6 +586,31 @@ fn numbers_asked(squares: &[u8], b: BoardBuilder) -> u64
     4096
 }
 
+fn next_step(own: bool, step: u8) -> u8
+    requires { ⌜ step < 65 ⌝ }
+    ensures { λ r. ⌜ r ≡ cond own 1 (step + 1) ⌝ }
+{
+    if own {
+        return 1;
+    }
+    step + 1
+}
+
+// From each square the step to the next with a man of a side: the numbers between, which begin at no such man, are no legal moves.
+fn mark_steps(squares: &[u8], side: u8, steps: &mut [u8])
+    requires { ⌜ (length (now squares) ≡ 64) × (side < 2) × (length (now steps) ≡ 64) ⌝ }
+    ensures { λ r. ⌜ SkipsFrom (now (squares .entry)) side 0 (now (steps .exit)) ⌝ }
+{
+    let mut s: u8 = 64;
+    let mut step: u8 = 1;
+    while 0 < s {
+        s -= 1;
+        steps[s as usize] = step;
+        let own = of_side(side, squares[s as usize]);
+        step = next_step(own, step);
+    }
+}
+
 fn keep(legal: bool, m: u16, room: &mut [u16], count: usize) -> usize
     requires { ⌜ (length (now room) ≡ 255) × (count < 257) ⌝ }
     ensures count { λ r. ⌜ r ≡ cond legal (countedTo count) count ⌝ }
@@ -609,12 +634,14 @@ fn gather(b: BoardBuilder, room: &mut [u16]) -> usize
 {
     let squares = b.pieces;
     let asked = numbers_asked(&squares, b);
+    let mut steps = [1u8; 64];
+    mark_steps(&squares, b.side_to_move, &mut steps);
     let mut count: usize = 0;
     let mut m: u64 = 0;
     while m < asked {
         let legal = is_legal(&squares, b, m);
         count = keep(legal, m as u16, room, count);
-        m += 1;
+        m += steps[(m % 64) as usize] as u64;
     }
     count
 }

@@ -2,21 +2,25 @@
 use borrow.Author.Needs.{needs}
 use native.Mathlib.Omega.{arith}
 use mathlib.Core.Path.{_≡_, refl, ap, sym, _∙_}
-use Prim.Native.Nat.{_-_, _≤_, _<_}
+use Prim.Native.Nat.{_-_, _%_, _<_}
 use lib.ListN.{length}
 use Rattle.move_laws.specs.Legal.{legalFrom, legalMoves}
-use Rattle.legal.proofs.Room.{count-step, room-step, count-last, room-last, count-start, room-start, put-length, counted-under}
-use Rattle.legal.specs.CodeList.{countFrom, filledFrom}
+use Rattle.board_builder.proofs.Ranges.{in-range}
+use Rattle.legal.proofs.Safety.{side-under}
+use Rattle.legal.proofs.Room.{count-last, room-last, count-start, room-start, put-length, counted-under}
+use Rattle.legal.proofs.Skipping.{count-skip, room-skip}
+use Rattle.legal.specs.CodeList.{SkipsFrom, countFrom, filledFrom}
 use Rattle.legal.proofs.gather.Statement.{statement}
 use Rattle.legal.proofs.gather.Tie as tie
 
 abbrev Inv-loop : tie.InvT-loop
-Inv-loop b room₀ squares asked count₀ m₀ room count m =
-    (m ≤ asked) × (length room ≡ 255) × (count < 257) × (countFrom 0 (legalMoves b) ≡ countFrom count (legalFrom b (asked - m) m)) ×
+Inv-loop b room₀ squares asked steps count₀ m₀ room count m =
+    SkipsFrom (b .pieces) (b .«side_to_move») 0 steps × (length room ≡ 255) × (count < 257) ×
+    (countFrom 0 (legalMoves b) ≡ countFrom count (legalFrom b (asked - m) m)) ×
     (filledFrom room₀ 0 (legalMoves b) ≡ filledFrom room count (legalFrom b (asked - m) m))
 
 abbrev μ-loop : tie.MeasureT-loop
-μ-loop b room₀ squares asked count₀ m₀ room count m = asked - m
+μ-loop b room₀ squares asked steps count₀ m₀ room count m = asked - m
 
 slice-aggregate-numbers-asked : tie.Need-slice-aggregate-numbers-asked Inv-loop μ-loop
 slice-aggregate-numbers-asked c = search needs
@@ -24,16 +28,29 @@ slice-aggregate-numbers-asked c = search needs
 numbers-asked-requires : tie.Need-numbers-asked-requires Inv-loop μ-loop
 numbers-asked-requires c κs = (refl, c .before .before .before .pre .1)
 
+slice-aggregate-mark-steps : tie.Need-slice-aggregate-mark-steps Inv-loop μ-loop
+slice-aggregate-mark-steps c = search needs
+
+slice-aggregate-mark-steps-2 : tie.Need-slice-aggregate-mark-steps-2 Inv-loop μ-loop
+slice-aggregate-mark-steps-2 c = search needs
+
+mark-steps-requires : tie.Need-mark-steps-requires Inv-loop μ-loop
+mark-steps-requires c κs =
+    let a = c .before .before .before .before .before .before .args in
+    let at-pre = c .before .before .before .before .before .before .pre in
+    (in-range (a .b) (at-pre .1) .long, side-under (a .b) (at-pre .1), search needs)
+
 loop-holds : tie.Need-loop-holds Inv-loop μ-loop
 loop-holds c =
-    let a = c .before .before .before .before .args in
-    let at-pre = c .before .before .before .before .pre in (
-      omega arith,
+    let a = c .before .before .before .before .before .before .before .before .args in
+    let at-pre = c .before .before .before .before .before .before .before .before .pre in
+    let at-numbers-asked = c .before .before .before .before .numbers-asked in
+    let at-mark-steps = c .before .mark-steps in (
+      at-mark-steps .ensures,
       at-pre .0,
       omega arith,
-      count-start (a .b) (c .numbers-asked .result) (c .numbers-asked .ensures .1),
-      room-start (a .b) (a .room .now)
-          (c .numbers-asked .result) (c .numbers-asked .ensures .1),
+      count-start (a .b) (at-numbers-asked .result) (at-numbers-asked .ensures .1),
+      room-start (a .b) (a .room .now) (at-numbers-asked .result) (at-numbers-asked .ensures .1),
     )
 
 slice-aggregate-is-legal : tie.Need-slice-aggregate-is-legal Inv-loop μ-loop
@@ -41,53 +58,72 @@ slice-aggregate-is-legal c = search needs
 
 is-legal-requires : tie.Need-is-legal-requires Inv-loop μ-loop
 is-legal-requires c κs =
-    let at-pre = c .before .before .before .before .before .before .before .pre in
-    let at-numbers-asked = c .before .before .before .numbers-asked in
+    let at-pre = c .before .before .before .before .before .before .before .before .before .before .before .pre in
+    let at-numbers-asked = c .before .before .before .before .before .before .before .numbers-asked in
     let at-loop-test = c .before .loop-test in
     (refl, at-pre .1, omega (arith, at-loop-test .taken, at-numbers-asked .ensures .0))
 
 cast-keep : tie.Need-cast-keep Inv-loop μ-loop
-cast-keep c = omega (arith, c .before .before .loop-test .taken, c .before .before .before .before .numbers-asked .ensures .0)
+cast-keep c =
+    let at-numbers-asked = c .before .before .before .before .before .before .before .before .numbers-asked in
+    let at-loop-test = c .before .before .loop-test in
+    omega (arith, at-loop-test .taken, at-numbers-asked .ensures .0)
 
 keep-requires : tie.Need-keep-requires Inv-loop μ-loop
-keep-requires c κs = (c .before .before .before .before .loop .inv .1, c .before .before .before .before .loop .inv .2)
+keep-requires c κs =
+    let at-loop = c .before .before .before .before .loop in
+    (at-loop .inv .1, at-loop .inv .2)
+
+array-read-m : tie.Need-array-read-m Inv-loop μ-loop
+array-read-m c = search needs
+
+cast-m : tie.Need-cast-m Inv-loop μ-loop
+cast-m c =
+    let at-loop = c .before .before .before .before .before .before .before .loop in
+    let w = at-loop .inv .0 .each (at-loop .m % 64) (omega arith) (omega arith) in omega (arith, w .within)
 
 add-m : tie.Need-add-m Inv-loop μ-loop
 add-m c =
-    let at-numbers-asked = c .before .before .before .before .before .before .before .before .numbers-asked in
+    let at-numbers-asked = c .before .before .before .before .before .before .before .before .before .before .before .before .numbers-asked in
+    let at-loop = c .before .before .before .before .before .before .before .loop in
     let at-loop-test = c .before .before .before .before .before .before .loop-test in
-    omega (arith, at-loop-test .taken, at-numbers-asked .ensures .0)
+    let w = at-loop .inv .0 .each (at-loop .m % 64) (omega arith) (omega arith) in
+    omega (arith, at-loop-test .taken, at-numbers-asked .ensures .0, w .within)
 
 loop-less : tie.Need-loop-less Inv-loop μ-loop
-loop-less c = omega (arith, c .before .before .before .before .before .before .loop-test .taken)
+loop-less c =
+    let at-loop = c .before .before .before .before .before .before .before .loop in
+    let at-loop-test = c .before .before .before .before .before .before .loop-test in
+    let w = at-loop .inv .0 .each (at-loop .m % 64) (omega arith) (omega arith) in
+    omega (arith, at-loop-test .taken, w .some)
 
 loop-again : tie.Need-loop-again Inv-loop μ-loop
 loop-again c =
-    let a = c .before .before .before .before .before .before .before .before .before .before .before .before .args in
-    let at-numbers-asked = c .before .before .before .before .before .before .before .before .numbers-asked in
+    let a = c .before .before .before .before .before .before .before .before .before .before .before .before .before .before .before .before .args in
+    let at-numbers-asked = c .before .before .before .before .before .before .before .before .before .before .before .before .numbers-asked in
     let at-loop = c .before .before .before .before .before .before .before .loop in
     let at-loop-test = c .before .before .before .before .before .before .loop-test in
     let at-is-legal = c .before .before .before .before .is-legal in
-    let at-keep = c .before .before .keep in (
-      omega (arith, at-loop-test .taken),
-      ap length (at-keep .ensures .1) ∙ put-length (at-loop .room) (at-loop .count) (at-loop .m) (at-is-legal .result) ∙
-          at-loop .inv .1,
-      (let z = counted-under (at-loop .count) (at-is-legal .result) (at-loop .inv .2) in omega (arith, z, at-keep .ensures .0)),
-      count-step
-          (a .b) (at-numbers-asked .result) (at-loop .count) (at-loop .m) (at-is-legal .result) (at-keep .result) (countFrom 0 (legalMoves (a .b)))
+    let at-keep = c .before .before .keep in
+    let w = at-loop .inv .0 .each (at-loop .m % 64) (omega arith) (omega arith) in
+    let t = at-is-legal .result in (
+      at-loop .inv .0,
+      ap length (at-keep .ensures .1) ∙ put-length (at-loop .room) (at-loop .count) (at-loop .m) t ∙ at-loop .inv .1,
+      (let z = counted-under (at-loop .count) t (at-loop .inv .2) in omega (arith, z, at-keep .ensures .0)),
+      count-skip (a .b) (at-numbers-asked .result) (at-loop .count) (at-loop .m) _ t (at-keep .result) (countFrom 0 (legalMoves (a .b))) w
           (at-loop-test .taken) (at-is-legal .ensures) (at-keep .ensures .0) (at-loop .inv .3),
-      room-step (a .b) (at-numbers-asked .result) (at-loop .room)
-          (at-loop .count) (at-loop .m) (at-is-legal .result) (at-keep .result) _ (filledFrom (a .room .now) 0 (legalMoves (a .b))) (at-loop-test .taken)
-          (at-is-legal .ensures) (at-keep .ensures .0) (at-keep .ensures .1) (at-loop .inv .4),
+      room-skip (a .b) (at-numbers-asked .result) (at-loop .room) (at-loop .count) (at-loop .m) _ t (at-keep .result) _
+          (filledFrom (a .room .now) 0 (legalMoves (a .b))) w (at-loop-test .taken) (at-is-legal .ensures) (at-keep .ensures .0) (at-keep .ensures .1)
+          (at-loop .inv .4),
     )
 
 same-length : tie.Need-same-length Inv-loop μ-loop
-same-length c = c .before .loop .inv .1 ∙ sym (c .before .before .before .before .before .before .pre .0)
+same-length c = c .before .loop .inv .1 ∙ sym (c .before .before .before .before .before .before .before .before .before .before .pre .0)
 
 returns : tie.Need-returns Inv-loop μ-loop
 returns c =
-    let a = c .before .before .before .before .before .before .args in
-    let at-numbers-asked = c .before .before .numbers-asked in
+    let a = c .before .before .before .before .before .before .before .before .before .before .args in
+    let at-numbers-asked = c .before .before .before .before .before .before .numbers-asked in
     let at-loop = c .before .loop in (
       count-last (a .b) (at-numbers-asked .result) (at-loop .count) (at-loop .m) (countFrom 0 (legalMoves (a .b))) (c .loop-test .left) (at-loop .inv .3),
       room-last (a .b) (at-numbers-asked .result) (at-loop .room) (at-loop .count) (at-loop .m) (filledFrom (a .room .now) 0 (legalMoves (a .b)))
@@ -102,11 +138,16 @@ gather-spec =
     μ-loop
     slice-aggregate-numbers-asked
     numbers-asked-requires
+    slice-aggregate-mark-steps
+    slice-aggregate-mark-steps-2
+    mark-steps-requires
     loop-holds
     slice-aggregate-is-legal
     is-legal-requires
     cast-keep
     keep-requires
+    array-read-m
+    cast-m
     add-m
     loop-less
     loop-again
