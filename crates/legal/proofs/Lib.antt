@@ -7,4 +7,5 @@ pub mod Safety
 pub mod Listing
 pub mod Promoting
 pub mod Skipping
+pub mod OffLines
 pub mod Determined

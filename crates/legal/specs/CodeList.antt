@@ -2,12 +2,14 @@
 -- Assumes nothing.
 use Prim.Native.Nat.{ℕ, zero, suc, _+_, _≤_, _<_}
 use mathlib.Core.Path.{_≡_}
-use mathlib.Core.Bool.{Bool, false, cond, _||_}
+use mathlib.Core.Bool.{Bool, false, cond, not, _&&_, _||_}
 use mathlib.Core.List.{List, [], _∷_}
-use lib.Dec.{eqb, leb}
+use lib.Dec.{eqb, leb, ltb}
 use lib.ListN.{length, set, getD}
-use Rattle.square.specs.Piece.{pawn, manOn}
-use Rattle.move_laws.specs.Attack.{manOf, ofSide}
+use Rattle.square.specs.Piece.{pawn, king, manOn}
+use Rattle.move_rules.specs.After.{takesInPassing}
+use Rattle.move_laws.specs.Apart.{fileOrRank, diagonal}
+use Rattle.move_laws.specs.Attack.{manOf, ofSide, inCheck}
 
 -- the first square of the rank from which a side's pawns promote, and whether one of them is there: on the first n squares of it, and on all eight
 abbrev pub seventhRank : ℕ → ℕ
@@ -29,6 +31,24 @@ pub record Skips (squares : List ℕ) (side s step : ℕ) : Type 0 where
 pub record SkipsFrom (squares : List ℕ) (side first : ℕ) (steps : List ℕ) : Type 0 where
   pub long : length steps ≡ 64
   pub each : (s : ℕ) → first ≤ s → s < 64 → Skips squares side s (getD steps s 0)
+
+-- two squares of a file, a rank or a diagonal
+unfoldable pub onLine : ℕ → ℕ → Bool
+onLine s t = fileOrRank s t || diagonal s t
+
+-- the highest of the first n squares where a man stands, 64 for none
+unfoldable pub lastOf : List ℕ → ℕ → ℕ → ℕ
+lastOf squares man zero = 64
+lastOf squares man (suc n) = cond (eqb (manOn squares n) man) n (lastOf squares man n)
+
+-- a side is not in check, and has a king nowhere else
+pub record Calm (squares : List ℕ) (side k : ℕ) : Type 0 where
+  pub unchecked : inCheck squares side ≡ false
+  pub only : (x : ℕ) → x < 64 → manOn squares x ≡ manOf side king → x ≡ k
+
+-- where that is known, of a king's square under 64: a move by another man, from no line with the king, not in passing, which need not be tried out
+unfoldable pub keepsSafe : List ℕ → ℕ → ℕ → ℕ → Bool
+keepsSafe squares k s t = ltb k 64 && (not (eqb s k) && (not (onLine s k) && not (takesInPassing squares (manOn squares s) s t)))
 
 unfoldable pub countedTo : ℕ → ℕ
 countedTo count = cond (leb 255 count) 256 (count + 1)

@@ -10,9 +10,10 @@ ghost use mathlib.Core.Path.{_≡_};
 ghost use mathlib.Core.Bool.{true, cond, not, _||_};
 ghost use Prim.Native.Nat.{_+_, _/_, _%_, _≤_, _<_};
 ghost use lib.ListN.{length};
+ghost use Rattle.square.specs.Piece.{manOn};
 ghost use Rattle.answer.specs.Answer.{writeAnswer, writeBytes};
 ghost use Rattle.board_builder.specs.BoardBuilder.{inRange};
-ghost use Rattle.move_rules.specs.After.{twoApart, corner, squaresAfter};
+ghost use Rattle.move_rules.specs.After.{twoApart, corner, takesInPassing, squaresAfter};
 ghost use Rattle.move_laws.specs.Apart.{apart, filesApart, ranksApart, distance, fileOrRank, diagonal, knightsMove, adjoining};
 ghost use Rattle.move_laws.specs.Apart.{lower, upper, lineStep, emptyUpTo, clear};
 ghost use Rattle.move_laws.specs.Attack.{ofSide, ahead, pawnAttacks, bishopAttacks, rookAttacks, queenAttacks, kindAttacks, attacks};
@@ -20,7 +21,7 @@ ghost use Rattle.move_laws.specs.Attack.{attacked, kingAttacked, inCheck};
 ghost use Rattle.move_laws.specs.Move.{mayTake, mayArrive, pawnSteps, secondRank, pawnStepsTwice, pawnCaptures, passingRank, pawnPasses, pawnMoves};
 ghost use Rattle.move_laws.specs.Move.{rightHeld, wayAttacked, kingCastles, lastRank, promotes, pieceMoves, kindMoves};
 ghost use Rattle.move_laws.specs.Legal.{ownRights, goes, isLegal, legalFrom, legalMoves, listCheck, checkByte, checkAnswer};
-ghost use Rattle.legal.specs.CodeList.{seventhRank, mayPromote, SkipsFrom, countedTo, putAt, countFrom, filledFrom};
+ghost use Rattle.legal.specs.CodeList.{seventhRank, mayPromote, SkipsFrom, onLine, lastOf, Calm, keepsSafe, countedTo, putAt, countFrom, filledFrom};
 
 // The kinds of men that `square` has no constant for.
 
@@ -533,21 +534,95 @@ fn safe_after(b: BoardBuilder, m: u64) -> bool
     !checked(&squares, b.side_to_move)
 }
 
-fn is_legal(squares: &[u8], b: BoardBuilder, m: u64) -> bool
-    requires { ⌜ (now squares ≡ b .pieces) × (inRange b ≡ true) × (m < 28672) ⌝ }
+fn on_line(s: u8, t: u8) -> bool
+    ensures { λ r. ⌜ r ≡ onLine s t ⌝ }
+{
+    if straight(s, t) {
+        return true;
+    }
+    diagonal(s, t)
+}
+
+fn in_passing(squares: &[u8], s: u8, t: u8) -> bool
+    requires { ⌜ (length (now squares) ≡ 64) × (s < 64) × (t < 64) ⌝ }
+    ensures { λ r. ⌜ r ≡ takesInPassing (now (squares .entry)) (manOn (now (squares .entry)) s) s t ⌝ }
+{
+    if square::kind_of(squares[s as usize]) != PAWN {
+        return false;
+    }
+    if s % 8 == t % 8 {
+        return false;
+    }
+    squares[t as usize] == 0
+}
+
+fn keeps_safe(squares: &[u8], king: u8, s: u8, t: u8) -> bool
+    requires { ⌜ (length (now squares) ≡ 64) × (s < 64) × (t < 64) ⌝ }
+    ensures { λ r. ⌜ r ≡ keepsSafe (now (squares .entry)) king s t ⌝ }
+{
+    if 64 <= king {
+        return false;
+    }
+    if s == king {
+        return false;
+    }
+    if on_line(s, king) {
+        return false;
+    }
+    !in_passing(squares, s, t)
+}
+
+fn last_of(squares: &[u8], man: u8, from: u8) -> u8
+    requires { ⌜ (length (now squares) ≡ 64) × (from < 65) ⌝ }
+    ensures { λ r. ⌜ r ≡ lastOf (now (squares .entry)) man from ⌝ }
+{
+    let mut n = from;
+    while 0 < n {
+        n -= 1;
+        if squares[n as usize] == man {
+            return n;
+        }
+    }
+    64
+}
+
+// The square of a side's king, 64 if it is in check or there are more kings than one, or none.
+fn calm_king(squares: &[u8], side: u8) -> u8
+    requires { ⌜ (length (now squares) ≡ 64) × (side < 2) ⌝ }
+    ensures { λ r. ⌜ (r < 64 → Calm (now (squares .entry)) side r) ⌝ }
+{
+    if checked(squares, side) {
+        return 64;
+    }
+    let man = KING + 6 * side;
+    let king = last_of(squares, man, 64);
+    if last_of(squares, man, king) < 64 {
+        return 64;
+    }
+    king
+}
+
+// The king is asked only where it can matter: most moves are played on no line with it.
+fn is_legal(squares: &[u8], b: BoardBuilder, king: u8, m: u64) -> bool
+    requires { ⌜ (now squares ≡ b .pieces) × (inRange b ≡ true) × (m < 28672) × (king < 64 → Calm (b .pieces) (b .«side_to_move») king) ⌝ }
     ensures { λ r. ⌜ r ≡ isLegal b m ⌝ }
 {
     let rights = own_rights(b);
+    let s = (m % 64) as u8;
+    let t = (m / 64 % 64) as u8;
     if !goes(
         squares,
         b.side_to_move,
         rights,
         b.en_passant,
-        (m % 64) as u8,
-        (m / 64 % 64) as u8,
+        s,
+        t,
         (m / 4096) as u8,
     ) {
         return false;
+    }
+    if keeps_safe(squares, king, s, t) {
+        return true;
     }
     safe_after(b, m)
 }
@@ -636,10 +711,11 @@ fn gather(b: BoardBuilder, room: &mut [u16]) -> usize
     let asked = numbers_asked(&squares, b);
     let mut steps = [1u8; 64];
     mark_steps(&squares, b.side_to_move, &mut steps);
+    let king = calm_king(&squares, b.side_to_move);
     let mut count: usize = 0;
     let mut m: u64 = 0;
     while m < asked {
-        let legal = is_legal(&squares, b, m);
+        let legal = is_legal(&squares, b, king, m);
         count = keep(legal, m as u16, room, count);
         m += steps[(m % 64) as usize] as u64;
     }

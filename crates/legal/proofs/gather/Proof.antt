@@ -14,13 +14,13 @@ use Rattle.legal.proofs.gather.Statement.{statement}
 use Rattle.legal.proofs.gather.Tie as tie
 
 abbrev Inv-loop : tie.InvT-loop
-Inv-loop b room₀ squares asked steps count₀ m₀ room count m =
+Inv-loop b room₀ squares asked steps king count₀ m₀ room count m =
     SkipsFrom (b .pieces) (b .«side_to_move») 0 steps × (length room ≡ 255) × (count < 257) ×
     (countFrom 0 (legalMoves b) ≡ countFrom count (legalFrom b (asked - m) m)) ×
     (filledFrom room₀ 0 (legalMoves b) ≡ filledFrom room count (legalFrom b (asked - m) m))
 
 abbrev μ-loop : tie.MeasureT-loop
-μ-loop b room₀ squares asked steps count₀ m₀ room count m = asked - m
+μ-loop b room₀ squares asked steps king count₀ m₀ room count m = asked - m
 
 slice-aggregate-numbers-asked : tie.Need-slice-aggregate-numbers-asked Inv-loop μ-loop
 slice-aggregate-numbers-asked c = search needs
@@ -40,12 +40,21 @@ mark-steps-requires c κs =
     let at-pre = c .before .before .before .before .before .before .pre in
     (in-range (a .b) (at-pre .1) .long, side-under (a .b) (at-pre .1), search needs)
 
+slice-aggregate-calm-king : tie.Need-slice-aggregate-calm-king Inv-loop μ-loop
+slice-aggregate-calm-king c = search needs
+
+calm-king-requires : tie.Need-calm-king-requires Inv-loop μ-loop
+calm-king-requires c κs =
+    let a = c .before .before .before .before .before .before .before .before .before .args in
+    let at-pre = c .before .before .before .before .before .before .before .before .before .pre in
+    (in-range (a .b) (at-pre .1) .long, side-under (a .b) (at-pre .1))
+
 loop-holds : tie.Need-loop-holds Inv-loop μ-loop
 loop-holds c =
-    let a = c .before .before .before .before .before .before .before .before .args in
-    let at-pre = c .before .before .before .before .before .before .before .before .pre in
-    let at-numbers-asked = c .before .before .before .before .numbers-asked in
-    let at-mark-steps = c .before .mark-steps in (
+    let a = c .before .before .before .before .before .before .before .before .before .before .args in
+    let at-pre = c .before .before .before .before .before .before .before .before .before .before .pre in
+    let at-numbers-asked = c .before .before .before .before .before .before .numbers-asked in
+    let at-mark-steps = c .before .before .before .mark-steps in (
       at-mark-steps .ensures,
       at-pre .0,
       omega arith,
@@ -58,14 +67,15 @@ slice-aggregate-is-legal c = search needs
 
 is-legal-requires : tie.Need-is-legal-requires Inv-loop μ-loop
 is-legal-requires c κs =
-    let at-pre = c .before .before .before .before .before .before .before .before .before .before .before .pre in
-    let at-numbers-asked = c .before .before .before .before .before .before .before .numbers-asked in
+    let at-pre = c .before .before .before .before .before .before .before .before .before .before .before .before .before .pre in
+    let at-numbers-asked = c .before .before .before .before .before .before .before .before .before .numbers-asked in
+    let at-calm-king = c .before .before .before .calm-king in
     let at-loop-test = c .before .loop-test in
-    (refl, at-pre .1, omega (arith, at-loop-test .taken, at-numbers-asked .ensures .0))
+    (refl, at-pre .1, omega (arith, at-loop-test .taken, at-numbers-asked .ensures .0), at-calm-king .ensures)
 
 cast-keep : tie.Need-cast-keep Inv-loop μ-loop
 cast-keep c =
-    let at-numbers-asked = c .before .before .before .before .before .before .before .before .numbers-asked in
+    let at-numbers-asked = c .before .before .before .before .before .before .before .before .before .before .numbers-asked in
     let at-loop-test = c .before .before .loop-test in
     omega (arith, at-loop-test .taken, at-numbers-asked .ensures .0)
 
@@ -84,7 +94,7 @@ cast-m c =
 
 add-m : tie.Need-add-m Inv-loop μ-loop
 add-m c =
-    let at-numbers-asked = c .before .before .before .before .before .before .before .before .before .before .before .before .numbers-asked in
+    let at-numbers-asked = c .before .before .before .before .before .before .before .before .before .before .before .before .before .before .numbers-asked in
     let at-loop = c .before .before .before .before .before .before .before .loop in
     let at-loop-test = c .before .before .before .before .before .before .loop-test in
     let w = at-loop .inv .0 .each (at-loop .m % 64) (omega arith) (omega arith) in
@@ -99,8 +109,9 @@ loop-less c =
 
 loop-again : tie.Need-loop-again Inv-loop μ-loop
 loop-again c =
-    let a = c .before .before .before .before .before .before .before .before .before .before .before .before .before .before .before .before .args in
-    let at-numbers-asked = c .before .before .before .before .before .before .before .before .before .before .before .before .numbers-asked in
+    let at-asked = c .before .before .before .before .before .before .before .before .before .before .before .before .before .before in
+    let a = at-asked .before .before .before .before .args in
+    let at-numbers-asked = at-asked .numbers-asked in
     let at-loop = c .before .before .before .before .before .before .before .loop in
     let at-loop-test = c .before .before .before .before .before .before .loop-test in
     let at-is-legal = c .before .before .before .before .is-legal in
@@ -118,16 +129,20 @@ loop-again c =
     )
 
 same-length : tie.Need-same-length Inv-loop μ-loop
-same-length c = c .before .loop .inv .1 ∙ sym (c .before .before .before .before .before .before .before .before .before .before .pre .0)
+same-length c =
+    let at-pre = c .before .before .before .before .before .before .before .before .before .before .before .before .pre in
+    let at-loop = c .before .loop in
+    at-loop .inv .1 ∙ sym (at-pre .0)
 
 returns : tie.Need-returns Inv-loop μ-loop
 returns c =
-    let a = c .before .before .before .before .before .before .before .before .before .before .args in
-    let at-numbers-asked = c .before .before .before .before .before .before .numbers-asked in
-    let at-loop = c .before .loop in (
-      count-last (a .b) (at-numbers-asked .result) (at-loop .count) (at-loop .m) (countFrom 0 (legalMoves (a .b))) (c .loop-test .left) (at-loop .inv .3),
+    let a = c .before .before .before .before .before .before .before .before .before .before .before .before .args in
+    let at-numbers-asked = c .before .before .before .before .before .before .before .before .numbers-asked in
+    let at-loop = c .before .loop in
+    let at-loop-test = c .loop-test in (
+      count-last (a .b) (at-numbers-asked .result) (at-loop .count) (at-loop .m) (countFrom 0 (legalMoves (a .b))) (at-loop-test .left) (at-loop .inv .3),
       room-last (a .b) (at-numbers-asked .result) (at-loop .room) (at-loop .count) (at-loop .m) (filledFrom (a .room .now) 0 (legalMoves (a .b)))
-          (c .loop-test .left) (at-loop .inv .4),
+          (at-loop-test .left) (at-loop .inv .4),
     )
 
 pub gather-spec : {M : Type 1} → statement M
@@ -141,6 +156,8 @@ gather-spec =
     slice-aggregate-mark-steps
     slice-aggregate-mark-steps-2
     mark-steps-requires
+    slice-aggregate-calm-king
+    calm-king-requires
     loop-holds
     slice-aggregate-is-legal
     is-legal-requires
