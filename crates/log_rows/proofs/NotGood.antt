@@ -49,4 +49,6 @@ logs-not-good = record {
   short-first = refl;
   no-room = refl;
   room = refl;
+  no-action-more = refl;
+  last-action = refl;
 }

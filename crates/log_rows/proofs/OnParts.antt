@@ -153,8 +153,12 @@ left-on-parts = record {
   all-played = refl;
   none-played = refl;
   none-laid = refl;
+  none-played-on = refl;
+  none-laid-on = refl;
+  two-moves = refl;
   counted-move = refl;
   counted-other = refl;
   yes-first = refl;
   yes-later = refl;
+  yes-refused = refl;
 }

@@ -39,3 +39,6 @@ pub record LogsNotGood : Type 0 where
   -- 13: a move where no move may come, while an offer may
   pub no-room : callAnswer noMoveMore (replicate 8 0) (positionsLaid (begun kingsOnE)) 0 0 kingMoves ≡ 13
   pub room : callAnswer noMoveMore (replicate 8 0) (positionsLaid (begun kingsOnE)) 0 0 (offerDraw 0) ≡ 0
+  -- 13: any call behind the last action that may come, the one before it still had room
+  pub no-action-more : callAnswer noMoveMore (2 ∷ 0 ∷ 0 ∷ 0 ∷ 2 ∷ 1 ∷ 0 ∷ 0 ∷ []) (positionsLaid (begun kingsOnE)) 2 0 (offerDraw 0) ≡ 13
+  pub last-action : callAnswer noMoveMore (2 ∷ 0 ∷ 0 ∷ 0 ∷ 2 ∷ 1 ∷ 0 ∷ 0 ∷ []) (positionsLaid (begun kingsOnE)) 1 0 (offerDraw 1) ≡ 0

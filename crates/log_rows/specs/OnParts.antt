@@ -17,6 +17,7 @@ use Rattle.claim.specs.declared.Run.{Run}
 use Rattle.claim.specs.Claim.{runAfter, runAt, movesSince, claimIn, claimAt}
 use Rattle.game_rules.specs.Limits.{Limits}
 use Rattle.game_rules.specs.Rules.{Call, makeMove, offerDraw, acceptDraw, resign, History, begun, after}
+use Rattle.game_rules.specs.Good.{positionPart}
 use Rattle.game_rules.specs.Calls.{resultAnswer}
 use Rattle.game_rules.specs.Promises.{Left, started, played, countsOn, firstOnly}
 use Rattle.laws.specs.Laws.{movesMade, rightsKept}
@@ -146,6 +147,13 @@ pub record ClocksRead : Type 0 where
 abbrev pub threeOne : Limits
 threeOne = record { most-actions = 3; most-moves = 1 }
 
+-- two actions and two moves; both kings go to the next file
+abbrev pub twoTwo : Limits
+twoTwo = record { most-actions = 2; most-moves = 2 }
+
+abbrev pub kingsMoved : History
+kingsMoved = after (after (begun kingsOnE) kingMoves) (plays "e8d8" (countedAt 2 2 (stands "3k4/8/8/8/8/8/8/3K4 w - -" 0 ("d1e1" ∷ []))))
+
 abbrev pub leftPlayed : History → List ℕ → List ℕ → Left
 leftPlayed h acts ps = played threeOne h acts ps
 
@@ -172,6 +180,18 @@ pub record LeftOnParts : Type 0 where
       ≡ record { counts = record { number = 16; actions = 0; moves = 0 }; acts = replicate 11 9; ps = replicate 1169 8 }
   pub none-laid : leftPlayed offeredMoved (replicate 1169 9) (replicate 13 8)
       ≡ record { counts = record { number = 16; actions = 0; moves = 0 }; acts = replicate 1169 9; ps = replicate 13 8 }
+  -- a resignation behind the move is no more counted than the move
+  pub none-played-on : leftPlayed (after offeredMoved (resign 1)) (replicate 11 9) (replicate 1169 8)
+      ≡ record { counts = record { number = 16; actions = 0; moves = 0 }; acts = replicate 11 9; ps = replicate 1169 8 }
+  pub none-laid-on : leftPlayed (after offeredMoved (resign 1)) (replicate 1169 9) (replicate 13 8)
+      ≡ record { counts = record { number = 16; actions = 0; moves = 0 }; acts = replicate 1169 9; ps = replicate 13 8 }
+  -- a second move: its position is the third
+  pub two-moves : played twoTwo kingsMoved (replicate 8 9) (replicate 1752 8)
+      ≡ record {
+        counts = record { number = 0; actions = 2; moves = 2 };
+        acts = 1 ∷ 0 ∷ 196 ∷ 0 ∷ 1 ∷ 0 ∷ 252 ∷ 14 ∷ [];
+        ps = positionPart kingsMoved;
+      }
   -- the log that merely says yes: its first call is stored, a later one only counted
   pub counted-move : countsOn 5 3 kingMoves ≡ (6, 4)
   pub counted-other : countsOn 5 3 acceptDraw ≡ (6, 3)
@@ -179,3 +199,6 @@ pub record LeftOnParts : Type 0 where
       ≡ 5 ∷ 1 ∷ 0 ∷ 0 ∷ replicate 9 9
   pub yes-later : firstOnly countsOn threeOne (replicate 13 9) (replicate 1169 8) 2 1 kingMoves
       ≡ record { counts = record { number = 0; actions = 3; moves = 2 }; acts = replicate 13 9; ps = replicate 1169 8 }
+  -- a count of moves with no action: refused, and given back as it was
+  pub yes-refused : firstOnly countsOn threeOne (replicate 13 9) (positionsLaid (begun kingsOnE)) 0 1 (resign 1) .counts
+      ≡ record { number = 9; actions = 0; moves = 1 }
