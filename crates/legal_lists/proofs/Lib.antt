@@ -1,4 +1,5 @@
 pub mod AtSmallest
+pub mod JudgedRows
 pub mod Once
 pub mod Judged
 pub mod Names

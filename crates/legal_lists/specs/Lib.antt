@@ -1,4 +1,5 @@
 pub mod AtSmallest
+pub mod JudgedRows
 pub mod Mates
 pub mod Promises
 pub mod Told

@@ -6,10 +6,10 @@ use mathlib.Core.Path.{_≡_}
 use mathlib.Core.Bool.{true, false}
 use mathlib.Core.List.{List, [], _∷_, _++_}
 use lib.ListN.{take, replicate}
-use Rattle.move_rules.specs.Leads.{comesFrom, leadsTo, countersFrom, countersLead}
+use Rattle.move_rules.specs.Leads.{comesFrom, leadsTo, leadsToBoard, countersFrom, countersLead}
 use Rattle.move_rules.specs.Promises.{takenSquare, named}
 use Rattle.key_after.specs.AtSmallest.{After}
-use Rattle.number_rows.specs.Records.{aMan}
+use Rattle.number_rows.specs.Records.{aMan, seventy}
 
 pub record MovesAtTheEdge : Type 0 where
   -- "a king going two files along its rank": not three, to either side, nor to a rank below
@@ -46,6 +46,8 @@ pub record RecordsThatFollow : Type 0 where
   pub other-rights : comesFrom (knightOn 1 0 1 2 4) 1153 (knightOn 18 1 1 3 0) ≡ false
   pub longer : comesFrom (knightOn 1 0 1 2 4 ++ (9 ∷ [])) 1153 (knightOn 18 1 1 2 0) ≡ true
   pub led : leadsTo (knightOn 1 0 1 2 4) 1153 (knightOn 18 1 1 2 0) ≡ true
+  pub led-longer : leadsTo (knightOn 1 0 1 2 4) 1153 (knightOn 18 1 1 2 0 ++ (9 ∷ [])) ≡ true
+  pub led-to-board : leadsToBoard (knightOn 1 0 1 2 4) 1153 (seventy (aMan 18 2) 1 1 2 0 4 7) ≡ true
   pub short : comesFrom (take 67 (knightOn 1 0 1 2 4)) 1153 (knightOn 18 1 1 2 0) ≡ false
   -- from 3 half-moves and move 7, by white and by black
   pub white : countersFrom (knightOn 1 0 1 2 4) 1153 3 7 4 7 ≡ true

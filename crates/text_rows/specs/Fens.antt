@@ -42,6 +42,10 @@ pub record FensRefused : Type 0 where
   pub side-V : readFen (ascii "8/8 V - -") ≡ fenSays 20 4 zeros
   pub dash : readFen (ascii "8/8- w - -") ≡ fenSays 19 3 zeros
   pub nine : readFen (ascii "8/9 w - -") ≡ fenSays 19 2 zeros
+  -- one token, two: 18 at the end of the text; the fourth may be empty
+  pub only-one : readFen (ascii "8/8") ≡ fenSays 18 3 zeros
+  pub only-two : readFen (ascii "8/8 w") ≡ fenSays 18 5 zeros
+  pub empty-fourth : readFen (ascii "K b Kq ") ≡ fenSays 0 0 (seventy (aMan 56 6) 1 1 2 0 0 1)
   pub tab-is-no-space : tokens (56 ∷ 9 ∷ 32 ∷ 119 ∷ []) ≡ (56 ∷ 9 ∷ []) ∷ (119 ∷ []) ∷ []
   pub behind-a-smaller : placeOf 98 (ascii "ab") ≡ 1
   pub behind-a-larger : placeOf 98 (ascii "cab") ≡ 2
