@@ -273,10 +273,7 @@ no-king side man two w = ne-eqb (kindOf man) 6 (go (leb man 6) refl)
 plain-after : (l : List ℕ) (side s t p : ℕ) → side < 2 → Own side (manOn l s) → takesInPassing l (manOn l s) s t ≡ false
     → squaresAfter l s t p ≡ set (set l s 0) t (setDown (manOn l s) p)
 unfolding squaresAfter rookMoved castles pawnRemoved
-plain-after l side s t p two w e =
-    let down = setDown (manOn l s) p in
-    let man = manOn l s in
-    simp (no-king side man two w, e)
+plain-after l side s t p two w e = simp (no-king side (manOn l s) two w, e)
 
 own-man : (l : List ℕ) (side s k : ℕ) → ofSide side (manOn l s) ≡ true → OnlyKing l side k → (s ≡ k → ⊥) → s < 64 → Own side (manOn l s)
 unfolding ofSide
