@@ -31,7 +31,7 @@ use Rattle.game_text.specs.Game.{gameAlong, playOn, playedIn, playedOn, positio
 use Rattle.game_text.specs.Narrowed.{only, speaksOf}
 use Rattle.game_text.specs.Step.{answersOf, bytesFrom, bytesRead, gameStep, gameStepBytes, playAnswer, stepFrom, stepRead, stepWritten, stepping}
 use Rattle.game_text.specs.VariationPromises.{playedAt, playedThrough}
-use Rattle.game_text.specs.Variations.{entered, movedOn, playsFrom}
+use Rattle.game_text.specs.Variations.{entered, movedOn, playsFrom, variationsOf}
 use Rattle.rows.specs.GameSteps.{StepsInNumbers, GamesInNumbers, VariationsInNumbers}
 
 pub steps-in-numbers : StepsInNumbers
@@ -44,7 +44,7 @@ unfolding writeAnswer writeBytes ascii allAtMost among same kindOf letterOf piec
     readPiece readRank readTakes cross crossMet crossedFrom beginsWith inMove inRun isDigit isLetter isSign isWhite onward runLength startsMove firstMain
     nextMain braceComment glyph isResult lineComment number token atEnd firstMove met moveFound nextMove noMoveFound part walk walkFrom gameAlong playOn
     playedIn playedOn positionsOf only speaksOf answersOf bytesFrom bytesRead gameStep gameStepBytes playAnswer stepFrom stepRead stepWritten stepping playedAt
-    playedThrough entered movedOn playsFrom
+    playedThrough entered movedOn playsFrom variationsOf
 steps-in-numbers = record {
   played = refl;
   too-short = refl;
@@ -73,7 +73,7 @@ unfolding writeAnswer writeBytes ascii allAtMost among same kindOf letterOf piec
     readPiece readRank readTakes cross crossMet crossedFrom beginsWith inMove inRun isDigit isLetter isSign isWhite onward runLength startsMove firstMain
     nextMain braceComment glyph isResult lineComment number token atEnd firstMove met moveFound nextMove noMoveFound part walk walkFrom gameAlong playOn
     playedIn playedOn positionsOf only speaksOf answersOf bytesFrom bytesRead gameStep gameStepBytes playAnswer stepFrom stepRead stepWritten stepping playedAt
-    playedThrough entered movedOn playsFrom
+    playedThrough entered movedOn playsFrom variationsOf
 games-in-numbers = record {
   moves = refl;
   moves-refused = refl;
@@ -97,7 +97,7 @@ unfolding writeAnswer writeBytes ascii allAtMost among same kindOf letterOf piec
     readPiece readRank readTakes cross crossMet crossedFrom beginsWith inMove inRun isDigit isLetter isSign isWhite onward runLength startsMove firstMain
     nextMain braceComment glyph isResult lineComment number token atEnd firstMove met moveFound nextMove noMoveFound part walk walkFrom gameAlong playOn
     playedIn playedOn positionsOf only speaksOf answersOf bytesFrom bytesRead gameStep gameStepBytes playAnswer stepFrom stepRead stepWritten stepping playedAt
-    playedThrough entered movedOn playsFrom
+    playedThrough entered movedOn playsFrom variationsOf
 variations-in-numbers = record {
   one-bracket = refl;
   two-brackets = refl;
@@ -106,6 +106,7 @@ variations-in-numbers = record {
   from-nowhere = refl;
   moved = refl;
   moved-nowhere = refl;
+  first-bracket = refl;
   through = refl;
   through-two = refl;
   through-refused = refl;
