@@ -4,9 +4,13 @@ use mathlib.Core.Path.{refl}
 use Rattle.answer.specs.Answer.{writeAnswer, writeBytes}
 use Rattle.answer.specs.Ascii.{ascii}
 use Rattle.answer.specs.Numbers.{allAtMost, among, same}
-use Rattle.square.specs.Piece.{kindOf, letterOf}
+use Rattle.square.specs.Piece.{kindOf, letterOf, pieceOf}
+use Rattle.square.specs.Square.{readSquare}
 use Rattle.castle_rights.specs.CastleRights.{lettersOf, lettersText}
 use Rattle.board_builder.specs.BoardBuilder.{inRange}
+use Rattle.fen_text.specs.Placement.{placeAll, placeByte}
+use Rattle.fen_text.specs.Read.{assembled, ofTokens, readFen, rightsOf, sideOf, sided}
+use Rattle.fen_text.specs.Token.{joined, onto, placeAfter, placeWhere, tokens}
 use Rattle.fen_text.specs.Write.{digitText, enPassantText, fenText, ranksText, rightsText, runText, slashText, tailText}
 use Rattle.move_list.specs.MoveList.{count, firstOf, listInRange}
 use Rattle.move_rules.specs.After.{afterParts, castles, colourStep, corner, enemyPawn, fileAfter, fullAfter, halfAfter, oneMore, pawnRemoved, restarts}
@@ -27,19 +31,20 @@ use Rattle.game_text.specs.Game.{gameAlong, playOn, playedIn, playedOn, positio
 use Rattle.game_text.specs.Narrowed.{only, speaksOf}
 use Rattle.game_text.specs.Step.{answersOf, bytesFrom, bytesRead, gameStep, gameStepBytes, playAnswer, stepFrom, stepRead, stepWritten, stepping}
 use Rattle.game_text.specs.VariationPromises.{playedAt, playedThrough}
-use Rattle.game_text.specs.Variations.{entered, movedOn, playsFrom}
+use Rattle.game_text.specs.Variations.{entered, movedOn, playsFrom, variationsOf}
 use Rattle.rows.specs.GameSteps.{StepsInNumbers, GamesInNumbers, VariationsInNumbers}
 
 pub steps-in-numbers : StepsInNumbers
-unfolding writeAnswer writeBytes ascii allAtMost among same kindOf letterOf lettersOf lettersText inRange digitText enPassantText fenText ranksText rightsText
-    runText slashText tailText count firstOf listInRange afterParts castles colourStep corner enemyPawn fileAfter fullAfter halfAfter oneMore pawnRemoved
-    restarts rightsAfter rightsWithout rookMoved setDown squaresAfter stepsTwice stoodBefore stoodBehind takesInPassing twoApart castled readAnswer resolved
-    changesFiles headOf optional pieceLetter promotionLetter takesOf placeFrom squareAt agrees castle castlingMove fits soleThat endsHere isCastling
-    readStandard standardCaptures standardCastles standardDest standardEnd standardPromotion standardTail standardText withEquals after isCheck pieceKind
-    pieceOr promotionKind readFile readPiece readRank readTakes cross crossMet crossedFrom beginsWith inMove inRun isDigit isLetter isSign isWhite onward
-    runLength startsMove firstMain nextMain braceComment glyph isResult lineComment number token atEnd firstMove met moveFound nextMove noMoveFound part walk
-    walkFrom gameAlong playOn playedIn playedOn positionsOf only speaksOf answersOf bytesFrom bytesRead gameStep gameStepBytes playAnswer stepFrom stepRead
-    stepWritten stepping playedAt playedThrough entered movedOn playsFrom
+unfolding writeAnswer writeBytes ascii allAtMost among same kindOf letterOf pieceOf readSquare lettersOf lettersText inRange placeAll placeByte assembled
+    ofTokens readFen rightsOf sideOf sided joined onto placeAfter placeWhere tokens digitText enPassantText fenText ranksText rightsText runText slashText
+    tailText count firstOf listInRange afterParts castles colourStep corner enemyPawn fileAfter fullAfter halfAfter oneMore pawnRemoved restarts rightsAfter
+    rightsWithout rookMoved setDown squaresAfter stepsTwice stoodBefore stoodBehind takesInPassing twoApart castled readAnswer resolved changesFiles headOf
+    optional pieceLetter promotionLetter takesOf placeFrom squareAt agrees castle castlingMove fits soleThat endsHere isCastling readStandard standardCaptures
+    standardCastles standardDest standardEnd standardPromotion standardTail standardText withEquals after isCheck pieceKind pieceOr promotionKind readFile
+    readPiece readRank readTakes cross crossMet crossedFrom beginsWith inMove inRun isDigit isLetter isSign isWhite onward runLength startsMove firstMain
+    nextMain braceComment glyph isResult lineComment number token atEnd firstMove met moveFound nextMove noMoveFound part walk walkFrom gameAlong playOn
+    playedIn playedOn positionsOf only speaksOf answersOf bytesFrom bytesRead gameStep gameStepBytes playAnswer stepFrom stepRead stepWritten stepping playedAt
+    playedThrough entered movedOn playsFrom variationsOf
 steps-in-numbers = record {
   played = refl;
   too-short = refl;
@@ -48,6 +53,9 @@ steps-in-numbers = record {
   none-left = refl;
   by-itself = refl;
   none-written = refl;
+  from-byte-0 = refl;
+  taking = refl;
+  asked-taking = refl;
   one-step = refl;
   three-steps = refl;
   asked = refl;
@@ -56,15 +64,16 @@ steps-in-numbers = record {
 }
 
 pub games-in-numbers : GamesInNumbers
-unfolding writeAnswer writeBytes ascii allAtMost among same kindOf letterOf lettersOf lettersText inRange digitText enPassantText fenText ranksText rightsText
-    runText slashText tailText count firstOf listInRange afterParts castles colourStep corner enemyPawn fileAfter fullAfter halfAfter oneMore pawnRemoved
-    restarts rightsAfter rightsWithout rookMoved setDown squaresAfter stepsTwice stoodBefore stoodBehind takesInPassing twoApart castled readAnswer resolved
-    changesFiles headOf optional pieceLetter promotionLetter takesOf placeFrom squareAt agrees castle castlingMove fits soleThat endsHere isCastling
-    readStandard standardCaptures standardCastles standardDest standardEnd standardPromotion standardTail standardText withEquals after isCheck pieceKind
-    pieceOr promotionKind readFile readPiece readRank readTakes cross crossMet crossedFrom beginsWith inMove inRun isDigit isLetter isSign isWhite onward
-    runLength startsMove firstMain nextMain braceComment glyph isResult lineComment number token atEnd firstMove met moveFound nextMove noMoveFound part walk
-    walkFrom gameAlong playOn playedIn playedOn positionsOf only speaksOf answersOf bytesFrom bytesRead gameStep gameStepBytes playAnswer stepFrom stepRead
-    stepWritten stepping playedAt playedThrough entered movedOn playsFrom
+unfolding writeAnswer writeBytes ascii allAtMost among same kindOf letterOf pieceOf readSquare lettersOf lettersText inRange placeAll placeByte assembled
+    ofTokens readFen rightsOf sideOf sided joined onto placeAfter placeWhere tokens digitText enPassantText fenText ranksText rightsText runText slashText
+    tailText count firstOf listInRange afterParts castles colourStep corner enemyPawn fileAfter fullAfter halfAfter oneMore pawnRemoved restarts rightsAfter
+    rightsWithout rookMoved setDown squaresAfter stepsTwice stoodBefore stoodBehind takesInPassing twoApart castled readAnswer resolved changesFiles headOf
+    optional pieceLetter promotionLetter takesOf placeFrom squareAt agrees castle castlingMove fits soleThat endsHere isCastling readStandard standardCaptures
+    standardCastles standardDest standardEnd standardPromotion standardTail standardText withEquals after isCheck pieceKind pieceOr promotionKind readFile
+    readPiece readRank readTakes cross crossMet crossedFrom beginsWith inMove inRun isDigit isLetter isSign isWhite onward runLength startsMove firstMain
+    nextMain braceComment glyph isResult lineComment number token atEnd firstMove met moveFound nextMove noMoveFound part walk walkFrom gameAlong playOn
+    playedIn playedOn positionsOf only speaksOf answersOf bytesFrom bytesRead gameStep gameStepBytes playAnswer stepFrom stepRead stepWritten stepping playedAt
+    playedThrough entered movedOn playsFrom variationsOf
 games-in-numbers = record {
   moves = refl;
   moves-refused = refl;
@@ -79,15 +88,16 @@ games-in-numbers = record {
 }
 
 pub variations-in-numbers : VariationsInNumbers
-unfolding writeAnswer writeBytes ascii allAtMost among same kindOf letterOf lettersOf lettersText inRange digitText enPassantText fenText ranksText rightsText
-    runText slashText tailText count firstOf listInRange afterParts castles colourStep corner enemyPawn fileAfter fullAfter halfAfter oneMore pawnRemoved
-    restarts rightsAfter rightsWithout rookMoved setDown squaresAfter stepsTwice stoodBefore stoodBehind takesInPassing twoApart castled readAnswer resolved
-    changesFiles headOf optional pieceLetter promotionLetter takesOf placeFrom squareAt agrees castle castlingMove fits soleThat endsHere isCastling
-    readStandard standardCaptures standardCastles standardDest standardEnd standardPromotion standardTail standardText withEquals after isCheck pieceKind
-    pieceOr promotionKind readFile readPiece readRank readTakes cross crossMet crossedFrom beginsWith inMove inRun isDigit isLetter isSign isWhite onward
-    runLength startsMove firstMain nextMain braceComment glyph isResult lineComment number token atEnd firstMove met moveFound nextMove noMoveFound part walk
-    walkFrom gameAlong playOn playedIn playedOn positionsOf only speaksOf answersOf bytesFrom bytesRead gameStep gameStepBytes playAnswer stepFrom stepRead
-    stepWritten stepping playedAt playedThrough entered movedOn playsFrom
+unfolding writeAnswer writeBytes ascii allAtMost among same kindOf letterOf pieceOf readSquare lettersOf lettersText inRange placeAll placeByte assembled
+    ofTokens readFen rightsOf sideOf sided joined onto placeAfter placeWhere tokens digitText enPassantText fenText ranksText rightsText runText slashText
+    tailText count firstOf listInRange afterParts castles colourStep corner enemyPawn fileAfter fullAfter halfAfter oneMore pawnRemoved restarts rightsAfter
+    rightsWithout rookMoved setDown squaresAfter stepsTwice stoodBefore stoodBehind takesInPassing twoApart castled readAnswer resolved changesFiles headOf
+    optional pieceLetter promotionLetter takesOf placeFrom squareAt agrees castle castlingMove fits soleThat endsHere isCastling readStandard standardCaptures
+    standardCastles standardDest standardEnd standardPromotion standardTail standardText withEquals after isCheck pieceKind pieceOr promotionKind readFile
+    readPiece readRank readTakes cross crossMet crossedFrom beginsWith inMove inRun isDigit isLetter isSign isWhite onward runLength startsMove firstMain
+    nextMain braceComment glyph isResult lineComment number token atEnd firstMove met moveFound nextMove noMoveFound part walk walkFrom gameAlong playOn
+    playedIn playedOn positionsOf only speaksOf answersOf bytesFrom bytesRead gameStep gameStepBytes playAnswer stepFrom stepRead stepWritten stepping playedAt
+    playedThrough entered movedOn playsFrom variationsOf
 variations-in-numbers = record {
   one-bracket = refl;
   two-brackets = refl;
@@ -96,6 +106,7 @@ variations-in-numbers = record {
   from-nowhere = refl;
   moved = refl;
   moved-nowhere = refl;
+  first-bracket = refl;
   through = refl;
   through-two = refl;
   through-refused = refl;

@@ -13,9 +13,10 @@ use Rattle.game_text.specs.declared.GameStep.{GameStep}
 use Rattle.game_text.specs.Game.{plays, over, refuses, game, gamePositions, playedIn, positionsOf, playOn}
 use Rattle.game_text.specs.Narrowed.{speaksOf, only}
 use Rattle.game_text.specs.Step.{playAnswer, gameStep, gameStepBytes, stepping, answersOf}
-use Rattle.game_text.specs.Variations.{line, entered, playsFrom, movedOn, lentMore, slow, slowAnswered}
+use Rattle.game_text.specs.Variations.{line, entered, playsFrom, movedOn, lentMore, slow, slowAnswered, wholeGame}
 use Rattle.game_text.specs.VariationPromises.{playedThrough}
 use Rattle.game_text.specs.AtSmallest.{twoPawns, afterOne, afterTwo, lent}
+use Rattle.rows.specs.SanRows.{boardIn}
 
 abbrev pub stepIs : ℕ → ℕ → ℕ → ℕ → ℕ → ℕ → ℕ → BoardBuilder → GameStep
 stepIs number offset found start size played key b =
@@ -29,6 +30,12 @@ pub record StepsInNumbers : Type 0 where
   pub none-left : gameStep (ascii "e4 *") 2 twoPawns (lent twoPawns) 29 ≡ stepIs 0 0 0 0 0 0 0 twoPawns
   pub by-itself : playAnswer (ascii "e5") afterOne (lent afterOne) 29 ≡ stepIs 0 0 1 0 2 2356 29 afterTwo
   pub none-written : gameStepBytes (ascii "e4 *") 2 twoPawns (lent twoPawns) (replicate 30 9) ≡ replicate 30 9
+  pub from-byte-0 : gameStepBytes (ascii "e4") 0 twoPawns (lent twoPawns) (replicate 30 9) ≡ ascii "8/4p3/8/8/4P3/8/8/8 b - - 0 1" ++ (9 ∷ [])
+  -- a key of another length than that of the record before: e4d5, 28 + 64 × 35 = 2,268, takes a pawn
+  pub taking : playAnswer (ascii "exd5") (boardIn "8/8/8/3p4/4P3/8/8/8 w - -") (2268 ∷ []) 29
+      ≡ stepIs 0 0 1 0 4 2268 27 (boardIn "8/8/8/3P4/8/8/8/8 b - -")
+  pub asked-taking : answersOf (boardIn "8/8/8/3p4/4P3/8/8/8 w - -") (plays 0 4 2268 (boardIn "8/8/8/3P4/8/8/8/8 b - -") (over 0 0))
+      ≡ stepIs 0 0 1 0 4 2268 27 (boardIn "8/8/8/3P4/8/8/8/8 b - -") ∷ stepIs 0 0 0 0 0 0 0 (boardIn "8/8/8/3P4/8/8/8/8 b - -") ∷ []
   -- a step after the other, each from the record that the one before hands back
   pub one-step : stepping gameStep lent (ascii "1. e4 e5") 29 0 0 twoPawns ≡ stepIs 0 0 1 3 2 1804 29 afterOne ∷ []
   pub three-steps : stepping gameStep lent (ascii "1. e4 e5") 29 2 0 twoPawns
@@ -61,6 +68,8 @@ pub record VariationsInNumbers : Type 0 where
   pub from-nowhere : playsFrom [] ≡ emptyBoard
   pub moved : movedOn afterTwo (line twoPawns afterOne ∷ []) ≡ line afterOne afterTwo ∷ []
   pub moved-nowhere : movedOn afterTwo [] ≡ []
+  -- a bracket on byte 0 counts
+  pub first-bracket : wholeGame lentMore twoPawns (ascii "(e4) e3") ≡ plays 1 2 1804 afterOne (plays 5 2 1292 slow (over 0 0))
   -- by calls from place to place: as many moves as are asked for
   pub through : playedThrough lentMore (ascii "1. e4 (e3 e5) e5") 9 0 0 (line twoPawns twoPawns ∷ [])
       ≡ plays 3 2 1804 afterOne (plays 7 2 1292 slow (plays 10 2 2356 slowAnswered (plays 14 2 2356 afterTwo (over 0 0))))
