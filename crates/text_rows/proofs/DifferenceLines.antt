@@ -36,6 +36,7 @@ lines-in-numbers = record {
   twice = refl;
   under = refl;
   most = refl;
+  together = λ l. refl;
 }
 
 pub calls-that-tell : CallsThatTell

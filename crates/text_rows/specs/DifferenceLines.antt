@@ -4,12 +4,12 @@
 use Prim.Native.Nat.{ℕ}
 use mathlib.Core.Path.{_≡_}
 use mathlib.Core.Bool.{true, false}
-use mathlib.Core.List.{List, [], _∷_, _++_}
-use lib.ListN.{replicate}
+use mathlib.Core.List.{List, [], _∷_, _++_, map}
+use lib.ListN.{replicate, getD}
 use Rattle.answer.specs.Ascii.{ascii}
 use Rattle.differences_text.specs.Differences.{Difference, difference, startSize, startKey, ifDiffers, lineText}
 use Rattle.differences_text.specs.AtRows.{twoOfEach, with, plain}
-use Rattle.differences_text.specs.Promises.{teller, linesWritten, readerNumber, rising, startLine, swapped, longest}
+use Rattle.differences_text.specs.Promises.{teller, linesWritten, readerNumber, rising, startLine, Lines, linesOf, swapped, longest}
 use Rattle.number_rows.specs.Answers.{says}
 
 -- a line: its key, the first and the second game's number
@@ -32,6 +32,9 @@ pub record LinesInNumbers : Type 0 where
   pub twice : rising 1 (2 ∷ 2 ∷ []) ≡ false
   pub under : rising 3 (2 ∷ []) ≡ false
   pub most : longest ≡ 658
+  -- the lines of the start first, each with the first game's number first, and then the action's
+  pub together : (l : Lines (7 ∷ []) (1 ∷ []) (5 ∷ []) (2 ∷ []))
+      → linesOf l ≡ map (λ i. lineIs (startKey i) (getD (7 ∷ []) i 0) (getD (5 ∷ []) i 0)) (l .start) ++ l .action
 
 pub record CallsThatTell : Type 0 where
   pub written : linesWritten (teller twoOfEach) (with 28 1) plain (replicate 9 9) ≡ ascii "28 1 0\n"
