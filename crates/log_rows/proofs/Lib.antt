@@ -3,3 +3,4 @@ pub mod Bytes
 pub mod NotGood
 pub mod OnParts
 pub mod Rolls
+pub mod Rights
