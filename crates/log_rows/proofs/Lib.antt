@@ -4,3 +4,4 @@ pub mod NotGood
 pub mod OnParts
 pub mod Rolls
 pub mod Rights
+pub mod RollRows
