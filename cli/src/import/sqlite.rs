@@ -89,7 +89,7 @@ impl Sqlite {
         // What is no store is left as it is.
         lacking(&db)?;
         // Only a store that has no table yet gets it.
-        db.run("PRAGMA page_size = 8192")?;
+        db.run("PRAGMA page_size = 16384")?;
         db.run("PRAGMA journal_mode = WAL")?;
         SETTINGS.iter().try_for_each(|setting| db.run(setting))?;
         let store = Sqlite { db, file: file.to_path_buf(), options, source: None };
