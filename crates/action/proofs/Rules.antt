@@ -63,5 +63,6 @@ module _ (s : List ℕ) (four : length s ≡ 4) where
   pub of_resign : get_or s 0 0 ≡ 5 → action_of s ≡ stands_alone 1 (get_or s 1 0) (of_bytes (get_or s 2 0) (get_or s 3 0)) (Resign (get_or s 1 0))
   of_resign e = of_four ∙ ap (λ (k : ℕ). action_of_fields k (get_or s 1 0) (of_bytes (get_or s 2 0) (get_or s 3 0))) e
 
-  pub of_none : (get_or s 0 0 ≡ 1 → ⊥) → (get_or s 0 0 ≡ 2 → ⊥) → (get_or s 0 0 ≡ 3 → ⊥) → (get_or s 0 0 ≡ 4 → ⊥) → (get_or s 0 0 ≡ 5 → ⊥) → action_of s ≡ Nothing
+  pub of_none : (get_or s 0 0 ≡ 1 → ⊥) → (get_or s 0 0 ≡ 2 → ⊥) → (get_or s 0 0 ≡ 3 → ⊥) → (get_or s 0 0 ≡ 4 → ⊥) → (get_or s 0 0 ≡ 5 → ⊥)
+      → action_of s ≡ Nothing
   of_none a b d e f = of_four ∙ no_kind (get_or s 0 0) (get_or s 1 0) (of_bytes (get_or s 2 0) (get_or s 3 0)) a b d e f

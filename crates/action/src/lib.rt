@@ -1,4 +1,6 @@
 // The log's action, after game.rs: a move with its struct, an offer or a resignation with a colour, two bare cases. Each takes 4 bytes of the log.
+#![tactic(auto)]
+
 ghost use Rattle.std.specs.Prelude.{◌≡◌, length};
 ghost use Rattle.answer.specs.Answer.{write_answer, write_bytes};
 ghost use Rattle.chess_move.specs.Number.{number_answer};
@@ -11,7 +13,7 @@ pub const ACTION_SIZE: usize = 4;
 
 pub const BLACK: u8 = 1;
 
-#[derive(Drop)]
+#[derive(Clone, Copy)]
 pub enum Action {
     MakeMove(ChessMove),
     OfferDraw(u8),
@@ -21,7 +23,7 @@ pub enum Action {
 }
 
 // What some bytes of a log hold.
-#[derive(Drop)]
+#[derive(Clone, Copy)]
 pub enum Stored {
     Holds(Action),
     Nothing,

@@ -1,4 +1,6 @@
 // The actions part of a log: its actions by their place.
+#![tactic(auto)]
+
 ghost use Rattle.std.specs.Prelude.{◌≡◌, min};
 ghost use Rattle.answer.specs.Parts.{item};
 ghost use Rattle.chess_move.specs.Number.{number_answer};

@@ -2,7 +2,7 @@
 -- all are within it.
 -- Assumes nothing.
 use mathlib.Core.Path.{◌≡◌, refl, ap, sym, ◌∙◌}
-use mathlib.Core.Bool.{Bool, true, false, ◌&&◌, and_true, and_false, and_assoc}
+use mathlib.Core.Bool.{Bool, true, false, ◌&&◌, and-true, and-false, and_assoc}
 use mathlib.Core.List.{List, [], ◌∷◌, ◌++◌}
 use Prim.Native.Nat.{ℕ, zero, suc, ◌+◌, ◌-◌, ◌≤◌, ◌<◌, zero-le}
 use native.Mathlib.Numerals.{add-one}
@@ -51,7 +51,7 @@ unfolding all_at_most
 gather_turn n s a i h = rw (add-one i, drop-cons s i 0 h) (gather a (get_or s i 0) n (all_at_most n (drop (suc i) s)))
 
 pub gather_end : (a : ℕ) (left : Bool) → left ≡ true → eqb a 0 && left ≡ eqb a 0
-gather_end a left e = rw e (and_true (eqb a 0))
+gather_end a left e = rw e (and-true (eqb a 0))
 
 -- each number of a list is within its bound
 pub bound_at : (n : ℕ) (xs : List ℕ) (i : ℕ) → all_at_most n xs ≡ true → get_or xs i 0 ≤ n
@@ -90,4 +90,4 @@ bound_overlap n s i j m h k e = go (all_at_most n (drop j s)) refl
         sym (bound_parts n s i (j - i)
         ∙ ap (λ (x : ℕ). front && all_at_most n (drop x s)) g
         ∙ ap (λ (t : Bool). front && t) f
-        ∙ and_false front)
+        ∙ and-false front)

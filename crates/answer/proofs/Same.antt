@@ -1,7 +1,7 @@
 -- Laws of `same`: what it says about two lists, and a loop over both.
 -- Assumes nothing.
 use mathlib.Core.Path.{◌≡◌, refl, ap, ap₂, ◌∙◌}
-use mathlib.Core.Bool.{Bool, true, false, false≢true, ◌&&◌, and_true, and_assoc}
+use mathlib.Core.Bool.{Bool, true, false, false≢true, ◌&&◌, and-true, and_assoc}
 use mathlib.Core.List.{List, [], ◌∷◌}
 use Prim.Native.Nat.{ℕ, suc, ◌+◌, ◌≤◌, ◌<◌}
 use native.Mathlib.Numerals.{add-one}
@@ -59,4 +59,4 @@ module _ (l m : List ℕ) (d i : ℕ) where
 
   pub same_end : length l ≤ i → length m ≤ i → eqb d 0 && same (drop i l) (drop i m) ≡ eqb d 0
   unfolding same
-  same_end h k = rw (drop_of_length-le l h, drop_of_length-le m k) (and_true (eqb d 0))
+  same_end h k = rw (drop_of_length-le l h, drop_of_length-le m k) (and-true (eqb d 0))

@@ -1,4 +1,6 @@
 // Answers as document 01 numbers them, and bytes and texts for the crates above: written to a room, compared, taken apart.
+#![tactic(auto)]
+
 ghost use Rattle.std.specs.Prelude.{◌≡◌, ◌-◌, length};
 ghost use Rattle.answer.specs.Answer.{accepted, refused, read_as, fault_at, write_answer, write_bytes};
 ghost use Rattle.answer.specs.Numbers.{all_at_most, number_at, same, either, both};
@@ -6,7 +8,7 @@ ghost use Rattle.answer.specs.Parts.{front_of, rest_of};
 
 // What a call answers: its number in document 01's table, and the value that comes with it.
 #[repr(C)]
-#[derive(Drop)]
+#[derive(Clone, Copy)]
 pub struct Answer {
     pub number: u64,
     pub value: u64,
@@ -14,7 +16,7 @@ pub struct Answer {
 
 // The same for a text, with the offset of what is wrong in it, 0 if nothing is.
 #[repr(C)]
-#[derive(Drop)]
+#[derive(Clone, Copy)]
 pub struct Placed {
     pub number: u64,
     pub value: u64,

@@ -1,7 +1,7 @@
 -- What the tests of the code say of a move: one that touches no more than its two squares sets just those; a double step; squares two apart on one rank.
 -- Assumes nothing.
 use mathlib.Core.Path.{◌≡◌, refl, ap, sym, ◌∙◌}
-use mathlib.Core.Bool.{Bool, true, false, cond, not, ◌&&◌, ◌||◌, and_true, and_false}
+use mathlib.Core.Bool.{Bool, true, false, cond, not, ◌&&◌, ◌||◌, and-true, and-false}
 use mathlib.Core.List.{List}
 use Prim.Native.Nat.{ℕ, ◌+◌, ◌<◌}
 use lib.Dec.{T, eqb}
@@ -57,13 +57,13 @@ two_ranks source dest h k =
 module _ (man source dest kind : ℕ) (h : source < 64) (k : dest < 64) (t : Bool) (e : t ≡ (eqb dest (source + 16) || eqb source (dest + 16))) where
   pub no_double : t ≡ false → false ≡ steps_twice man source dest
   unfolding steps_twice
-  no_double f = sym (ap (λ (u : Bool). eqb (kind_of man) pawn && u) (two_ranks source dest h k ∙ sym e ∙ f) ∙ and_false (eqb (kind_of man) pawn))
+  no_double f = sym (ap (λ (u : Bool). eqb (kind_of man) pawn && u) (two_ranks source dest h k ∙ sym e ∙ f) ∙ and-false (eqb (kind_of man) pawn))
 
   pub double_by : t ≡ true → kind ≡ kind_of man → eqb kind 1 ≡ steps_twice man source dest
   unfolding steps_twice
   double_by f g =
       ap (λ (x : ℕ). eqb x 1) g
-      ∙ sym (ap (λ (u : Bool). eqb (kind_of man) pawn && u) (two_ranks source dest h k ∙ sym e ∙ f) ∙ and_true (eqb (kind_of man) pawn))
+      ∙ sym (ap (λ (u : Bool). eqb (kind_of man) pawn && u) (two_ranks source dest h k ∙ sym e ∙ f) ∙ and-true (eqb (kind_of man) pawn))
 
 -- on one rank, squares are two apart exactly if their files are
 pub two_on_rank : (source dest : ℕ) → source < 64 → dest < 64

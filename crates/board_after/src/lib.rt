@@ -1,4 +1,6 @@
 // The board after a move, after board.rs: the record that a listed move leaves, by document 02, order 9.
+#![tactic(auto)]
+
 pub mod settled;
 
 ghost use Rattle.std.specs.Prelude.{◌≡◌, ◌&&◌, ◌-◌, ◌≤◌, ◌<◌, eqb, length, take, set};

@@ -1,6 +1,8 @@
 // The board record and its builder, after board_builder.rs: 64 piece codes, the side to move, each side's castling rights, the en passant file; and the
 // two counters of a FEN, half-moves without a pawn's move or a capture, and the number of the move.
 // A step given a number out of range, its record's too, hands its record back with 5.
+#![tactic(auto)]
+
 mod initial;
 
 ghost use Rattle.std.specs.Prelude.{◌≡◌, ◌*◌, ◌<◌, max, length, take, drop};
@@ -32,7 +34,7 @@ pub const BLACK_RIGHTS_AT: usize = SQUARES + 2;
 pub const EN_PASSANT_AT: usize = SQUARES + 3;
 
 #[repr(C)]
-#[derive(Drop)]
+#[derive(Clone, Copy)]
 pub struct BoardBuilder {
     pub pieces: [u8; 64],
     pub side_to_move: u8,
@@ -45,7 +47,7 @@ pub struct BoardBuilder {
 
 // An answer number, and the record after the step.
 #[repr(C)]
-#[derive(Drop)]
+#[derive(Clone, Copy)]
 pub struct Stepped {
     pub number: u64,
     pub board: BoardBuilder,

@@ -1,4 +1,6 @@
 // Castling rights, after castle_rights.rs: 0 none, 1 king side, 2 queen side, 3 both. A number out of range is answered 5.
+#![tactic(auto)]
+
 ghost use Rattle.std.specs.Prelude.{◌≡◌, ◌<◌, length};
 ghost use Rattle.answer.specs.Answer.{write_answer, write_bytes};
 ghost use Rattle.castle_rights.specs.CastleRights.{from_index, has_king, has_queen, by_file, square_rights, remove_rights, add_rights, rook_rights};

@@ -4,7 +4,7 @@ use mathlib.Core.Path.{◌≡◌, refl, sym, ap, ◌∙◌}
 use mathlib.Core.Bool.{Bool, true, false, not, true≢false}
 use mathlib.Core.List.{List, [], ◌∷◌}
 use mathlib.Core.Logic.{◌⊎◌, inl, inr}
-use Prim.Native.Nat.{ℕ, zero, suc, ◌+◌, ◌*◌, ◌/◌, ◌-◌, ◌≤◌, ◌<◌}
+use Prim.Native.Nat.{ℕ, zero, suc, ◌*◌, ◌/◌, ◌-◌, ◌≤◌, ◌<◌}
 use native.Mathlib.Decide.{dec_le}
 use native.Mathlib.Omega.{arith}
 use lib.Dec.{eqb}
@@ -22,7 +22,7 @@ use Rattle.square.proofs.Squares.{read_short}
 use Rattle.chess_move.specs.Number.{number_of}
 use Rattle.chess_move.specs.Coordinate.{promotion_named, with_dest, with_source, read_move}
 use Rattle.chess_move.specs.Base.{base_move}
-use Rattle.chess_move.specs.Faults.{GoodUpTo, BadByte, NoPair, BadLetter, SaysWhere, EveryTextIsToldWhere}
+use Rattle.chess_move.specs.Faults.{GoodUpTo, BadByte, NoPair, BadLetter, EveryTextIsToldWhere}
 
 -- ---- the fifth byte: it is named as a promotion exactly if it is one of the four
 

@@ -58,7 +58,8 @@ without n e =
     ∙ ended_squares text (source_of n) (dest_of n) (λ f. omega arith)
     ∙ simp (eq-eqb _ _ e, z))
 
-with_one : (n : ℕ) → n ≤ last_move → (promotion_of n ≡ 0 → ⊥) → read_move (move_text n) ≡ cond (readable (promotion_of n)) (read_as n) (fault_at invalid_uci_move 4)
+with_one : (n : ℕ) → n ≤ last_move → (promotion_of n ≡ 0 → ⊥)
+    → read_move (move_text n) ≡ cond (readable (promotion_of n)) (read_as n) (fault_at invalid_uci_move 4)
 with_one n h e =
     let p = promotion_of n in
     let letter = letter_of (p + 6) ∷ [] in

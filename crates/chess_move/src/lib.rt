@@ -1,4 +1,6 @@
 // The move and its coordinate text, after chess_move.rs: source, destination and promotion, as one number, as e2e4 or e7e8q.
+#![tactic(auto)]
+
 ghost use Rattle.std.specs.Prelude.{◌≡◌, length};
 ghost use Rattle.answer.specs.Answer.{write_answer, write_bytes};
 ghost use Rattle.chess_move.specs.Number.{source_of, dest_of, move_of, number_answer};
@@ -10,7 +12,7 @@ use square::Pair;
 // The largest number of a move: h8 to h8 with promotion 6.
 pub const LAST_MOVE: u64 = 28_671;
 
-#[derive(Drop)]
+#[derive(Clone, Copy)]
 pub struct ChessMove {
     pub source: u8,
     pub dest: u8,

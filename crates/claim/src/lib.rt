@@ -1,4 +1,6 @@
 // The reversible count, the run of positions, and whether a draw may be claimed, after game.rs.
+#![tactic(auto)]
+
 ghost use Rattle.std.specs.Prelude.{◌≡◌};
 ghost use Rattle.position.specs.Layout.{position_of};
 ghost use Rattle.claim.specs.Emptying.{irreversible, rights_differ, empties_run};
@@ -14,7 +16,7 @@ use square::PAWN;
 pub const CLAIM_COUNT: usize = 100;
 
 // The run begins at position `first`; the count is of the moves since position `since`.
-#[derive(Drop)]
+#[derive(Clone, Copy)]
 pub struct Run {
     pub first: usize,
     pub since: usize,

@@ -1,4 +1,6 @@
 // A number in decimal, one text per number: for every writer of numbers.
+#![tactic(auto)]
+
 ghost use Rattle.std.specs.Prelude.{◌≡◌, length};
 ghost use Rattle.answer.specs.Answer.{write_answer, write_bytes};
 ghost use Rattle.decimal.specs.Decimal.{decimal};

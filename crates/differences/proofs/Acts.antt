@@ -141,7 +141,8 @@ module _ (n : ℕ) (l : List ℕ) (m : ℕ) (k old bytes : List ℕ) (at to i : 
         left =
             inv.left
             ∙ ap₂ (action_difference i) (numbers_turn n l i at size h e) (numbers_turn m k i to other j f)
-            ∙ equal_heads i (entry_number (drop at l)) (entry_number (drop to k)) (numbers_from n l (i + 1) (at + size)) (numbers_from m k (i + 1) (to + other)) z;
+            ∙ equal_heads i (entry_number (drop at l)) (entry_number (drop to k)) (numbers_from n l (i + 1) (at + size))
+            (numbers_from m k (i + 1) (to + other)) z;
       }
 
   pub searched_same : (r : ℕ) (x y : List ℕ) → i < n → i < m → x ≡ drop at l → y ≡ drop to k → r ≡ same_entry x y → r ≤ 4 → (r ≡ 0 → ⊥)

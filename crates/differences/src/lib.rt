@@ -1,5 +1,7 @@
 // Tells what differs between two games (document 02, orders 10 and 12): reads two rolls and writes a line for each start number and for the first action
 // that differs.
+#![tactic(auto)]
+
 ghost use Rattle.std.specs.Prelude.{◌≡◌, ◌+◌, ◌*◌, ◌≤◌, ◌<◌, length, drop};
 ghost use Rattle.decimal.specs.Decimal.{decimal};
 ghost use Rattle.board_builder.specs.BoardBuilder.{record_size};

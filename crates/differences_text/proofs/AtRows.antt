@@ -15,9 +15,9 @@ use Rattle.differences_text.specs.Calls.{differences, differences_check, differe
 use Rattle.differences_text.specs.AtRows.{LinesAtSmallest, RefusalsAtSmallest}
 
 pub lines_at_smallest : LinesAtSmallest
-unfolding ascii digits decimal behind read_groups largest_numbers is_code put_number one_number read_numbers full_by half_by read_counters moved_by coded put_action
-    next_action read_actions with_actions with_count with_counts with_front read_by start_numbers start_key if_differs start_differences action_numbers action_key
-    action_difference line_text lines_text differences differences_text
+unfolding ascii digits decimal behind read_groups largest_numbers is_code put_number one_number read_numbers full_by half_by read_counters moved_by coded
+    put_action next_action read_actions with_actions with_count with_counts with_front read_by start_numbers start_key if_differs start_differences
+    action_numbers action_key action_difference line_text lines_text differences differences_text
 lines_at_smallest =
     record {
       on_e4 = refl;
@@ -38,7 +38,7 @@ lines_at_smallest =
     }
 
 pub refusals_at_smallest : RefusalsAtSmallest
-unfolding ascii write_answer digits decimal first_refusal behind read_groups largest_numbers is_code put_number one_number read_numbers full_by half_by read_counters
-    moved_by coded put_action next_action read_actions with_actions with_count with_counts with_front read_by roll_answer start_numbers start_key if_differs
-    start_differences action_numbers action_key action_difference line_text lines_text differences differences_check differences_text
+unfolding ascii write_answer digits decimal first_refusal behind read_groups largest_numbers is_code put_number one_number read_numbers full_by half_by
+    read_counters moved_by coded put_action next_action read_actions with_actions with_count with_counts with_front read_by roll_answer start_numbers
+    start_key if_differs start_differences action_numbers action_key action_difference line_text lines_text differences differences_check differences_text
 refusals_at_smallest = record { first_roll_first = refl; then_the_second = refl; then_7 = refl; accepted = refl }

@@ -55,5 +55,6 @@ pub never_16 : Never16
 unfolding differences_check
 never_16 L s t room =
     written (differences_check L s t) (differences_text L s t) room
-    (first_of (roll_answer (read_roll L s)).number (roll_answer (read_roll L t)).number (number_told (read_roll L s) (roll_passes_fact told other_passes true L s))
+    (first_of (roll_answer (read_roll L s)).number (roll_answer (read_roll L t)).number
+    (number_told (read_roll L s) (roll_passes_fact told other_passes true L s))
     (number_told (read_roll L t) (roll_passes_fact told other_passes true L t)))

@@ -120,12 +120,14 @@ pub record SameText (n : ℕ) (bs : List ℕ) (m : ℕ) (cs : List ℕ) : Type 0
 pub same_text : (n : ℕ) (bs : List ℕ) (m : ℕ) (cs : List ℕ) → actions_in_range n bs ≡ true → actions_in_range m cs ≡ true
     → action_numbers n bs ≡ action_numbers m cs → SameText n bs m cs
 unfolding action_numbers actions_text heading behind
-same_text zero bs zero cs h k e = record { counts = refl; texts = refl }
+same_text zero bs zero cs h k e =
+    record { counts = refl; texts = refl }
 same_text zero bs (suc m) cs h k e = let z : ◌≡◌ {A = ℕ} 0 1 = cc in absurd (omega arith)
 same_text (suc n) bs zero cs h k e = let z : ◌≡◌ {A = ℕ} 0 1 = cc in absurd (omega arith)
 same_text (suc n) bs (suc m) cs h k e =
     let here : action_number bs ≡ action_number cs = ap heading e in
     let left = same_text n (drop action_size bs) m (drop action_size cs) (rest_in_range n bs h) (rest_in_range m cs k) (ap behind e) in
-    let s = one_action (kind_at bs) (colour_at bs) (move_number_at bs) (kind_at cs) (colour_at cs) (move_number_at cs) (first_in_range n bs h) (first_in_range m cs k)
+    let s = one_action (kind_at bs) (colour_at bs) (move_number_at bs) (kind_at cs) (colour_at cs) (move_number_at cs) (first_in_range n bs h)
+    (first_in_range m cs k)
     here in
     record { counts = ap suc left.counts; texts = rw (s.kinds, s.colours, s.moves, left.texts) }

@@ -35,8 +35,8 @@ other : List ℕ
 other = roll 11 (1 ∷ 3 ∷ 3 ∷ 8 ∷ 142 ∷ 78 ∷ 143 ∷ 78 ∷ []) 254
 
 both : BothRead limits one other
-unfolding roll one other all_at_most behind read_groups largest_numbers is_code put_number one_number read_numbers full_by half_by read_counters moved_by coded put_action
-    next_action read_actions with_actions with_count with_counts with_front read_by roll_answer judged_by
+unfolding roll one other all_at_most behind read_groups largest_numbers is_code put_number one_number read_numbers full_by half_by read_counters moved_by
+    coded put_action next_action read_actions with_actions with_count with_counts with_front read_by roll_answer judged_by
 both = record { first_bytes = refl; second_bytes = refl; first = refl; second = refl }
 
 -- the lines, the action's last
@@ -45,8 +45,8 @@ starts = start_differences 0 (replicate squares 10 ++ (0 ∷ 0 ∷ 0 ∷ 0 ∷ 9
 
 lines : roll_differences limits one other ≡ starts ++ (difference (action_key 1000) 458738 458722 ∷ [])
 unfolding roll one other behind read_groups largest_numbers is_code put_number one_number read_numbers full_by half_by read_counters moved_by coded put_action
-    next_action read_actions with_actions with_count with_counts with_front read_by start_numbers start_key if_differs start_differences action_numbers action_difference
-    differences starts
+    next_action read_actions with_actions with_count with_counts with_front read_by start_numbers start_key if_differs start_differences action_numbers
+    action_difference differences starts
 lines = refl
 
 starts_long : length (lines_text starts) ≡ 632

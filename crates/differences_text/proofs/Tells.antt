@@ -30,7 +30,8 @@ module _ (L : Limits) (s t : List ℕ) (st : Start) (n : ℕ) (bs : List ℕ) (o
   lines_are : differences (rolled st n bs) (rolled other m cs) ≡ lines_of lines
   unfolding differences lines
   lines_are =
-      ap (λ (ds : List Difference). ds ++ action_difference 0 (action_numbers n bs) (action_numbers m cs)) (start_lines_lem (start_numbers st) (start_numbers other))
+      ap (λ (ds : List Difference). ds ++ action_difference 0 (action_numbers n bs) (action_numbers m cs))
+      (start_lines_lem (start_numbers st) (start_numbers other))
 
 -- what an accepted call wrote is its text
 text_wrote : (L : Limits) (s t out : List ℕ) → ((teller L).answer s t (length out)).number ≡ 0 → lines_written (teller L) s t out ≡ differences_text L s t

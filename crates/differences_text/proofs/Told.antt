@@ -170,7 +170,8 @@ agreed_next all others i x xs y ys a e =
     }
 
 -- the line of place i
-told_here : (all others : List ℕ) (i x y : ℕ) → ((j : ℕ) → j < i → get_or all j 0 ≡ get_or others j 0) → get_or all i 0 ≡ x → get_or others i 0 ≡ y → (x ≡ y → ⊥)
+told_here : (all others : List ℕ) (i x y : ℕ) → ((j : ℕ) → j < i → get_or all j 0 ≡ get_or others j 0) → get_or all i 0 ≡ x → get_or others i 0 ≡ y
+    → (x ≡ y → ⊥)
     → ActionTold all others (difference (action_key i) x y ∷ [])
 told_here all others i x y before e f d = rw (← e, ← f) (first i before (λ w. d (sym e ∙ w ∙ f)))
 

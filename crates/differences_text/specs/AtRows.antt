@@ -46,7 +46,8 @@ pub record LinesAtSmallest : Type 0 where
   pub counters_in_order : tells (with 67 3) (replicate record_size 0 ++ (5 ∷ 2 ∷ 1 ∷ 4 ∷ []))
       ≡ with_newline (ascii "ep 3 0") ++ (with_newline (ascii "half 0 5") ++ (with_newline (ascii "full 1 2") ++ with_newline (ascii "action 0 0 4")))
   -- the start's lines, then the action's
-  pub action_last : tells (set (replicate record_size 0) 28 1 ++ (0 ∷ 1 ∷ 1 ∷ 4 ∷ [])) plain ≡ with_newline (ascii "28 1 0") ++ with_newline (ascii "action 0 4 0")
+  pub action_last : tells (set (replicate record_size 0) 28 1 ++ (0 ∷ 1 ∷ 1 ∷ 4 ∷ [])) plain ≡ with_newline (ascii "28 1 0") ++ with_newline
+      (ascii "action 0 4 0")
   pub equal : tells (doing (1 ∷ 4 ∷ [])) (doing (1 ∷ 4 ∷ [])) ≡ []
   -- an offer by white, 4, and then move 300, 2 + 16 × 300; where both actions differ the first is told
   pub an_action : tells (doing (2 ∷ 4 ∷ 2 ∷ 172 ∷ 2 ∷ [])) (doing (2 ∷ 4 ∷ 6 ∷ [])) ≡ with_newline (ascii "action 1 4802 6")

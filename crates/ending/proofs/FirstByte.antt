@@ -64,5 +64,6 @@ module _ (acts : List ℕ) (n : ℕ) where
   first_byte_goes_on some low =
       let e : action_size * (n - 1) + 0 ≡ action_size * (n - 1) = omega arith in
       let first : get_or (item action_size acts (n - 1)) 0 0 ≡ get_or acts (action_size * (n - 1)) 0 =
-      get_or-take action_size (drop (action_size * (n - 1)) acts) 0 0 (omega arith) ∙ get_or-drop (action_size * (n - 1)) acts 0 0 ∙ ap (λ (x : ℕ). get_or acts x 0) e in
+      get_or-take action_size (drop (action_size * (n - 1)) acts) 0 0 (omega arith) ∙ get_or-drop (action_size * (n - 1)) acts 0 0 ∙ ap
+      (λ (x : ℕ). get_or acts x 0) e in
       ap result_of_action (last_some acts n some) ∙ low_goes_on (item action_size acts (n - 1)) (omega arith)

@@ -1,4 +1,6 @@
 // How a game has ended, and whether an offer stands, after game.rs.
+#![tactic(auto)]
+
 ghost use Rattle.std.specs.Prelude.{◌≡◌, cond, ◌||◌, ◌-◌, eqb};
 ghost use Rattle.action.specs.declared.Stored.TheVariants.{Holds};
 ghost use Rattle.actions.specs.Part.{last_action};

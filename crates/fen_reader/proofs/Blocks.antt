@@ -56,7 +56,8 @@ counted_end s at k n r h f g =
 
 -- ---- the first byte of a kind: a block that has none is passed over, and in what is left it is looked for byte by byte
 
-pub passed_over_lem : (b : ℕ) (s : List ℕ) (from at size k : ℕ) (hit : Bool) → at + size ≤ length s → k ≡ size → hit ≡ among b (take k (drop at s)) → hit ≡ false
+pub passed_over_lem : (b : ℕ) (s : List ℕ) (from at size k : ℕ) (hit : Bool) → at + size ≤ length s → k ≡ size → hit ≡ among b (take k (drop at s))
+    → hit ≡ false
     → found_from b s from ≡ found_from b s at → found_from b s from ≡ found_from b s (at + size)
 passed_over_lem b s from at size k hit h e f none g =
     let long : size ≤ length (drop at s) = rw (length-drop at s) (omega arith) in

@@ -1,7 +1,7 @@
 -- The placement in one pass: a byte's mark says what `place_byte` does, and whether it may stand in a placement.
 -- Assumes nothing.
 use mathlib.Core.Path.{◌≡◌, refl, sym, ap, ◌∙◌}
-use mathlib.Core.Bool.{Bool, true, false, ◌&&◌, not, cond, and_true, and_false}
+use mathlib.Core.Bool.{Bool, true, false, ◌&&◌, not, cond, and-true, and-false}
 use mathlib.Core.List.{List, [], ◌∷◌}
 use Prim.Native.Nat.{ℕ, ◌+◌, ◌*◌, ◌-◌, ◌/◌, ◌%◌, ◌≤◌, ◌<◌}
 use native.Mathlib.Numerals.{add-one}
@@ -75,7 +75,7 @@ next pieces rank file good b small = by (kind b)
     stays = sym (set-get_or pieces (square_of rank file) 0)
 
     by : Kind b → place_byte p b ≡ after pieces rank file good (byte_mark b)
-    by (slash e) = rule_slash p b e ∙ rw (mark_slash b e) (is_same _ _ _ _ _ _ _ stays refl (sym (and_true good)))
+    by (slash e) = rule_slash p b e ∙ rw (mark_slash b e) (is_same _ _ _ _ _ _ _ stays refl (sym (and-true good)))
     by (digit l u) =
         let few : b - 48 < 16 = omega arith in
         let n : b - 48 ≡ slash_mark → ⊥ = λ e. omega arith in
@@ -83,7 +83,7 @@ next pieces rank file good b small = by (kind b)
         let same : b - 48 ≡ (b - 48) % 16 = omega arith in
         rule_digit p b l u
         ∙ rw (mark_digit b l u) (simp (ne_eqb _ _ n, ne_eqb _ _ o, lt-ltb _ _ few)
-        (is_same _ _ _ _ _ _ _ stays (ap (λ (m : ℕ). (file + m) % 8) same) (sym (and_true good))))
+        (is_same _ _ _ _ _ _ _ stays (ap (λ (m : ℕ). (file + m) % 8) same) (sym (and-true good))))
     by (letter e f g) =
         let m : ℕ = piece_of b * 16 + 1 in
         let some : piece_of b ≡ 0 → ⊥ = eqb-false _ _ g in
@@ -95,16 +95,16 @@ next pieces rank file good b small = by (kind b)
         let one : 1 ≡ m % 16 = omega arith in
         rule_letter p b e f g
         ∙ rw (mark_letter b e f g) (simp (ne_eqb _ _ n, ne_eqb _ _ o, le-ltb _ _ far, lt-ltb _ _ few)
-        (is_same _ _ _ _ _ _ _ (ap (λ (c : ℕ). set pieces (square_of rank file) c) code) (ap (λ (m : ℕ). (file + m) % 8) one) (sym (and_true good))))
-    by (other e f g) = rule_other p b e f g ∙ rw (mark_other b e f g) (is_same _ _ _ _ _ _ _ stays (omega arith) (sym (and_false good)))
+        (is_same _ _ _ _ _ _ _ (ap (λ (c : ℕ). set pieces (square_of rank file) c) code) (ap (λ (m : ℕ). (file + m) % 8) one) (sym (and-true good))))
+    by (other e f g) = rule_other p b e f g ∙ rw (mark_other b e f g) (is_same _ _ _ _ _ _ _ stays (omega arith) (sym (and-false good)))
 
 -- no byte so far was refused exactly if nothing is seen
 seen_next : (seen m : ℕ) → ltb seen bad_seen && not (eqb m no_mark) ≡ ltb (seen_after seen m) bad_seen
 seen_next seen m = by (eqb m no_mark)
   where
     by : (t : Bool) → ltb seen bad_seen && not t ≡ ltb (cond t bad_seen seen) bad_seen
-    by true = and_false (ltb seen bad_seen)
-    by false = and_true (ltb seen bad_seen)
+    by true = and-false (ltb seen bad_seen)
+    by false = and-true (ltb seen bad_seen)
 
 -- the same, as the code has it: the mark as it was looked up, and what the four functions gave
 pub stored : (pieces : List ℕ) (rank file seen m d x r f t : ℕ)

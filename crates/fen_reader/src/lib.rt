@@ -1,4 +1,6 @@
 // The FEN reader, after board_builder.rs: a text of four tokens or more is read into a record.
+#![tactic(auto)]
+
 pub mod full;
 pub mod lines;
 mod marks;

@@ -56,7 +56,7 @@ fn seen_after(seen: u8, mark: u8) -> u8
 }
 
 // The pieces that a text's first token places, where the token ends, and REFUSED if one of its bytes may not stand in a placement, else less.
-#[derive(Drop)]
+#[derive(Clone, Copy)]
 pub struct Walked {
     pub pieces: [u8; 64],
     pub end: usize,

@@ -11,7 +11,7 @@ use crate::marks::{SLASH_MARK, wide};
 const LAST: usize = 120;
 
 // Where a walk stopped: the place to set down next, and the byte.
-#[derive(Drop)]
+#[derive(Clone, Copy)]
 pub struct Stopped {
     pub at: usize,
     pub end: usize,

@@ -75,7 +75,7 @@ pub(crate) fn side(token: &[u8]) -> u8
 }
 
 // The rights of both sides.
-#[derive(Drop)]
+#[derive(Clone, Copy)]
 pub struct Sides {
     pub white: u8,
     pub black: u8,

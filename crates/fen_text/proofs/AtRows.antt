@@ -14,8 +14,8 @@ use Rattle.fen_text.specs.Write.{digit_text, run_text, slash_text, ranks_text, r
 use Rattle.fen_text.specs.Rows.{FenRows}
 
 pub fen_rows : FenRows
-unfolding all_at_most in_range ascii read_square piece_of letter_of letters_of letters_text among onto joined tokens place_after place_where place_byte place_all
-    side_of rights_of sided assembled of_tokens read_fen digit_text run_text slash_text ranks_text rights_text en_passant_text tail_text fen_text
+unfolding all_at_most in_range ascii read_square piece_of letter_of letters_of letters_text among onto joined tokens place_after place_where place_byte
+    place_all side_of rights_of sided assembled of_tokens read_fen digit_text run_text slash_text ranks_text rights_text en_passant_text tail_text fen_text
 fen_rows = record {
   empty_placement = (refl, refl);
   three_tokens = refl;

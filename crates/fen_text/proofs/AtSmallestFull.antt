@@ -51,8 +51,8 @@ full_at_smallest = record {
 }
 
 pub crate_at_smallest : CrateAtSmallest
-unfolding ascii among all_at_most read_square piece_of letter_of letters_of letters_text in_range onto joined tokens place_after place_where place_byte place_all
-    side_of rights_of sided assembled of_tokens read_fen digit_text run_text slash_text ranks_text rights_text en_passant_text tail_text fen_text
+unfolding ascii among all_at_most read_square piece_of letter_of letters_of letters_text in_range onto joined tokens place_after place_where place_byte
+    place_all side_of rights_of sided assembled of_tokens read_fen digit_text run_text slash_text ranks_text rights_text en_passant_text tail_text fen_text
 crate_at_smallest = record {
   sets_0_and_1 = refl;
   never_25 = refl;

@@ -109,7 +109,8 @@ full_as_the_crate s = go (eqb (read_fen s).number 0) refl
     go true e =
         let zero-said : (read_fen s).number ≡ 0 = eqb-true (read_fen s).number 0 e in
         let m : Made (read_fen s).board behind =
-        clocked_made (read_fen s).board (length s) (start_behind 4 (tokens s)) (drop 4 (tokens s)) (in_range_lem (read_fen s).board (reads_in_range s zero-said)) in
+        clocked_made (read_fen s).board (length s) (start_behind 4 (tokens s)) (drop 4 (tokens s))
+        (in_range_lem (read_fen s).board (reads_in_range s zero-said)) in
         let same : read_full s ≡ behind = simp e in
         record {
           in_range_lem = λ z. rw same (m.good (sym (ap (λ (f : Fen). f.number) same) ∙ z));

@@ -50,7 +50,8 @@ unfolding place_after ended_lines_by onto_ended
 ended_step true x k s f h = refl
 ended_step false x k s f h = ap (onto_ended x) (f (omega arith))
 
-pub ended_next : (s : List ℕ) → place_of line_feed s < length s → ended_lines s ≡ take (place_of line_feed s) s ∷ ended_lines (drop (suc (place_of line_feed s)) s)
+pub ended_next : (s : List ℕ) → place_of line_feed s < length s
+    → ended_lines s ≡ take (place_of line_feed s) s ∷ ended_lines (drop (suc (place_of line_feed s)) s)
 unfolding place_where ended_lines
 ended_next [] h = absurd (omega arith)
 ended_next (x ∷ s) h = ended_step (eqb x line_feed) x (place_of line_feed s) s (ended_next s) h

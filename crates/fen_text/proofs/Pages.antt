@@ -24,16 +24,8 @@ use Rattle.fen_text.specs.Token.{onto, joined}
 use Rattle.fen_text.specs.Read.{read_fen}
 use Rattle.fen_text.specs.Lines.{line_feed, lines, over_lines}
 use Rattle.fen_text.specs.Page.{record_of, told_of, told_size, line_count, page_records, page_told, page_fits, page_answer, records_left, told_left}
-use Rattle.fen_text.specs.PagePromises.{
-  line_at,
-  AsTheSingleReader,
-  EachLineAsTheSingleReader,
-  PagesAreJudgedSo,
-  RefusedPagesChangeNothing,
-  OneLineIsTheSingleCall,
-  Joined,
-  PagesJoin,
-}
+use Rattle.fen_text.specs.PagePromises.{line_at, AsTheSingleReader, EachLineAsTheSingleReader, PagesAreJudgedSo, RefusedPagesChangeNothing}
+use Rattle.fen_text.specs.PagePromises.{OneLineIsTheSingleCall, PagesJoin}
 use Rattle.fen_text.proofs.Keys.{reads_in_range, refused_is_zero}
 use Rattle.fen_text.proofs.Lines.{length_over, over_append, lines_behind}
 

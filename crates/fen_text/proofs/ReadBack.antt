@@ -20,7 +20,8 @@ use Rattle.board_builder.proofs.Ranges.{InRange, in_range_lem}
 use Rattle.fen_text.specs.Token.{onto, joined, tokens}
 use Rattle.fen_text.specs.declared.Fen.{Fen}
 use Rattle.fen_text.specs.Read.{side_of, rights_of, en_passant_of, fen_of, sided, assembled, of_tokens, read_fen}
-use Rattle.fen_text.specs.Write.{digit_text, run_text, row_of, slash_text, ranks_text, side_letter, rights_text, en_passant_text, tail_with, tail_text, fen_text}
+use Rattle.fen_text.specs.Write.{digit_text, run_text, row_of, slash_text, ranks_text, side_letter, rights_text, en_passant_text, tail_with, tail_text}
+use Rattle.fen_text.specs.Write.{fen_text}
 use Rattle.fen_text.specs.Promises.{TextReadsBack, BeginningReadsBack}
 use Rattle.fen_text.proofs.Placed.{row_codes, placed_back}
 

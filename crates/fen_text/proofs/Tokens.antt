@@ -92,7 +92,8 @@ some_tokens (x ∷ s) = omega (arith, length_joined (eqb x 32) x (tokens s) (som
 
 pub count_turn : (s : List ℕ) (i : ℕ) → i < length s → length (tokens (drop i s)) ≡ cond (eqb (get_or s i 0) 32) 1 0 + length (tokens (drop (i + 1) s))
 unfolding tokens
-count_turn s i h = rw (add-one i, drop-cons s i 0 h) (length_joined (eqb (get_or s i 0) 32) (get_or s i 0) (tokens (drop (suc i) s)) (some_tokens (drop (suc i) s)))
+count_turn s i h =
+    rw (add-one i, drop-cons s i 0 h) (length_joined (eqb (get_or s i 0) 32) (get_or s i 0) (tokens (drop (suc i) s)) (some_tokens (drop (suc i) s)))
 
 pub count_end : (s : List ℕ) (i : ℕ) → length s ≤ i → length (tokens (drop i s)) ≡ 1
 unfolding tokens

@@ -1,4 +1,6 @@
 // The FEN writer, after board_builder.rs: a record's text, written into a lent room.
+#![tactic(auto)]
+
 mod text;
 
 ghost use Rattle.std.specs.Prelude.{◌≡◌, length};

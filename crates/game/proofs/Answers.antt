@@ -2,7 +2,7 @@
 -- bytes is what the history says, so the checks of a call, one after the other, give its answer.
 -- Assumes nothing.
 use mathlib.Core.Path.{◌≡◌, refl, ap, sym, ◌∙◌}
-use mathlib.Core.Bool.{Bool, true, false, cond, not, ◌&&◌, ◌||◌, and_true, false≢true}
+use mathlib.Core.Bool.{Bool, true, false, cond, not, ◌&&◌, ◌||◌, and-true, false≢true}
 use mathlib.Core.List.{List, [], ◌∷◌, ◌++◌}
 use Prim.Native.Nat.{ℕ, suc, ◌+◌, ◌*◌, ◌<◌, ◌≤◌}
 use native.Mathlib.Omega.{arith}
@@ -27,7 +27,8 @@ use Rattle.stored_position.specs.Bytes.{position_check, lists_move}
 use Rattle.stored_position.proofs.Checks.{position_fits}
 use Rattle.ending.specs.Ending.{result_at}
 use Rattle.game_rules.specs.Limits.{limits, actions_length, positions_length}
-use Rattle.game_rules.specs.Rules.{Call, make_move, offer_draw, accept_draw, declare_draw, resign, is_move, action_made, result, unless, first_refusal, comes_after}
+use Rattle.game_rules.specs.Rules.{Call, make_move, offer_draw, accept_draw, declare_draw, resign, is_move, action_made, result, unless, first_refusal}
+use Rattle.game_rules.specs.Rules.{comes_after}
 use Rattle.game_rules.specs.Rules.{own_checks, room_for, answer}
 use Rattle.game_rules.specs.Good.{history_of, sound, is_good}
 use Rattle.game_rules.specs.Calls.{long_enough, log_check, call_answer, counts}
@@ -137,7 +138,7 @@ module _ (acts ps : List ℕ) (n m : ℕ) where
       by_first (open_check acts ps n m) (other_check acts ps n m (action_made c) ∷ unless (ltb n limits.most_actions) log_full ∷ []) _
       (λ h. let r = open-ready h in
       rw (own_is r c e, room_is r c, e)
-      (ap (λ (t : Bool). first_refusal (other_check acts ps n m (action_made c) ∷ unless t log_full ∷ [])) (sym (and_true (ltb n limits.most_actions)))))
+      (ap (λ (t : Bool). first_refusal (other_check acts ps n m (action_made c) ∷ unless t log_full ∷ [])) (sym (and-true (ltb n limits.most_actions)))))
       ∙ sym (in_a_row c)
 
   -- the position on the board is in range, and so is a move that it lists
@@ -153,7 +154,8 @@ module _ (acts ps : List ℕ) (n m : ℕ) where
       (board_fits (position_at ps m) (here-in-range h))
 
   pub record_there : open_check acts ps n m ≡ 0 → record_size ≤ length (item position_size ps m)
-  record_there h = omega (arith, record_long (take record_size (item position_size ps m)) (record_in_range h), length-take record_size (item position_size ps m))
+  record_there h = omega
+      (arith, record_long (take record_size (item position_size ps m)) (record_in_range h), length-take record_size (item position_size ps m))
 
   pub listed-number : (x : ℕ) → open_check acts ps n m ≡ 0 → lists_move (item position_size ps m) x ≡ true → x ≤ last_move
   unfolding lists_move

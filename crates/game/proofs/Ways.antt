@@ -260,7 +260,8 @@ module _ (acts ps : List ℕ) (p : Position) where
   unfolding start_answer
   start_no_positions h g = failed (long_enough limits acts ps) part_too_short (position_check p ∷ []) refl (ap₂ ◌&&◌ (le-leb _ _ h) (lt-leb _ _ g))
 
-  pub start_checked : (x : ℕ) → actions_length limits ≤ length acts → positions_length limits ≤ length ps → x ≡ position_check p → x ≡ start_answer limits acts ps p
+  pub start_checked : (x : ℕ) → actions_length limits ≤ length acts → positions_length limits ≤ length ps → x ≡ position_check p
+      → x ≡ start_answer limits acts ps p
   unfolding start_answer
   start_checked x h g e = held (long_enough limits acts ps) part_too_short x (position_check p ∷ []) (ap₂ ◌&&◌ (le-leb _ _ h) (le-leb _ _ g))
       (only (position_check p) x e)

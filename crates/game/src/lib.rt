@@ -1,4 +1,6 @@
 // The game log: its calls and queries, after game.rs. The log lies in two lent parts, and its counts travel by value.
+#![tactic(auto)]
+
 ghost use Rattle.std.specs.Prelude.{◌≡◌, ◌+◌, ◌*◌, ◌≤◌, length};
 ghost use Rattle.answer.specs.Parts.{written};
 ghost use Rattle.action.specs.Layout.{action_size, action_bytes, action_check};
@@ -6,7 +8,17 @@ ghost use Rattle.position.specs.Layout.{position_size};
 ghost use Rattle.stored_position.specs.Bytes.{position_bytes, position_check, position_given};
 ghost use Rattle.game_rules.specs.Limits.{limits};
 ghost use Rattle.game_rules.specs.Rules.{make_move, offer_draw, accept_draw, declare_draw, resign};
-ghost use Rattle.game_rules.specs.Calls.{call_answer, counts, counts_after, actions_after, positions_after, start_answer, positions_begun, result_answer, claim_answer};
+ghost use Rattle.game_rules.specs.Calls.{
+  call_answer,
+  counts,
+  counts_after,
+  actions_after,
+  positions_after,
+  start_answer,
+  positions_begun,
+  result_answer,
+  claim_answer,
+};
 ghost use Rattle.game.specs.CodeAnswers.{moves_on_to, open_check, other_answer, other_counts, other_actions};
 
 use action::{ACTION_SIZE, Action};

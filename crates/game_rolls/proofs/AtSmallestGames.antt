@@ -16,7 +16,8 @@ use Rattle.fen_text.specs.Write.{digit_text, en_passant_text, fen_text, ranks_te
 use Rattle.chess_move.specs.Coordinate.{promotion_named, read_move, with_dest, with_source}
 use Rattle.move_list.specs.MoveList.{count, first_of, list_in_range}
 use Rattle.move_rules.specs.After.{after_parts, castles, colour_step, corner, enemy_pawn, file_after, full_after, half_after, one_more, pawn_removed, restarts}
-use Rattle.move_rules.specs.After.{rights_after, rights_without, rook_moved, set_down, squares_after, steps_twice, stood_before, stood_behind, takes_in_passing, two_apart}
+use Rattle.move_rules.specs.After.{rights_after, rights_without, rook_moved, set_down, squares_after, steps_twice, stood_before, stood_behind}
+use Rattle.move_rules.specs.After.{takes_in_passing, two_apart}
 use Rattle.san_text.specs.Form.{castled, read_answer, resolved}
 use Rattle.san_text.specs.Name.{changes_files, head_of, optional, piece_letter, promotion_letter, takes_of}
 use Rattle.san_text.specs.Place.{place_from, square_at}
@@ -31,23 +32,25 @@ use Rattle.pgn_text.specs.Token.{brace_comment, glyph, is_result, line_comment, 
 use Rattle.pgn_text.specs.Walk.{at_end, first_move, met, move_found, next_move, no_move_found, part, walk, walk_from}
 use Rattle.game_text.specs.Game.{game_along, play_on, played_in, played_on, positions_of}
 use Rattle.game_text.specs.Narrowed.{only, speaks_of}
-use Rattle.game_text.specs.Step.{answers_of, bytes_from, bytes_read, game_step, game_step_bytes, play_answer, play_bytes, step_from, step_read, step_written, stepping}
+use Rattle.game_text.specs.Step.{answers_of, bytes_from, bytes_read, game_step, game_step_bytes, play_answer, play_bytes, step_from, step_read, step_written}
+use Rattle.game_text.specs.Step.{stepping}
 use Rattle.game_text.specs.VariationPromises.{played_at, played_through}
 use Rattle.game_text.specs.Variations.{entered, moved_on, plays_from, variations_of}
 use Rattle.game_rolls.specs.AtSmallestGames.{GamesAtSmallest, StepsAtSmallest, SteppingAtSmallest, VariationsAtSmallest, NarrowedAtSmallest}
 
 pub games_at_smallest : GamesAtSmallest
-unfolding write_answer write_bytes ascii all_at_most among same kind_of letter_of piece_of pair_told read_square letters_of letters_text in_range clocked counter_of
-    counters_read digits_from numbered read_full start_behind place_all place_byte assembled of_tokens read_fen rights_of side_of sided joined onto place_after place_where
-    tokens digit_text en_passant_text fen_text ranks_text rights_text run_text slash_text tail_text promotion_named read_move with_dest with_source count first_of
-    list_in_range after_parts castles colour_step corner enemy_pawn file_after full_after half_after one_more pawn_removed restarts rights_after rights_without rook_moved
-    set_down squares_after steps_twice stood_before stood_behind takes_in_passing two_apart castled read_answer resolved changes_files head_of optional piece_letter
-    promotion_letter takes_of place_from square_at agrees castle castling_move fits sole_that ends_here is_castling read_standard standard_captures standard_castles
-    standard_dest standard_end standard_promotion standard_tail standard_text with_equals after is_check piece_kind piece_or promotion_kind read_file read_piece read_rank
-    read_takes cross cross_met crossed_from begins_with in_move in_run is_digit is_letter is_sign is_white onward run_length starts_move first_main next_main brace_comment
-    glyph is_result line_comment number token at_end first_move met move_found next_move no_move_found part walk walk_from game_along play_on played_in played_on
-    positions_of only speaks_of answers_of bytes_from bytes_read game_step game_step_bytes play_answer play_bytes step_from step_read step_written stepping played_at
-    played_through entered moved_on plays_from variations_of
+unfolding write_answer write_bytes ascii all_at_most among same kind_of letter_of piece_of pair_told read_square letters_of letters_text in_range clocked
+    counter_of counters_read digits_from numbered read_full start_behind place_all place_byte assembled of_tokens read_fen rights_of side_of sided joined onto
+    place_after place_where tokens digit_text en_passant_text fen_text ranks_text rights_text run_text slash_text tail_text promotion_named read_move
+    with_dest with_source count first_of list_in_range after_parts castles colour_step corner enemy_pawn file_after full_after half_after one_more
+    pawn_removed restarts rights_after rights_without rook_moved set_down squares_after steps_twice stood_before stood_behind takes_in_passing two_apart
+    castled read_answer resolved changes_files head_of optional piece_letter promotion_letter takes_of place_from square_at agrees castle castling_move fits
+    sole_that ends_here is_castling read_standard standard_captures standard_castles standard_dest standard_end standard_promotion standard_tail standard_text
+    with_equals after is_check piece_kind piece_or promotion_kind read_file read_piece read_rank read_takes cross cross_met crossed_from begins_with in_move
+    in_run is_digit is_letter is_sign is_white onward run_length starts_move first_main next_main brace_comment glyph is_result line_comment number token
+    at_end first_move met move_found next_move no_move_found part walk walk_from game_along play_on played_in played_on positions_of only speaks_of answers_of
+    bytes_from bytes_read game_step game_step_bytes play_answer play_bytes step_from step_read step_written stepping played_at played_through entered moved_on
+    plays_from variations_of
 games_at_smallest = record {
   played = refl;
   unfinished = refl;
@@ -60,17 +63,18 @@ games_at_smallest = record {
 }
 
 pub steps_at_smallest : StepsAtSmallest
-unfolding write_answer write_bytes ascii all_at_most among same kind_of letter_of piece_of pair_told read_square letters_of letters_text in_range clocked counter_of
-    counters_read digits_from numbered read_full start_behind place_all place_byte assembled of_tokens read_fen rights_of side_of sided joined onto place_after place_where
-    tokens digit_text en_passant_text fen_text ranks_text rights_text run_text slash_text tail_text promotion_named read_move with_dest with_source count first_of
-    list_in_range after_parts castles colour_step corner enemy_pawn file_after full_after half_after one_more pawn_removed restarts rights_after rights_without rook_moved
-    set_down squares_after steps_twice stood_before stood_behind takes_in_passing two_apart castled read_answer resolved changes_files head_of optional piece_letter
-    promotion_letter takes_of place_from square_at agrees castle castling_move fits sole_that ends_here is_castling read_standard standard_captures standard_castles
-    standard_dest standard_end standard_promotion standard_tail standard_text with_equals after is_check piece_kind piece_or promotion_kind read_file read_piece read_rank
-    read_takes cross cross_met crossed_from begins_with in_move in_run is_digit is_letter is_sign is_white onward run_length starts_move first_main next_main brace_comment
-    glyph is_result line_comment number token at_end first_move met move_found next_move no_move_found part walk walk_from game_along play_on played_in played_on
-    positions_of only speaks_of answers_of bytes_from bytes_read game_step game_step_bytes play_answer play_bytes step_from step_read step_written stepping played_at
-    played_through entered moved_on plays_from variations_of
+unfolding write_answer write_bytes ascii all_at_most among same kind_of letter_of piece_of pair_told read_square letters_of letters_text in_range clocked
+    counter_of counters_read digits_from numbered read_full start_behind place_all place_byte assembled of_tokens read_fen rights_of side_of sided joined onto
+    place_after place_where tokens digit_text en_passant_text fen_text ranks_text rights_text run_text slash_text tail_text promotion_named read_move
+    with_dest with_source count first_of list_in_range after_parts castles colour_step corner enemy_pawn file_after full_after half_after one_more
+    pawn_removed restarts rights_after rights_without rook_moved set_down squares_after steps_twice stood_before stood_behind takes_in_passing two_apart
+    castled read_answer resolved changes_files head_of optional piece_letter promotion_letter takes_of place_from square_at agrees castle castling_move fits
+    sole_that ends_here is_castling read_standard standard_captures standard_castles standard_dest standard_end standard_promotion standard_tail standard_text
+    with_equals after is_check piece_kind piece_or promotion_kind read_file read_piece read_rank read_takes cross cross_met crossed_from begins_with in_move
+    in_run is_digit is_letter is_sign is_white onward run_length starts_move first_main next_main brace_comment glyph is_result line_comment number token
+    at_end first_move met move_found next_move no_move_found part walk walk_from game_along play_on played_in played_on positions_of only speaks_of answers_of
+    bytes_from bytes_read game_step game_step_bytes play_answer play_bytes step_from step_read step_written stepping played_at played_through entered moved_on
+    plays_from variations_of
 steps_at_smallest = record {
   outside = refl;
   outside_key = refl;
@@ -89,17 +93,18 @@ steps_at_smallest = record {
 }
 
 pub stepping_at_smallest : SteppingAtSmallest
-unfolding write_answer write_bytes ascii all_at_most among same kind_of letter_of piece_of pair_told read_square letters_of letters_text in_range clocked counter_of
-    counters_read digits_from numbered read_full start_behind place_all place_byte assembled of_tokens read_fen rights_of side_of sided joined onto place_after place_where
-    tokens digit_text en_passant_text fen_text ranks_text rights_text run_text slash_text tail_text promotion_named read_move with_dest with_source count first_of
-    list_in_range after_parts castles colour_step corner enemy_pawn file_after full_after half_after one_more pawn_removed restarts rights_after rights_without rook_moved
-    set_down squares_after steps_twice stood_before stood_behind takes_in_passing two_apart castled read_answer resolved changes_files head_of optional piece_letter
-    promotion_letter takes_of place_from square_at agrees castle castling_move fits sole_that ends_here is_castling read_standard standard_captures standard_castles
-    standard_dest standard_end standard_promotion standard_tail standard_text with_equals after is_check piece_kind piece_or promotion_kind read_file read_piece read_rank
-    read_takes cross cross_met crossed_from begins_with in_move in_run is_digit is_letter is_sign is_white onward run_length starts_move first_main next_main brace_comment
-    glyph is_result line_comment number token at_end first_move met move_found next_move no_move_found part walk walk_from game_along play_on played_in played_on
-    positions_of only speaks_of answers_of bytes_from bytes_read game_step game_step_bytes play_answer play_bytes step_from step_read step_written stepping played_at
-    played_through entered moved_on plays_from variations_of
+unfolding write_answer write_bytes ascii all_at_most among same kind_of letter_of piece_of pair_told read_square letters_of letters_text in_range clocked
+    counter_of counters_read digits_from numbered read_full start_behind place_all place_byte assembled of_tokens read_fen rights_of side_of sided joined onto
+    place_after place_where tokens digit_text en_passant_text fen_text ranks_text rights_text run_text slash_text tail_text promotion_named read_move
+    with_dest with_source count first_of list_in_range after_parts castles colour_step corner enemy_pawn file_after full_after half_after one_more
+    pawn_removed restarts rights_after rights_without rook_moved set_down squares_after steps_twice stood_before stood_behind takes_in_passing two_apart
+    castled read_answer resolved changes_files head_of optional piece_letter promotion_letter takes_of place_from square_at agrees castle castling_move fits
+    sole_that ends_here is_castling read_standard standard_captures standard_castles standard_dest standard_end standard_promotion standard_tail standard_text
+    with_equals after is_check piece_kind piece_or promotion_kind read_file read_piece read_rank read_takes cross cross_met crossed_from begins_with in_move
+    in_run is_digit is_letter is_sign is_white onward run_length starts_move first_main next_main brace_comment glyph is_result line_comment number token
+    at_end first_move met move_found next_move no_move_found part walk walk_from game_along play_on played_in played_on positions_of only speaks_of answers_of
+    bytes_from bytes_read game_step game_step_bytes play_answer play_bytes step_from step_read step_written stepping played_at played_through entered moved_on
+    plays_from variations_of
 stepping_at_smallest = record {
   in_a_row = refl;
   one_step = refl;
@@ -108,17 +113,18 @@ stepping_at_smallest = record {
 }
 
 pub variations_at_smallest : VariationsAtSmallest
-unfolding write_answer write_bytes ascii all_at_most among same kind_of letter_of piece_of pair_told read_square letters_of letters_text in_range clocked counter_of
-    counters_read digits_from numbered read_full start_behind place_all place_byte assembled of_tokens read_fen rights_of side_of sided joined onto place_after place_where
-    tokens digit_text en_passant_text fen_text ranks_text rights_text run_text slash_text tail_text promotion_named read_move with_dest with_source count first_of
-    list_in_range after_parts castles colour_step corner enemy_pawn file_after full_after half_after one_more pawn_removed restarts rights_after rights_without rook_moved
-    set_down squares_after steps_twice stood_before stood_behind takes_in_passing two_apart castled read_answer resolved changes_files head_of optional piece_letter
-    promotion_letter takes_of place_from square_at agrees castle castling_move fits sole_that ends_here is_castling read_standard standard_captures standard_castles
-    standard_dest standard_end standard_promotion standard_tail standard_text with_equals after is_check piece_kind piece_or promotion_kind read_file read_piece read_rank
-    read_takes cross cross_met crossed_from begins_with in_move in_run is_digit is_letter is_sign is_white onward run_length starts_move first_main next_main brace_comment
-    glyph is_result line_comment number token at_end first_move met move_found next_move no_move_found part walk walk_from game_along play_on played_in played_on
-    positions_of only speaks_of answers_of bytes_from bytes_read game_step game_step_bytes play_answer play_bytes step_from step_read step_written stepping played_at
-    played_through entered moved_on plays_from variations_of
+unfolding write_answer write_bytes ascii all_at_most among same kind_of letter_of piece_of pair_told read_square letters_of letters_text in_range clocked
+    counter_of counters_read digits_from numbered read_full start_behind place_all place_byte assembled of_tokens read_fen rights_of side_of sided joined onto
+    place_after place_where tokens digit_text en_passant_text fen_text ranks_text rights_text run_text slash_text tail_text promotion_named read_move
+    with_dest with_source count first_of list_in_range after_parts castles colour_step corner enemy_pawn file_after full_after half_after one_more
+    pawn_removed restarts rights_after rights_without rook_moved set_down squares_after steps_twice stood_before stood_behind takes_in_passing two_apart
+    castled read_answer resolved changes_files head_of optional piece_letter promotion_letter takes_of place_from square_at agrees castle castling_move fits
+    sole_that ends_here is_castling read_standard standard_captures standard_castles standard_dest standard_end standard_promotion standard_tail standard_text
+    with_equals after is_check piece_kind piece_or promotion_kind read_file read_piece read_rank read_takes cross cross_met crossed_from begins_with in_move
+    in_run is_digit is_letter is_sign is_white onward run_length starts_move first_main next_main brace_comment glyph is_result line_comment number token
+    at_end first_move met move_found next_move no_move_found part walk walk_from game_along play_on played_in played_on positions_of only speaks_of answers_of
+    bytes_from bytes_read game_step game_step_bytes play_answer play_bytes step_from step_read step_written stepping played_at played_through entered moved_on
+    plays_from variations_of
 variations_at_smallest = record {
   whole = refl;
   behind = refl;
@@ -130,17 +136,18 @@ variations_at_smallest = record {
 }
 
 pub narrowed_at_smallest : NarrowedAtSmallest
-unfolding write_answer write_bytes ascii all_at_most among same kind_of letter_of piece_of pair_told read_square letters_of letters_text in_range clocked counter_of
-    counters_read digits_from numbered read_full start_behind place_all place_byte assembled of_tokens read_fen rights_of side_of sided joined onto place_after place_where
-    tokens digit_text en_passant_text fen_text ranks_text rights_text run_text slash_text tail_text promotion_named read_move with_dest with_source count first_of
-    list_in_range after_parts castles colour_step corner enemy_pawn file_after full_after half_after one_more pawn_removed restarts rights_after rights_without rook_moved
-    set_down squares_after steps_twice stood_before stood_behind takes_in_passing two_apart castled read_answer resolved changes_files head_of optional piece_letter
-    promotion_letter takes_of place_from square_at agrees castle castling_move fits sole_that ends_here is_castling read_standard standard_captures standard_castles
-    standard_dest standard_end standard_promotion standard_tail standard_text with_equals after is_check piece_kind piece_or promotion_kind read_file read_piece read_rank
-    read_takes cross cross_met crossed_from begins_with in_move in_run is_digit is_letter is_sign is_white onward run_length starts_move first_main next_main brace_comment
-    glyph is_result line_comment number token at_end first_move met move_found next_move no_move_found part walk walk_from game_along play_on played_in played_on
-    positions_of only speaks_of answers_of bytes_from bytes_read game_step game_step_bytes play_answer play_bytes step_from step_read step_written stepping played_at
-    played_through entered moved_on plays_from variations_of
+unfolding write_answer write_bytes ascii all_at_most among same kind_of letter_of piece_of pair_told read_square letters_of letters_text in_range clocked
+    counter_of counters_read digits_from numbered read_full start_behind place_all place_byte assembled of_tokens read_fen rights_of side_of sided joined onto
+    place_after place_where tokens digit_text en_passant_text fen_text ranks_text rights_text run_text slash_text tail_text promotion_named read_move
+    with_dest with_source count first_of list_in_range after_parts castles colour_step corner enemy_pawn file_after full_after half_after one_more
+    pawn_removed restarts rights_after rights_without rook_moved set_down squares_after steps_twice stood_before stood_behind takes_in_passing two_apart
+    castled read_answer resolved changes_files head_of optional piece_letter promotion_letter takes_of place_from square_at agrees castle castling_move fits
+    sole_that ends_here is_castling read_standard standard_captures standard_castles standard_dest standard_end standard_promotion standard_tail standard_text
+    with_equals after is_check piece_kind piece_or promotion_kind read_file read_piece read_rank read_takes cross cross_met crossed_from begins_with in_move
+    in_run is_digit is_letter is_sign is_white onward run_length starts_move first_main next_main brace_comment glyph is_result line_comment number token
+    at_end first_move met move_found next_move no_move_found part walk walk_from game_along play_on played_in played_on positions_of only speaks_of answers_of
+    bytes_from bytes_read game_step game_step_bytes play_answer play_bytes step_from step_read step_written stepping played_at played_through entered moved_on
+    plays_from variations_of
 narrowed_at_smallest = record {
   short = refl;
   long = refl;

@@ -23,11 +23,10 @@ use Rattle.position.specs.Repeats.{equals_two_earlier}
 use Rattle.game_rules.specs.CallOrder.{ChecksInOrder, CountersInOrder}
 
 pub checks_in_order : ChecksInOrder
-unfolding same all_at_most among kind_of numbers in_range numbers_in_range castles rook_moved takes_in_passing pawn_removed set_down squares_after rights_without
-    rights_after two_apart steps_twice file_after after_parts record_after restarts one_more half_after full_after counters_from
-    list_in_range moves_in moves_from position_of times move_bytes position_bytes position_check is_position
-    result_of offer_in current actions last_made last_but_one result offer_stands ruling claim_stands first_refusal answer history_of sound is_good log_check
-    call_answer start_answer claim_in equals_two_earlier
+unfolding same all_at_most among kind_of numbers in_range numbers_in_range castles rook_moved takes_in_passing pawn_removed set_down squares_after
+    rights_without rights_after two_apart steps_twice file_after after_parts record_after restarts one_more half_after full_after counters_from list_in_range
+    moves_in moves_from position_of times move_bytes position_bytes position_check is_position result_of offer_in current actions last_made last_but_one
+    result offer_stands ruling claim_stands first_refusal answer history_of sound is_good log_check call_answer start_answer claim_in equals_two_earlier
 checks_in_order = record {
   gives_16 = refl;
   gives_9 = refl;
@@ -61,10 +60,10 @@ checks_in_order = record {
 }
 
 pub counters_in_order : CountersInOrder
-unfolding same all_at_most among kind_of numbers in_range numbers_in_range castles rook_moved takes_in_passing pawn_removed set_down squares_after rights_without
-    rights_after two_apart steps_twice file_after after_parts record_after restarts one_more half_after full_after counters_from
-    list_in_range action_of action_bytes moves_in moves_from position_of move_bytes position_bytes position_check is_position
-    result_of current actions moves last_made result first_refusal answer call_at history_of next_sound sound is_good log_check call_answer start_answer
+unfolding same all_at_most among kind_of numbers in_range numbers_in_range castles rook_moved takes_in_passing pawn_removed set_down squares_after
+    rights_without rights_after two_apart steps_twice file_after after_parts record_after restarts one_more half_after full_after counters_from list_in_range
+    action_of action_bytes moves_in moves_from position_of move_bytes position_bytes position_check is_position result_of current actions moves last_made
+    result first_refusal answer call_at history_of next_sound sound is_good log_check call_answer start_answer
 counters_in_order = record {
   largest_start = refl;
   clock_gives_5 = refl;

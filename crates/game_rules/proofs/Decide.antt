@@ -150,7 +150,8 @@ module _ (L : Limits) (acts ps : List ℕ) (n m : ℕ) (h : History) (c : Call) 
       (λ d no f s. call_of_action d (position_at ps (suc m)) no)
       c e
 
-  here_made : take (length (position_made c)) (drop (position_size * suc m) ps) ≡ position_made c → position_here c (item position_size ps (suc m)) ≡ position_made c
+  here_made : take (length (position_made c)) (drop (position_size * suc m) ps) ≡ position_made c
+      → position_here c (item position_size ps (suc m)) ≡ position_made c
   here_made =
       by_kind
       (λ d. answer L h d ≡ 0 → take (length (position_made d)) (drop (position_size * suc m) ps) ≡ position_made d

@@ -71,9 +71,10 @@ record Seen : Type 0 where
   not_good_lem : is_good few offered.acts offered.ps 2 0 ≡ false
 
 seen : Seen
-unfolding same all_at_most in_range numbers_in_range list_in_range action_bytes action_of moves_in moves_from position_of move_bytes position_bytes position_check
-    is_position result_of current actions moves last_made result first_refusal answer Accepted action_part position_part call_at history_of next_sound sound
-    is_good log_check call_answer counts_after actions_after positions_after start_answer positions_begun result_answer called started says_resigned told_so
+unfolding same all_at_most in_range numbers_in_range list_in_range action_bytes action_of moves_in moves_from position_of move_bytes position_bytes
+    position_check is_position result_of current actions moves last_made result first_refusal answer Accepted action_part position_part call_at history_of
+    next_sound sound is_good log_check call_answer counts_after actions_after positions_after start_answer positions_begun result_answer called started
+    says_resigned told_so
 seen = record {
   was_accepted = (refl, refl);
   is_held = record { action_count = refl; move_count = refl; action_bytes_fact = refl; position_bytes_fact = refl };

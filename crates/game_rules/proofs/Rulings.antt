@@ -33,7 +33,8 @@ pub record RunIs (ps : List ℕ) (m : ℕ) (R : Ruling) (r : Run) : Type 0 where
 
 -- a move from position m to the next
 run_moves : (ps : List ℕ) (m : ℕ) (R : Ruling) (r : Run) (k : ℕ) → RunIs ps m R r
-    → RunIs ps (suc m) (ruled_call R (position_at ps m) (make_move k (position_at ps (suc m)))) (run_after (position_at ps m) k (position_at ps (suc m)) (suc m) r)
+    → RunIs ps (suc m) (ruled_call R (position_at ps m) (make_move k (position_at ps (suc m))))
+    (run_after (position_at ps m) k (position_at ps (suc m)) (suc m) r)
 unfolding run_after positions_from
 run_moves ps m R r k was =
     record {

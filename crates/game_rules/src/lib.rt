@@ -1,4 +1,6 @@
 // What a log is and how its calls are ruled: definitions and theorems in specs/ and proofs/. The code that meets them is in crates good_log and game.
+#![tactic(auto)]
+
 use action::ACTION_SIZE;
 use position::POSITION_SIZE;
 
@@ -14,7 +16,7 @@ pub const POSITIONS_LENGTH: usize = POSITION_SIZE * (MAX_MOVES + 1);
 
 // An answer number, and the two counts after the call.
 #[repr(C)]
-#[derive(Drop)]
+#[derive(Clone, Copy)]
 pub struct Counts {
     pub number: u64,
     pub actions: u64,

@@ -1,4 +1,6 @@
 // A step through a game's move text: the walk, the standard's reader, the board after a move and the FEN writer in turn.
+#![tactic(auto)]
+
 ghost use Rattle.std.specs.Prelude.{◌≡◌, length};
 ghost use Rattle.san_text.specs.Standard.{from_san_standard};
 ghost use Rattle.game_text.specs.Step.{step_end, step_refused, step_played, step_read, bytes_read, play_answer, play_bytes, game_step, game_step_bytes};

@@ -29,12 +29,12 @@ use Rattle.game_text.specs.Narrowed.{speaks_of, only}
 use Rattle.game_text.specs.AtSmallest.{GameRows, StepRows, PlayRows, NarrowRows}
 
 pub game_rows : GameRows
-unfolding ascii all_at_most same among kind_of in_range list_in_range count first_of colour_step enemy_pawn two_apart castles corner rook_moved takes_in_passing
-    pawn_removed set_down squares_after rights_without rights_after steps_twice stood_before stood_behind file_after after_parts restarts one_more half_after full_after
-    is_white is_digit is_letter starts_move is_sign in_move in_run onward run_length begins_with is_result number glyph brace_comment line_comment token at_end met walk
-    walk_from part place_from square_at promotion_kind piece_kind is_check after piece_or read_takes read_rank read_file read_piece agrees fits sole_that castling_move
-    castle castled resolved read_answer changes_files takes_of ends_here standard_end standard_promotion standard_dest is_castling read_standard standard_captures
-    standard_castles played_on game_along positions_of
+unfolding ascii all_at_most same among kind_of in_range list_in_range count first_of colour_step enemy_pawn two_apart castles corner rook_moved
+    takes_in_passing pawn_removed set_down squares_after rights_without rights_after steps_twice stood_before stood_behind file_after after_parts restarts
+    one_more half_after full_after is_white is_digit is_letter starts_move is_sign in_move in_run onward run_length begins_with is_result number glyph
+    brace_comment line_comment token at_end met walk walk_from part place_from square_at promotion_kind piece_kind is_check after piece_or read_takes
+    read_rank read_file read_piece agrees fits sole_that castling_move castle castled resolved read_answer changes_files takes_of ends_here standard_end
+    standard_promotion standard_dest is_castling read_standard standard_captures standard_castles played_on game_along positions_of
 game_rows = record {
   played = refl;
   positions = refl;
@@ -47,13 +47,14 @@ game_rows = record {
 }
 
 pub step_rows : StepRows
-unfolding ascii all_at_most same among letter_of kind_of in_range list_in_range count first_of write_answer write_bytes digit_text run_text slash_text ranks_text rights_text
-    en_passant_text tail_text fen_text colour_step enemy_pawn two_apart castles corner rook_moved takes_in_passing pawn_removed set_down squares_after rights_without
-    rights_after steps_twice stood_before stood_behind file_after after_parts restarts one_more half_after full_after is_white is_digit is_letter starts_move is_sign in_move
-    in_run onward run_length begins_with is_result number glyph brace_comment line_comment token at_end met walk walk_from no_move_found move_found part first_main
-    next_main place_from square_at promotion_kind piece_kind is_check after piece_or read_takes read_rank read_file read_piece agrees fits sole_that castling_move castle
-    castled resolved read_answer changes_files takes_of ends_here standard_end standard_promotion standard_dest is_castling read_standard standard_captures
-    standard_castles step_written step_read bytes_read step_from bytes_from game_step game_step_bytes
+unfolding ascii all_at_most same among letter_of kind_of in_range list_in_range count first_of write_answer write_bytes digit_text run_text slash_text
+    ranks_text rights_text en_passant_text tail_text fen_text colour_step enemy_pawn two_apart castles corner rook_moved takes_in_passing pawn_removed
+    set_down squares_after rights_without rights_after steps_twice stood_before stood_behind file_after after_parts restarts one_more half_after full_after
+    is_white is_digit is_letter starts_move is_sign in_move in_run onward run_length begins_with is_result number glyph brace_comment line_comment token
+    at_end met walk walk_from no_move_found move_found part first_main next_main place_from square_at promotion_kind piece_kind is_check after piece_or
+    read_takes read_rank read_file read_piece agrees fits sole_that castling_move castle castled resolved read_answer changes_files takes_of ends_here
+    standard_end standard_promotion standard_dest is_castling read_standard standard_captures standard_castles step_written step_read bytes_read step_from
+    bytes_from game_step game_step_bytes
 step_rows = record {
   stepped = refl;
   key = refl;
@@ -67,12 +68,12 @@ step_rows = record {
 }
 
 pub play_rows : PlayRows
-unfolding ascii all_at_most same among letter_of kind_of in_range list_in_range count first_of write_answer write_bytes digit_text run_text slash_text ranks_text rights_text
-    en_passant_text tail_text fen_text colour_step enemy_pawn two_apart castles corner rook_moved takes_in_passing pawn_removed set_down squares_after rights_without
-    rights_after steps_twice stood_before stood_behind file_after after_parts restarts one_more half_after full_after place_from square_at promotion_kind piece_kind
-    is_check after piece_or read_takes read_rank read_file read_piece agrees fits sole_that castling_move castle castled resolved read_answer changes_files takes_of
-    ends_here standard_end standard_promotion standard_dest is_castling read_standard standard_captures standard_castles step_written step_read bytes_read play_answer
-    play_bytes
+unfolding ascii all_at_most same among letter_of kind_of in_range list_in_range count first_of write_answer write_bytes digit_text run_text slash_text
+    ranks_text rights_text en_passant_text tail_text fen_text colour_step enemy_pawn two_apart castles corner rook_moved takes_in_passing pawn_removed
+    set_down squares_after rights_without rights_after steps_twice stood_before stood_behind file_after after_parts restarts one_more half_after full_after
+    place_from square_at promotion_kind piece_kind is_check after piece_or read_takes read_rank read_file read_piece agrees fits sole_that castling_move
+    castle castled resolved read_answer changes_files takes_of ends_here standard_end standard_promotion standard_dest is_castling read_standard
+    standard_captures standard_castles step_written step_read bytes_read play_answer play_bytes
 play_rows = record {
   played = refl;
   written = refl;
@@ -87,12 +88,13 @@ play_rows = record {
 }
 
 pub variation_rows : VariationRows
-unfolding ascii all_at_most same among kind_of in_range list_in_range count first_of colour_step enemy_pawn two_apart castles corner rook_moved takes_in_passing
-    pawn_removed set_down squares_after rights_without rights_after steps_twice stood_before stood_behind file_after after_parts restarts one_more half_after full_after
-    is_white is_digit is_letter starts_move is_sign in_move in_run onward run_length begins_with is_result number glyph brace_comment line_comment token at_end met walk
-    walk_from part place_from square_at promotion_kind piece_kind is_check after piece_or read_takes read_rank read_file read_piece agrees fits sole_that castling_move
-    castle castled resolved read_answer changes_files takes_of ends_here standard_end standard_promotion standard_dest is_castling read_standard standard_captures
-    standard_castles played_on crossed_from cross cross_met entered plays_from moved_on variations_of
+unfolding ascii all_at_most same among kind_of in_range list_in_range count first_of colour_step enemy_pawn two_apart castles corner rook_moved
+    takes_in_passing pawn_removed set_down squares_after rights_without rights_after steps_twice stood_before stood_behind file_after after_parts restarts
+    one_more half_after full_after is_white is_digit is_letter starts_move is_sign in_move in_run onward run_length begins_with is_result number glyph
+    brace_comment line_comment token at_end met walk walk_from part place_from square_at promotion_kind piece_kind is_check after piece_or read_takes
+    read_rank read_file read_piece agrees fits sole_that castling_move castle castled resolved read_answer changes_files takes_of ends_here standard_end
+    standard_promotion standard_dest is_castling read_standard standard_captures standard_castles played_on crossed_from cross cross_met entered plays_from
+    moved_on variations_of
 variation_rows = record {
   from_before = refl;
   two = refl;
@@ -101,8 +103,8 @@ variation_rows = record {
 }
 
 pub narrow_rows : NarrowRows
-unfolding ascii same kind_of place_from square_at promotion_kind piece_kind is_check after piece_or read_takes read_rank read_file read_piece agrees fits castling_move
-    ends_here standard_end standard_promotion standard_dest is_castling read_standard speaks_of only
+unfolding ascii same kind_of place_from square_at promotion_kind piece_kind is_check after piece_or read_takes read_rank read_file read_piece agrees fits
+    castling_move ends_here standard_end standard_promotion standard_dest is_castling read_standard speaks_of only
 narrow_rows = record {
   fitting = refl;
   none = refl;

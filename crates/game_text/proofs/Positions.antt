@@ -30,6 +30,8 @@ range_in : (g : Game) (p : BoardBuilder) → AllInRange g → PositionIn p g →
 unfolding AllInRange
 range_in (plays start size m c g) p r here = r.0
 range_in (plays start size m c g) p r (later q) = range_in g p r.1 q
+range_in (over _ _) p r w = elim w [ ]
+range_in (refuses _ _ _) p r w = elim w [ ]
 
 module _ (lends : Lends) (text : List ℕ) where
   range_walk : (w : Walk) (b : BoardBuilder) → AllInRange (game_along lends text b w)

@@ -1,7 +1,7 @@
 -- A move in the pass: what the last action alone settles, why the list's length need not be tested, and that each accepted action leaves a position.
 -- Assumes nothing.
 use mathlib.Core.Path.{◌≡◌, refl, ap, sym, ◌∙◌}
-use mathlib.Core.Bool.{Bool, true, false, cond, ◌&&◌, and_false}
+use mathlib.Core.Bool.{Bool, true, false, cond, ◌&&◌, and-false}
 use mathlib.Core.List.{List, [], ◌∷◌}
 use Prim.Native.Nat.{ℕ, suc, ◌<◌, ◌≤◌}
 use native.Mathlib.Omega.{arith}
@@ -67,7 +67,7 @@ unfolding lists_move among
 empty_lists s x e = go (position_of s).moves e
   where
     go : (l : List ℕ) → length l ≡ 0 → eqb (length s) position_size && among x l ≡ false
-    go [] f = and_false (eqb (length s) position_size)
+    go [] f = and-false (eqb (length s) position_size)
     go (y ∷ l) f = absurd (omega arith)
 
 -- the moves after a sound action i, k of them before it

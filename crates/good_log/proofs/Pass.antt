@@ -1,7 +1,7 @@
 -- The pass over the log, action by action: it ends early exactly where the log is not good.
 -- Assumes nothing.
 use mathlib.Core.Path.{◌≡◌, refl, ap, sym, ◌∙◌}
-use mathlib.Core.Bool.{Bool, true, false, cond, ◌&&◌, ◌||◌, and_true, and_false, false≢true}
+use mathlib.Core.Bool.{Bool, true, false, cond, ◌&&◌, ◌||◌, and-true, and-false, false≢true}
 use mathlib.Core.List.{List}
 use Prim.Native.Nat.{ℕ, zero, suc, ◌+◌, ◌-◌, ◌<◌, ◌≤◌, zero-le}
 use native.Mathlib.Numerals.{add-one}
@@ -71,7 +71,7 @@ module _ (acts ps : List ℕ) (n m i k : ℕ) (here : k ≡ step_to acts ps m i)
     where
       go : (t : Bool) → next_sound limits acts ps i ≡ t → (u : Bool) → leb (moves_in acts (suc i)) m ≡ u
           → (eqb m (moves_in acts n) && sound limits acts ps n) ≡ false
-      go false e u f = rw (sound_all limits acts ps i n before e, and_false (eqb m (moves_in acts n)))
+      go false e u f = rw (sound_all limits acts ps i n before e, and-false (eqb m (moves_in acts n)))
       go true e true f =
           let s : step_to acts ps m i ≡ moves_in acts (suc i) = rw (e, f) in
           absurd (omega (arith, leb-true (moves_in acts (suc i)) m f, here ∙ s))
@@ -107,7 +107,7 @@ pub spoiled : (acts ps : List ℕ) (n m i : ℕ) → i ≤ n → sound limits ac
 unfolding is_good sound
 spoiled acts ps n m i h e =
     let whole : i + (n - i) ≡ n = omega arith in
-    rw (ap (sound limits acts ps) (sym whole) ∙ longer (n - i), and_false (eqb m (moves_in acts n)))
+    rw (ap (sound limits acts ps) (sym whole) ∙ longer (n - i), and-false (eqb m (moves_in acts n)))
   where
     longer : (d : ℕ) → sound limits acts ps (i + d) ≡ false
     longer zero = let f : i + 0 ≡ i = omega arith in rw f e
@@ -242,7 +242,8 @@ pub pass_start : (acts ps : List ℕ) (n m : ℕ) → Reaching acts ps n m 0 0
 unfolding sound moves_in last_action
 pass_start acts ps n m = record { far = zero-le; counted = refl; within = zero-le; ok = refl; goes_on = λ more. refl }
 
-pub pass_end : (acts ps : List ℕ) (n m i k : ℕ) → n ≤ i → Reaching acts ps n m i k → eqb m k && is_position (item position_size ps k) ≡ is_good limits acts ps n m
+pub pass_end : (acts ps : List ℕ) (n m i k : ℕ) → n ≤ i → Reaching acts ps n m i k
+    → eqb m k && is_position (item position_size ps k) ≡ is_good limits acts ps n m
 unfolding is_good
 pass_end acts ps n m i k over r =
     let e : n ≡ i = omega (arith, r.far) in
@@ -283,7 +284,7 @@ module _
 
       -- with a position on the board, the step passes exactly if the move leads to another
       leads_by : k < m → lists_move p x ≡ true → turned ≡ true → ltb (move_step ps m k x) not_sound ≡ is_position q
-      leads_by less l t = move_sound_by ps m k x less g.some ∙ rw (l, t) (and_true (is_position q))
+      leads_by less l t = move_sound_by ps m k x less g.some ∙ rw (l, t) (and-true (is_position q))
 
       no_step : move_may_stand ps m k x ≡ false → is_position p ≡ true → ltb (move_step ps m k x) not_sound ≡ false
       unfolding is_position_with
@@ -293,7 +294,7 @@ module _
               → ltb (move_step ps m k x) not_sound ≡ false
           go false e b f t h w = move_unsound ps m k (ltb-false k m e) at.within x
           go true e false f t h w = move_sound_by ps m k x (ltb-true k m e) g.some ∙ rw f
-          go true e true f false h w = move_sound_by ps m k x (ltb-true k m e) g.some ∙ rw (f, h) (and_false (is_position q))
+          go true e true f false h w = move_sound_by ps m k x (ltb-true k m e) g.some ∙ rw (f, h) (and-false (is_position q))
           go true e true f true h w = absurd (false≢true (sym w))
 
       pub leave_out : move_may_stand ps m k x ≡ false → is_good limits acts ps n m ≡ false
@@ -316,7 +317,7 @@ module _
                 far = omega arith;
                 counted = rw (add-one i, add-one k) (sym moves_here);
                 within = omega arith;
-                ok = rw (add-one i, add-one k, next, f) (and_false (sound limits acts ps i));
+                ok = rw (add-one i, add-one k, next, f) (and-false (sound limits acts ps i));
                 goes_on = λ more. rw (add-one i) (move_goes_on acts i (rw (← read) move));
               }
 

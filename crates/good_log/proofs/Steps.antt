@@ -1,7 +1,7 @@
 -- A step of the pass settles whether the next action is sound: the checks, read off the bytes, are those of the call after its history.
 -- Assumes nothing.
 use mathlib.Core.Path.{◌≡◌, refl, ap, sym, ◌∙◌}
-use mathlib.Core.Bool.{Bool, true, false, cond, not, ◌&&◌, ◌||◌, and_true, and_false, false≢true}
+use mathlib.Core.Bool.{Bool, true, false, cond, not, ◌&&◌, ◌||◌, and-true, and-false, false≢true}
 use mathlib.Core.List.{List, [], ◌∷◌}
 use Prim.Native.Nat.{ℕ, suc, ◌+◌, ◌*◌, ◌<◌, ◌≤◌}
 use native.Mathlib.Omega.{arith}
@@ -27,7 +27,8 @@ use Rattle.actions.proofs.Counting.{value_most}
 use Rattle.position.specs.Layout.{Position, position_size, side, position_at}
 use Rattle.stored_position.specs.Bytes.{position_bytes, position_check, is_position, lists_move}
 use Rattle.game_rules.specs.Limits.{Limits, limits}
-use Rattle.game_rules.specs.Rules.{Call, make_move, History, moves, is_move, action_made, result, ended, unless, first_refusal, comes_after, own_checks, room_for}
+use Rattle.game_rules.specs.Rules.{Call, make_move, History, moves, is_move, action_made, result, ended, unless, first_refusal, comes_after, own_checks}
+use Rattle.game_rules.specs.Rules.{room_for}
 use Rattle.game_rules.specs.Rules.{answer}
 use Rattle.game_rules.specs.Good.{call_of, call_at, history_of, position_here, position_made, was_made, next_sound, sound}
 use Rattle.game_rules.proofs.Log.{actions_at_lem, moves_at_lem, made_back, Back, current_is, result_is, offer_is}
@@ -53,11 +54,13 @@ move_tests : (listed there turned after : Bool) (a : ℕ)
     → eqb (first_refusal (0 ∷ unless listed not_listed ∷ a ∷ unless turned wrong_side ∷ unless after wrong_record ∷ 0 ∷ [])) 0 && (true && there)
     ≡ listed && ((eqb a 0 && there) && (turned && after))
 unfolding first_refusal
-move_tests false there turned after a = refl
+move_tests false there turned after a =
+    refl
 move_tests true there turned after a = go (eqb a 0) refl turned after there
   where
     go : (t : Bool) → eqb a 0 ≡ t → (turned after there : Bool)
-        → eqb (cond t (first_refusal (unless turned wrong_side ∷ unless after wrong_record ∷ 0 ∷ [])) a) 0 && (true && there) ≡ ((t && there) && (turned && after))
+        → eqb (cond t (first_refusal (unless turned wrong_side ∷ unless after wrong_record ∷ 0 ∷ [])) a) 0 && (true && there) ≡
+        ((t && there) && (turned && after))
     go true e true true true = refl
     go true e true true false = refl
     go true e true false true = refl
@@ -73,7 +76,8 @@ over L h c e = rw e
 -- one action, i, of a log that is sound so far
 module _
     (acts ps : List ℕ) (m i k : ℕ) (bytes : all_at_most 255 acts ≡ true) (counted : k ≡ moves_in acts i) (within : k ≤ m) (ok : sound limits acts ps i ≡ true)
-    (few : i < limits.most_actions) (some : m ≤ limits.most_moves) (room : action_size * i ≤ length acts) (place : position_size * k + position_size ≤ length ps)
+    (few : i < limits.most_actions) (some : m ≤ limits.most_moves) (room : action_size * i ≤ length acts)
+    (place : position_size * k + position_size ≤ length ps)
   where
     abbrev h : History
     h = history_of acts ps i
@@ -128,7 +132,7 @@ module _
 
     by_own : (a : Action) → sound_by (Holds a) ≡ eqb (other_check acts ps i k a) 0
         → cond (eqb (other_check acts ps i k a) 0) k not_sound ≡ cond (sound_by (Holds a) && leb k m) k not_sound
-    by_own a e = rw (e, le-leb k m within, and_true (eqb (other_check acts ps i k a) 0))
+    by_own a e = rw (e, le-leb k m within, and-true (eqb (other_check acts ps i k a) 0))
 
     -- in a game that goes on
     module _ (on : eqb (result h) 0 ≡ true) where
@@ -164,7 +168,7 @@ module _
             made,
             own_alone (other_check acts ps i k a),
           )
-          (and_true (eqb (other_check acts ps i k a) 0))
+          (and-true (eqb (other_check acts ps i k a) 0))
 
     ended_is : (t : Bool) → eqb (result h) 0 ≡ t → ended h ≡ not t
     ended_is t e = ap not e
@@ -178,14 +182,14 @@ module _
             ≡ cond (sound_by (Holds (MakeMove x)) && leb (suc k) m) (suc k) not_sound
         go true g =
             let full : k ≡ m = eqb-true k m g in
-            rw (lt-leb (suc k) m (omega arith), and_false (sound_by (Holds (MakeMove x))))
+            rw (lt-leb (suc k) m (omega arith), and-false (sound_by (Holds (MakeMove x))))
         go false g =
             let other : k ≡ m → ⊥ = eqb-false k m g in
             let more : k < m = omega (arith, other) in
             rw (
               move_sound e x f more,
               le-leb (suc k) m more,
-              and_true (move_fits (item position_size ps k) (number_answer x).value (item position_size ps (suc k))),
+              and-true (move_fits (item position_size ps k) (number_answer x).value (item position_size ps (suc k))),
             )
     settled true e (Holds (OfferDraw c)) f = by_own (OfferDraw c) (other_sound e (OfferDraw c) f refl refl refl refl)
     settled true e (Holds AcceptDraw) f =

@@ -1,7 +1,7 @@
 -- The record after a move, read off the bytes of two positions: why its side is the other one and its numbers are in range.
 -- Assumes nothing.
 use mathlib.Core.Path.{◌≡◌, refl, ap, sym, ◌∙◌}
-use mathlib.Core.Bool.{Bool, true, false, not, ◌&&◌, and_false}
+use mathlib.Core.Bool.{Bool, true, false, not, ◌&&◌, and-false}
 use mathlib.Core.List.{List}
 use Prim.Native.Nat.{ℕ, ◌/◌, ◌%◌, ◌≤◌}
 use native.Mathlib.Omega.{arith}
@@ -43,7 +43,7 @@ turned p q m h = go (comes_after p m q) refl
     go true e =
         let r : q.board ≡ record_after p.board m = same_eq _ _ (both_left (same q.board (record_after p.board m)) _ e) in
         rw (ne_eqb (side q) (side p) (λ f. other_side p.board m h (ap (λ (l : List ℕ). get_or l side_at 0) (sym r) ∙ f)))
-    go false e = sym (and_false (not (eqb (side q) (side p))))
+    go false e = sym (and-false (not (eqb (side q) (side p))))
 
 module _ (p : List ℕ) (fits : record_fits p ≡ true) where
   abbrev half : ℕ
@@ -97,5 +97,6 @@ module _ (p : List ℕ) (fits : record_fits p ≡ true) where
         let both = both_right record-test (half-test && full-test) after in
         let x : two_bytes_at q half_at ≡ half_after (take record_size p) half (m % 64) (m / 64 % 64) = eqb-true _ _ (both_left half-test full-test both) in
         let y : two_bytes_at q full_at ≡ full_after (get_or (take record_size p) side_at 0) full = eqb-true _ _ (both_right half-test full-test both) in
-        let c = counters_after_lem (take record_size p) (get_or (take record_size p) side_at 0) half full (m % 64) (m / 64 % 64) (counters_in half full counted) in
+        let c = counters_after_lem (take record_size p) (get_or (take record_size p) side_at 0) half full (m % 64) (m / 64 % 64)
+        (counters_in half full counted) in
         rw (x, y, r, counters_hold _ _ c) (record_after_in_range (take record_size p) m here h)

@@ -1,4 +1,6 @@
 // Whether a log is good, in one pass over its used part, after the checks that stand before it.
+#![tactic(auto)]
+
 ghost use Rattle.std.specs.Prelude.{◌≡◌, true, ◌≤◌, ◌<◌, length};
 ghost use Rattle.answer.specs.Parts.{item};
 ghost use Rattle.chess_move.specs.Number.{last_move};

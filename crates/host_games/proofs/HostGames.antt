@@ -106,7 +106,8 @@ module _ (said : List ℕ) (b : BoardBuilder) (list room : List ℕ) (r : SanCal
             (e ∙ sym q.0, x ∙ sym q.1);
         unwritten = λ z n.
             let told = step_refused (write_told w).number start size (write_told w).value b in
-            let q = play_short start size b list room said (san_read r) reads z (play_told p) plays_on (write_told w) (write_left w) writes leaves n told refl in
+            let q = play_short start size b list room said (san_read r) reads z (play_told p) plays_on (write_told w) (write_left w) writes leaves n told
+            refl in
             (e ∙ sym q.0, x ∙ sym q.1);
         played = λ z y.
             let told = step_played start size (san_read r).value (write_told w).value (play_told p).board in

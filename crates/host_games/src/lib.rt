@@ -1,1 +1,2 @@
 // The positions of a game, stated for the host's own calls by their contracts: specs/, proved in proofs/. No code.
+#![tactic(auto)]

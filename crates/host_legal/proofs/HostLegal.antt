@@ -181,7 +181,8 @@ in_range_told b byte list x e z = go (in_range b) refl (leb byte 1) (list_in_ran
     last = cond (leb (length (legal_moves b)) longest_list) (judgement (check_byte b) byte (legal_moves b) list) (judged_as bad_list 0 0 0 0)
 
     go : (p : Bool) → in_range b ≡ p → (q r : Bool) → list_in_range list ≡ r
-        → (cond p (cond q (cond r last (judged_as bad_list 0 0 0 0)) (judged_as out_of_range 0 0 0 0)) (judged_as out_of_range 0 0 0 0)).number ≡ 0 → InRange b list
+        → (cond p (cond q (cond r last (judged_as bad_list 0 0 0 0)) (judged_as out_of_range 0 0 0 0)) (judged_as out_of_range 0 0 0 0)).number ≡ 0 →
+        InRange b list
     go true u true true v k = record { of_record = u; of_list = v }
     go true u true false v k = absurd (omega (arith, k))
     go true u false r v k = absurd (omega (arith, k))
@@ -193,7 +194,8 @@ module _ (w : Namer) {Learnt : Naming} (is : (c : NameCall Learnt) → NamedBy w
       never (name_board c) (name_list c) (name_move c) (length (room_lent c)) (on_legal j f (name_board c) (name_list c) o.board o.list)
       (sym (ap (λ (a : Answer). a.number) (is c).answer) ∙ e)
 
-  module _ (read : Reader) {Reads : Reading} (reads : (r : ReadCall Reads) → san_read r ≡ read (read_board r) (read_list r) (text_to_read r)) (longest : ℕ) where
+  module _ (read : Reader) {Reads : Reading} (reads : (r : ReadCall Reads) → san_read r ≡ read (read_board r) (read_list r) (text_to_read r))
+      (longest : ℕ) where
     read_back : NamesLegalMoves longest w read → NamesReadBackAlways longest Reads Learnt
     read_back named j c r f o legal room t =
         let b = name_board c in

@@ -28,7 +28,8 @@ TellsWhatIsWrong = (j : JudgeCall) → (judge_told j).number ≡ 0 → Told (jud
 
 -- what an accepted call writes is the list of the legal moves, and what it answers is their number
 abbrev pub WritesTheList : Type 0
-WritesTheList = (c : ListCall) → (list_told c).number ≡ 0 → (list_written c ≡ legal_moves (list_board c)) × ((list_told c).value ≡ length (legal_moves (list_board c)))
+WritesTheList =
+    (c : ListCall) → (list_told c).number ≡ 0 → (list_written c ≡ legal_moves (list_board c)) × ((list_told c).value ≡ length (legal_moves (list_board c)))
 
 -- the archive's own list and byte are found right
 pub record OwnListLent (c : ListCall) (k : CheckCall) (j : JudgeCall) : Type 0 where

@@ -1,7 +1,7 @@
 -- Each of the host's four calls over a list keeps the order's promises: its contract says that it answers by a definition, and the definitions keep them.
 -- Assumes nothing.
 use Prim.Native.Nat.{ℕ}
-use mathlib.Core.Path.{◌≡◌, sym, ◌∙◌}
+use mathlib.Core.Path.{◌≡◌, sym, ap₂, ◌∙◌}
 use mathlib.Core.List.{List}
 use lib.ListN.{length}
 use Rattle.board_builder.specs.declared.BoardBuilder.{BoardBuilder}
@@ -31,7 +31,7 @@ record NamedBy (by : Calls) {Learnt : Naming} (c : NameCall Learnt) : Type 0 whe
 module _ (by : Calls) {Learnt : Reading} (is : ReadsBy by Learnt) where
   -- the second call's answer, on the first one's record and text
   second : (c d : ReadCall Learnt) → OneText c d → san_read d ≡ by.read (read_board c) (read_list d) (text_to_read c)
-  second c d o = rw (o.board, o.text) (is d)
+  second c d o = is d ∙ sym (ap₂ (λ (b : BoardBuilder) (t : List ℕ). by.read b (read_list d) t) o.board o.text)
 
   in_any_order : AnyOrder by → ReadsInAnyOrder Learnt
   in_any_order any c d o r = is c ∙ any.read (read_board c) (read_list c) (read_list d) (text_to_read c) r ∙ sym (second c d o)

@@ -1,1 +1,2 @@
 // Order 13 of document 02, stated for the host's own calls by their contracts: specs/, proved in proofs/. No code.
+#![tactic(auto)]

@@ -54,7 +54,8 @@ fits_bytes l out h = simp (le-leb (length l) (length out) h)
 pub owed_room : (b : BoardBuilder) (out next : List ℕ) (n : ℕ) → in_range b ≡ true → length out ≡ 255 → length (legal_moves b) ≤ 255
     → next ≡ write_bytes (list_check b) (legal_moves b) out → n ≡ length (legal_moves b) → take n next ≡ legal_moves b
 owed_room b out next n i r h e q =
-    ap (λ (x : List ℕ). take n x) (e ∙ ap (λ (x : ℕ). write_bytes x (legal_moves b) out) (check_few b i h) ∙ fits_bytes (legal_moves b) out (omega (arith, r, h)))
+    ap (λ (x : List ℕ). take n x)
+    (e ∙ ap (λ (x : ℕ). write_bytes x (legal_moves b) out) (check_few b i h) ∙ fits_bytes (legal_moves b) out (omega (arith, r, h)))
     ∙ ap (λ (x : ℕ). take x (overwrite (legal_moves b) out)) q
     ∙ take-append_seam (legal_moves b) _
 

@@ -1,4 +1,6 @@
 // A lent list of moves and a lent in-check byte, judged by the Laws: what is owed, and the first thing that is wrong.
+#![tactic(auto)]
+
 ghost use Rattle.std.specs.Prelude.{◌≡◌, ◌<◌, length, take, drop};
 ghost use Rattle.move_laws.specs.Judge.{judged_as, outside_at, twice_at, judgement, judged_answer};
 

@@ -12,16 +12,19 @@ use Rattle.fen_text.specs.Read.{assembled, of_tokens, read_fen, rights_of, side_
 use Rattle.fen_text.specs.Token.{joined, onto, place_after, place_where, tokens}
 use Rattle.fen_text.specs.Write.{digit_text, en_passant_text, fen_text, ranks_text, rights_text, run_text, slash_text, tail_text}
 use Rattle.chess_move.specs.Coordinate.{promotion_named, read_move, with_dest, with_source}
-use Rattle.move_rules.specs.After.{after_answer, after_parts, castles, colour_step, corner, enemy_pawn, file_after, full_after, half_after, one_more, pawn_removed}
-use Rattle.move_rules.specs.After.{restarts, rights_after, rights_without, rook_moved, set_down, squares_after, steps_twice, stood_before, stood_behind, takes_in_passing}
+use Rattle.move_rules.specs.After.{after_answer, after_parts, castles, colour_step, corner, enemy_pawn, file_after, full_after, half_after, one_more}
+use Rattle.move_rules.specs.After.{pawn_removed}
+use Rattle.move_rules.specs.After.{restarts, rights_after, rights_without, rook_moved, set_down, squares_after, steps_twice, stood_before, stood_behind}
+use Rattle.move_rules.specs.After.{takes_in_passing}
 use Rattle.move_rules.specs.After.{two_apart}
 use Rattle.key_after.specs.AtSmallest.{MovesPlayed}
 
 pub moves_played : MovesPlayed
-unfolding ascii all_at_most among kind_of letter_of piece_of pair_told read_square letters_of letters_text in_range place_all place_byte assembled of_tokens read_fen
-    rights_of side_of sided joined onto place_after place_where tokens digit_text en_passant_text fen_text ranks_text rights_text run_text slash_text tail_text
-    promotion_named read_move with_dest with_source after_answer after_parts castles colour_step corner enemy_pawn file_after full_after half_after one_more pawn_removed
-    restarts rights_after rights_without rook_moved set_down squares_after steps_twice stood_before stood_behind takes_in_passing two_apart
+unfolding ascii all_at_most among kind_of letter_of piece_of pair_told read_square letters_of letters_text in_range place_all place_byte assembled of_tokens
+    read_fen rights_of side_of sided joined onto place_after place_where tokens digit_text en_passant_text fen_text ranks_text rights_text run_text slash_text
+    tail_text promotion_named read_move with_dest with_source after_answer after_parts castles colour_step corner enemy_pawn file_after full_after half_after
+    one_more pawn_removed restarts rights_after rights_without rook_moved set_down squares_after steps_twice stood_before stood_behind takes_in_passing
+    two_apart
 moves_played = record {
   black_promotes = (refl, refl);
   white_king_promoted = (refl, refl);

@@ -142,8 +142,10 @@ going_all room (l ∷ ls) h = go (dec_le longest_line room) (going_all (room - l
     go (no n) more = absurd (omega arith)
     go (yes k) more =
         let goes : going room (l ∷ ls) ≡ l ∷ going (room - length (key_line l)) ls = simp (le-leb _ _ k) in
-        let long : length (over_lines key_line (going room (l ∷ ls))) ≡ length (key_line l) + length (over_lines key_line (going (room - length (key_line l)) ls)) =
-        ap (λ (x : List (List ℕ)). length (over_lines key_line x)) goes ∙ length-append (key_line l) (over_lines key_line (going (room - length (key_line l)) ls)) in
+        let long : length (over_lines key_line (going room (l ∷ ls)))
+        ≡ length (key_line l) + length (over_lines key_line (going (room - length (key_line l)) ls)) =
+        ap (λ (x : List (List ℕ)). length (over_lines key_line x)) goes
+        ∙ length-append (key_line l) (over_lines key_line (going (room - length (key_line l)) ls)) in
         goes ∙ ap (λ (x : List (List ℕ)). l ∷ x) (more (omega arith))
 
 pub takes_all_that_have_place : TakesAllThatHavePlace

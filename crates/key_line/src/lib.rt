@@ -1,4 +1,6 @@
 // The lines of the program keys: a FEN text's key and a newline, or `! N OFFSET` and a newline with the number of the refusal and where the text is wrong.
+#![tactic(auto)]
+
 pub mod page;
 
 ghost use Rattle.std.specs.Prelude.{◌≡◌, ◌+◌, ◌≤◌, length};
@@ -43,7 +45,7 @@ fn write_refusal(number: u64, offset: u64, out: &mut [u8]) -> Answer
 }
 
 // Where the answers end with one more line, and 1 if the line has a key.
-#[derive(Drop)]
+#[derive(Clone, Copy)]
 pub struct Lined {
     pub ready: usize,
     pub accepted: u64,

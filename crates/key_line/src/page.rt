@@ -5,7 +5,7 @@ ghost use Rattle.key_line.specs.KeyPage.{key_page, key_room};
 use crate::{LONGEST, put_line};
 
 // How many bytes of the text were taken and of the room are ready, and how many of the lines were accepted and refused.
-#[derive(Drop)]
+#[derive(Clone, Copy)]
 pub struct Paged {
     pub taken: usize,
     pub ready: usize,

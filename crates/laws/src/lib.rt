@@ -1,4 +1,6 @@
 // The Laws' count beside the crate's, and what both rulings rest on (document 02, order 5).
+#![tactic(auto)]
+
 ghost use Rattle.std.specs.Prelude.{◌≡◌, cond, ◌+◌, leb};
 ghost use Rattle.claim.specs.Claim.{claim_count};
 ghost use Rattle.game_rules.specs.Limits.{limits};
@@ -16,7 +18,7 @@ use ending::GOES_ON;
 // What a ruling rests on: an answer number, both counts, how many earlier positions of the run equal the last and the numbers of the two earliest of
 // them, and both claims by reason.
 #[repr(C)]
-#[derive(Drop)]
+#[derive(Clone, Copy)]
 pub struct Ruled {
     pub number: u64,
     pub count: u64,

@@ -1,4 +1,6 @@
 // The legal moves of a record, plainly: every man of the side to move to every square, by the rules of `move_laws`.
+#![tactic(auto)]
+
 ghost use Rattle.std.specs.Prelude.{◌≡◌, true, cond, not, ◌||◌, ◌+◌, ◌/◌, ◌%◌, ◌≤◌, ◌<◌, length};
 ghost use Rattle.square.specs.Piece.{man_on};
 ghost use Rattle.answer.specs.Answer.{write_answer, write_bytes};

@@ -162,7 +162,8 @@ judged b byte list e = go (in_range b) (leb byte 1) (list_in_range list) (leb (l
 
     answer : Bool → Bool → Bool → Bool → Judged
     answer p q r s =
-        cond p (cond q (cond r (cond s told (judged_as bad_list 0 0 0 0)) (judged_as bad_list 0 0 0 0)) (judged_as out_of_range 0 0 0 0)) (judged_as out_of_range 0 0 0 0)
+        cond p (cond q (cond r (cond s told (judged_as bad_list 0 0 0 0)) (judged_as bad_list 0 0 0 0)) (judged_as out_of_range 0 0 0 0))
+        (judged_as out_of_range 0 0 0 0)
 
     go : (p q r s : Bool) → (answer p q r s).number ≡ 0 → answer p q r s ≡ told
     go true true true true k = refl

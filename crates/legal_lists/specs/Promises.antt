@@ -33,7 +33,8 @@ JudgedRight =
 
 -- the list of a record in range with at most 255 legal moves is itself found right, with the byte that is owed
 abbrev pub OwnListIsRight : Type 0
-OwnListIsRight = (b : BoardBuilder) → list_check b ≡ 0 → judged_answer b (check_byte b) (legal_moves b) ≡ judged_as 0 (check_byte b) (length (legal_moves b)) 0 0
+OwnListIsRight =
+    (b : BoardBuilder) → list_check b ≡ 0 → judged_answer b (check_byte b) (legal_moves b) ≡ judged_as 0 (check_byte b) (length (legal_moves b)) 0 0
 
 -- every legal move has a name, on the list of them and on any part of it: with room for the longest, a name that is read as that very move
 abbrev pub NamesLegalMoves : ℕ → Namer → Reader → Type 0

@@ -20,7 +20,8 @@ turned = 1 ∷ 0 ∷ []
 -- four moves, so that the start's record comes back twice, the last time with this list
 abbrev pub four_moves : List ℕ → History
 four_moves last =
-    after (after (after (after (begun (place 0 as_before)) (make_move 0 (place 1 as_before))) (make_move 0 (place 0 as_before))) (make_move 0 (place 1 as_before)))
+    after
+    (after (after (after (begun (place 0 as_before)) (make_move 0 (place 1 as_before))) (make_move 0 (place 0 as_before))) (make_move 0 (place 1 as_before)))
     (make_move 0 (place 0 last))
 
 pub record AtSmallest : Type 0 where

@@ -1,1 +1,2 @@
 // What in the log depends on the order of its positions' lists (document 02, order 13): specs/, proved in proofs/. No code.
+#![tactic(auto)]

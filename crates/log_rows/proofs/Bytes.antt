@@ -11,8 +11,10 @@ use Rattle.fen_text.specs.Read.{assembled, of_tokens, read_fen, rights_of, side_
 use Rattle.fen_text.specs.Token.{joined, onto, place_after, place_where, tokens}
 use Rattle.chess_move.specs.Coordinate.{promotion_named, read_move, with_dest, with_source}
 use Rattle.move_list.specs.MoveList.{list_in_range}
-use Rattle.move_rules.specs.After.{after_parts, castles, colour_step, corner, enemy_pawn, file_after, full_after, half_after, one_more, pawn_removed, record_after}
-use Rattle.move_rules.specs.After.{restarts, rights_after, rights_without, rook_moved, set_down, squares_after, steps_twice, stood_before, stood_behind, takes_in_passing}
+use Rattle.move_rules.specs.After.{after_parts, castles, colour_step, corner, enemy_pawn, file_after, full_after, half_after, one_more, pawn_removed}
+use Rattle.move_rules.specs.After.{record_after}
+use Rattle.move_rules.specs.After.{restarts, rights_after, rights_without, rook_moved, set_down, squares_after, steps_twice, stood_before, stood_behind}
+use Rattle.move_rules.specs.After.{takes_in_passing}
 use Rattle.move_rules.specs.After.{two_apart}
 use Rattle.move_rules.specs.Leads.{counters_from}
 use Rattle.action.specs.Layout.{action_bytes, action_of}
@@ -32,13 +34,14 @@ use Rattle.log_rows.specs.Games.{moves_written}
 use Rattle.log_rows.specs.Bytes.{RulingsOnBytes, QueriesOnBytes}
 
 pub rulings_on_bytes : RulingsOnBytes
-unfolding ascii all_at_most among same kind_of piece_of pair_told read_square in_range numbers numbers_in_range place_all place_byte assembled of_tokens read_fen rights_of
-    side_of sided joined onto place_after place_where tokens promotion_named read_move with_dest with_source list_in_range after_parts castles colour_step corner
-    enemy_pawn file_after full_after half_after one_more pawn_removed record_after restarts rights_after rights_without rook_moved set_down squares_after steps_twice
-    stood_before stood_behind takes_in_passing two_apart counters_from action_bytes action_of moves_in moves_from position_of places_of equal times is_position move_bytes
-    position_bytes position_check offer_in result_of irreversible rights_differ call_answer claim_answer log_check result_answer action_part call_at history_of is_good
-    next_sound position_part sound actions answer claim_stands current first_refusal last_but_one last_made moves offer_stands result ruling laws_claim_stands laws_count
-    moves_made since_last equals_at laws_answer ruled_on ruling_answer moves_written
+unfolding ascii all_at_most among same kind_of piece_of pair_told read_square in_range numbers numbers_in_range place_all place_byte assembled of_tokens
+    read_fen rights_of side_of sided joined onto place_after place_where tokens promotion_named read_move with_dest with_source list_in_range after_parts
+    castles colour_step corner enemy_pawn file_after full_after half_after one_more pawn_removed record_after restarts rights_after rights_without rook_moved
+    set_down squares_after steps_twice stood_before stood_behind takes_in_passing two_apart counters_from action_bytes action_of moves_in moves_from
+    position_of places_of equal times is_position move_bytes position_bytes position_check offer_in result_of irreversible rights_differ call_answer
+    claim_answer log_check result_answer action_part call_at history_of is_good next_sound position_part sound actions answer claim_stands current
+    first_refusal last_but_one last_made moves offer_stands result ruling laws_claim_stands laws_count moves_made since_last equals_at laws_answer ruled_on
+    ruling_answer moves_written
 rulings_on_bytes = record {
   at_start_lem = refl;
   after_one = refl;
@@ -50,13 +53,14 @@ rulings_on_bytes = record {
 }
 
 pub queries_on_bytes : QueriesOnBytes
-unfolding ascii all_at_most among same kind_of piece_of pair_told read_square in_range numbers numbers_in_range place_all place_byte assembled of_tokens read_fen rights_of
-    side_of sided joined onto place_after place_where tokens promotion_named read_move with_dest with_source list_in_range after_parts castles colour_step corner
-    enemy_pawn file_after full_after half_after one_more pawn_removed record_after restarts rights_after rights_without rook_moved set_down squares_after steps_twice
-    stood_before stood_behind takes_in_passing two_apart counters_from action_bytes action_of moves_in moves_from position_of places_of equal times is_position move_bytes
-    position_bytes position_check offer_in result_of irreversible rights_differ call_answer claim_answer log_check result_answer action_part call_at history_of is_good
-    next_sound position_part sound actions answer claim_stands current first_refusal last_but_one last_made moves offer_stands result ruling laws_claim_stands laws_count
-    moves_made since_last equals_at laws_answer ruled_on ruling_answer moves_written
+unfolding ascii all_at_most among same kind_of piece_of pair_told read_square in_range numbers numbers_in_range place_all place_byte assembled of_tokens
+    read_fen rights_of side_of sided joined onto place_after place_where tokens promotion_named read_move with_dest with_source list_in_range after_parts
+    castles colour_step corner enemy_pawn file_after full_after half_after one_more pawn_removed record_after restarts rights_after rights_without rook_moved
+    set_down squares_after steps_twice stood_before stood_behind takes_in_passing two_apart counters_from action_bytes action_of moves_in moves_from
+    position_of places_of equal times is_position move_bytes position_bytes position_check offer_in result_of irreversible rights_differ call_answer
+    claim_answer log_check result_answer action_part call_at history_of is_good next_sound position_part sound actions answer claim_stands current
+    first_refusal last_but_one last_made moves offer_stands result ruling laws_claim_stands laws_count moves_made since_last equals_at laws_answer ruled_on
+    ruling_answer moves_written
 queries_on_bytes = record {
   no_claim = refl;
   claim = refl;

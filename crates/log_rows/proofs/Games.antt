@@ -21,9 +21,10 @@ use Rattle.log_rows.specs.Games.{moves_written}
 use Rattle.log_rows.specs.Games.{ResultsByNumber, OffersAtSmallest, CountedByOne, LeftByCalls}
 
 pub results_by_number : ResultsByNumber
-unfolding ascii among kind_of piece_of pair_told read_square numbers place_all place_byte assembled of_tokens read_fen rights_of side_of sided joined onto place_after
-    place_where tokens promotion_named read_move with_dest with_source action_bytes move_bytes position_bytes offer_in result_of irreversible rights_differ actions_after
-    counts_after positions_after positions_begun current last_but_one last_made offer_stands result ruling laws_count moves_made since_last moves_written
+unfolding ascii among kind_of piece_of pair_told read_square numbers place_all place_byte assembled of_tokens read_fen rights_of side_of sided joined onto
+    place_after place_where tokens promotion_named read_move with_dest with_source action_bytes move_bytes position_bytes offer_in result_of irreversible
+    rights_differ actions_after counts_after positions_after positions_begun current last_but_one last_made offer_stands result ruling laws_count moves_made
+    since_last moves_written
 results_by_number = record {
   goes_on = refl;
   white_checkmates = refl;
@@ -39,9 +40,10 @@ results_by_number = record {
 }
 
 pub offers_at_smallest : OffersAtSmallest
-unfolding ascii among kind_of piece_of pair_told read_square numbers place_all place_byte assembled of_tokens read_fen rights_of side_of sided joined onto place_after
-    place_where tokens promotion_named read_move with_dest with_source action_bytes move_bytes position_bytes offer_in result_of irreversible rights_differ actions_after
-    counts_after positions_after positions_begun current last_but_one last_made offer_stands result ruling laws_count moves_made since_last moves_written
+unfolding ascii among kind_of piece_of pair_told read_square numbers place_all place_byte assembled of_tokens read_fen rights_of side_of sided joined onto
+    place_after place_where tokens promotion_named read_move with_dest with_source action_bytes move_bytes position_bytes offer_in result_of irreversible
+    rights_differ actions_after counts_after positions_after positions_begun current last_but_one last_made offer_stands result ruling laws_count moves_made
+    since_last moves_written
 offers_at_smallest = record {
   none = refl;
   by_white = refl;
@@ -60,9 +62,10 @@ offers_at_smallest = record {
 }
 
 pub counted_by_one : CountedByOne
-unfolding ascii among kind_of piece_of pair_told read_square numbers place_all place_byte assembled of_tokens read_fen rights_of side_of sided joined onto place_after
-    place_where tokens promotion_named read_move with_dest with_source action_bytes move_bytes position_bytes offer_in result_of irreversible rights_differ actions_after
-    counts_after positions_after positions_begun current last_but_one last_made offer_stands result ruling laws_count moves_made since_last moves_written
+unfolding ascii among kind_of piece_of pair_told read_square numbers place_all place_byte assembled of_tokens read_fen rights_of side_of sided joined onto
+    place_after place_where tokens promotion_named read_move with_dest with_source action_bytes move_bytes position_bytes offer_in result_of irreversible
+    rights_differ actions_after counts_after positions_after positions_begun current last_but_one last_made offer_stands result ruling laws_count moves_made
+    since_last moves_written
 counted_by_one = record {
   knight = record { count_is = refl; laws_is = refl; run_is = refl };
   white_pawn = record { count_is = refl; laws_is = refl; run_is = refl };
@@ -74,9 +77,10 @@ counted_by_one = record {
 }
 
 pub left_by_calls : LeftByCalls
-unfolding ascii among kind_of piece_of pair_told read_square numbers place_all place_byte assembled of_tokens read_fen rights_of side_of sided joined onto place_after
-    place_where tokens promotion_named read_move with_dest with_source action_bytes move_bytes position_bytes offer_in result_of irreversible rights_differ actions_after
-    counts_after positions_after positions_begun current last_but_one last_made offer_stands result ruling laws_count moves_made since_last moves_written
+unfolding ascii among kind_of piece_of pair_told read_square numbers place_all place_byte assembled of_tokens read_fen rights_of side_of sided joined onto
+    place_after place_where tokens promotion_named read_move with_dest with_source action_bytes move_bytes position_bytes offer_in result_of irreversible
+    rights_differ actions_after counts_after positions_after positions_begun current last_but_one last_made offer_stands result ruling laws_count moves_made
+    since_last moves_written
 left_by_calls = record {
   move_counts = refl;
   other_counts = refl;

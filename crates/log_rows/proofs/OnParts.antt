@@ -11,8 +11,10 @@ use Rattle.fen_text.specs.Read.{assembled, of_tokens, read_fen, rights_of, side_
 use Rattle.fen_text.specs.Token.{joined, onto, place_after, place_where, tokens}
 use Rattle.chess_move.specs.Coordinate.{promotion_named, read_move, with_dest, with_source}
 use Rattle.move_list.specs.MoveList.{list_in_range}
-use Rattle.move_rules.specs.After.{after_parts, castles, colour_step, corner, enemy_pawn, file_after, full_after, half_after, one_more, pawn_removed, record_after}
-use Rattle.move_rules.specs.After.{restarts, rights_after, rights_without, rook_moved, set_down, squares_after, steps_twice, stood_before, stood_behind, takes_in_passing}
+use Rattle.move_rules.specs.After.{after_parts, castles, colour_step, corner, enemy_pawn, file_after, full_after, half_after, one_more, pawn_removed}
+use Rattle.move_rules.specs.After.{record_after}
+use Rattle.move_rules.specs.After.{restarts, rights_after, rights_without, rook_moved, set_down, squares_after, steps_twice, stood_before, stood_behind}
+use Rattle.move_rules.specs.After.{takes_in_passing}
 use Rattle.move_rules.specs.After.{two_apart}
 use Rattle.move_rules.specs.Leads.{counters_from}
 use Rattle.action.specs.Layout.{action_bytes, action_of}
@@ -35,14 +37,15 @@ use Rattle.log_rows.specs.Games.{moves_written}
 use Rattle.log_rows.specs.OnParts.{ReadOffParts, RunsRead, ClaimsRead, ClocksRead, LeftOnParts}
 
 pub read_off_parts : ReadOffParts
-unfolding ascii all_at_most among same kind_of piece_of pair_told read_square in_range numbers numbers_in_range place_all place_byte assembled of_tokens read_fen rights_of
-    side_of sided joined onto place_after place_where tokens promotion_named read_move with_dest with_source list_in_range after_parts castles colour_step corner
-    enemy_pawn file_after full_after half_after one_more pawn_removed record_after restarts rights_after rights_without rook_moved set_down squares_after steps_twice
-    stood_before stood_behind takes_in_passing two_apart counters_from action_bytes action_of last_action moves_in moves_from position_of positions_from places_of equal
-    equals_two_earlier times is_position move_bytes position_bytes position_check offer_in result_of claim_at claim_in run_after run_at irreversible rights_differ
-    actions_after call_answer counts_after log_check positions_after positions_begun result_answer start_answer action_part call_at history_of is_good next_sound
-    position_part sound called played started actions answer claim_stands current first_refusal last_but_one last_made moves offer_stands result ruling clock_from
-    full_from stopped_at laws_count moves_made rights_kept since_last equals_at ruled_on ruling_answer moves_written
+unfolding ascii all_at_most among same kind_of piece_of pair_told read_square in_range numbers numbers_in_range place_all place_byte assembled of_tokens
+    read_fen rights_of side_of sided joined onto place_after place_where tokens promotion_named read_move with_dest with_source list_in_range after_parts
+    castles colour_step corner enemy_pawn file_after full_after half_after one_more pawn_removed record_after restarts rights_after rights_without rook_moved
+    set_down squares_after steps_twice stood_before stood_behind takes_in_passing two_apart counters_from action_bytes action_of last_action moves_in
+    moves_from position_of positions_from places_of equal equals_two_earlier times is_position move_bytes position_bytes position_check offer_in result_of
+    claim_at claim_in run_after run_at irreversible rights_differ actions_after call_answer counts_after log_check positions_after positions_begun
+    result_answer start_answer action_part call_at history_of is_good next_sound position_part sound called played started actions answer claim_stands current
+    first_refusal last_but_one last_made moves offer_stands result ruling clock_from full_from stopped_at laws_count moves_made rights_kept since_last
+    equals_at ruled_on ruling_answer moves_written
 read_off_parts = record {
   goes_on = refl;
   resigned = refl;
@@ -60,14 +63,15 @@ read_off_parts = record {
 }
 
 pub runs_read : RunsRead
-unfolding ascii all_at_most among same kind_of piece_of pair_told read_square in_range numbers numbers_in_range place_all place_byte assembled of_tokens read_fen rights_of
-    side_of sided joined onto place_after place_where tokens promotion_named read_move with_dest with_source list_in_range after_parts castles colour_step corner
-    enemy_pawn file_after full_after half_after one_more pawn_removed record_after restarts rights_after rights_without rook_moved set_down squares_after steps_twice
-    stood_before stood_behind takes_in_passing two_apart counters_from action_bytes action_of last_action moves_in moves_from position_of positions_from places_of equal
-    equals_two_earlier times is_position move_bytes position_bytes position_check offer_in result_of claim_at claim_in run_after run_at irreversible rights_differ
-    actions_after call_answer counts_after log_check positions_after positions_begun result_answer start_answer action_part call_at history_of is_good next_sound
-    position_part sound called played started actions answer claim_stands current first_refusal last_but_one last_made moves offer_stands result ruling clock_from
-    full_from stopped_at laws_count moves_made rights_kept since_last equals_at ruled_on ruling_answer moves_written
+unfolding ascii all_at_most among same kind_of piece_of pair_told read_square in_range numbers numbers_in_range place_all place_byte assembled of_tokens
+    read_fen rights_of side_of sided joined onto place_after place_where tokens promotion_named read_move with_dest with_source list_in_range after_parts
+    castles colour_step corner enemy_pawn file_after full_after half_after one_more pawn_removed record_after restarts rights_after rights_without rook_moved
+    set_down squares_after steps_twice stood_before stood_behind takes_in_passing two_apart counters_from action_bytes action_of last_action moves_in
+    moves_from position_of positions_from places_of equal equals_two_earlier times is_position move_bytes position_bytes position_check offer_in result_of
+    claim_at claim_in run_after run_at irreversible rights_differ actions_after call_answer counts_after log_check positions_after positions_begun
+    result_answer start_answer action_part call_at history_of is_good next_sound position_part sound called played started actions answer claim_stands current
+    first_refusal last_but_one last_made moves offer_stands result ruling clock_from full_from stopped_at laws_count moves_made rights_kept since_last
+    equals_at ruled_on ruling_answer moves_written
 runs_read = record {
   from_start = refl;
   offer_leaves_it = refl;
@@ -88,14 +92,15 @@ runs_read = record {
 }
 
 pub claims_read : ClaimsRead
-unfolding ascii all_at_most among same kind_of piece_of pair_told read_square in_range numbers numbers_in_range place_all place_byte assembled of_tokens read_fen rights_of
-    side_of sided joined onto place_after place_where tokens promotion_named read_move with_dest with_source list_in_range after_parts castles colour_step corner
-    enemy_pawn file_after full_after half_after one_more pawn_removed record_after restarts rights_after rights_without rook_moved set_down squares_after steps_twice
-    stood_before stood_behind takes_in_passing two_apart counters_from action_bytes action_of last_action moves_in moves_from position_of positions_from places_of equal
-    equals_two_earlier times is_position move_bytes position_bytes position_check offer_in result_of claim_at claim_in run_after run_at irreversible rights_differ
-    actions_after call_answer counts_after log_check positions_after positions_begun result_answer start_answer action_part call_at history_of is_good next_sound
-    position_part sound called played started actions answer claim_stands current first_refusal last_but_one last_made moves offer_stands result ruling clock_from
-    full_from stopped_at laws_count moves_made rights_kept since_last equals_at ruled_on ruling_answer moves_written
+unfolding ascii all_at_most among same kind_of piece_of pair_told read_square in_range numbers numbers_in_range place_all place_byte assembled of_tokens
+    read_fen rights_of side_of sided joined onto place_after place_where tokens promotion_named read_move with_dest with_source list_in_range after_parts
+    castles colour_step corner enemy_pawn file_after full_after half_after one_more pawn_removed record_after restarts rights_after rights_without rook_moved
+    set_down squares_after steps_twice stood_before stood_behind takes_in_passing two_apart counters_from action_bytes action_of last_action moves_in
+    moves_from position_of positions_from places_of equal equals_two_earlier times is_position move_bytes position_bytes position_check offer_in result_of
+    claim_at claim_in run_after run_at irreversible rights_differ actions_after call_answer counts_after log_check positions_after positions_begun
+    result_answer start_answer action_part call_at history_of is_good next_sound position_part sound called played started actions answer claim_stands current
+    first_refusal last_but_one last_made moves offer_stands result ruling clock_from full_from stopped_at laws_count moves_made rights_kept since_last
+    equals_at ruled_on ruling_answer moves_written
 claims_read = record {
   since_5 = refl;
   since_later = refl;
@@ -111,14 +116,15 @@ claims_read = record {
 }
 
 pub clocks_read : ClocksRead
-unfolding ascii all_at_most among same kind_of piece_of pair_told read_square in_range numbers numbers_in_range place_all place_byte assembled of_tokens read_fen rights_of
-    side_of sided joined onto place_after place_where tokens promotion_named read_move with_dest with_source list_in_range after_parts castles colour_step corner
-    enemy_pawn file_after full_after half_after one_more pawn_removed record_after restarts rights_after rights_without rook_moved set_down squares_after steps_twice
-    stood_before stood_behind takes_in_passing two_apart counters_from action_bytes action_of last_action moves_in moves_from position_of positions_from places_of equal
-    equals_two_earlier times is_position move_bytes position_bytes position_check offer_in result_of claim_at claim_in run_after run_at irreversible rights_differ
-    actions_after call_answer counts_after log_check positions_after positions_begun result_answer start_answer action_part call_at history_of is_good next_sound
-    position_part sound called played started actions answer claim_stands current first_refusal last_but_one last_made moves offer_stands result ruling clock_from
-    full_from stopped_at laws_count moves_made rights_kept since_last equals_at ruled_on ruling_answer moves_written
+unfolding ascii all_at_most among same kind_of piece_of pair_told read_square in_range numbers numbers_in_range place_all place_byte assembled of_tokens
+    read_fen rights_of side_of sided joined onto place_after place_where tokens promotion_named read_move with_dest with_source list_in_range after_parts
+    castles colour_step corner enemy_pawn file_after full_after half_after one_more pawn_removed record_after restarts rights_after rights_without rook_moved
+    set_down squares_after steps_twice stood_before stood_behind takes_in_passing two_apart counters_from action_bytes action_of last_action moves_in
+    moves_from position_of positions_from places_of equal equals_two_earlier times is_position move_bytes position_bytes position_check offer_in result_of
+    claim_at claim_in run_after run_at irreversible rights_differ actions_after call_answer counts_after log_check positions_after positions_begun
+    result_answer start_answer action_part call_at history_of is_good next_sound position_part sound called played started actions answer claim_stands current
+    first_refusal last_but_one last_made moves offer_stands result ruling clock_from full_from stopped_at laws_count moves_made rights_kept since_last
+    equals_at ruled_on ruling_answer moves_written
 clocks_read = record {
   below = refl;
   at_it = refl;
@@ -138,14 +144,15 @@ clocks_read = record {
 }
 
 pub left_on_parts : LeftOnParts
-unfolding ascii all_at_most among same kind_of piece_of pair_told read_square in_range numbers numbers_in_range place_all place_byte assembled of_tokens read_fen rights_of
-    side_of sided joined onto place_after place_where tokens promotion_named read_move with_dest with_source list_in_range after_parts castles colour_step corner
-    enemy_pawn file_after full_after half_after one_more pawn_removed record_after restarts rights_after rights_without rook_moved set_down squares_after steps_twice
-    stood_before stood_behind takes_in_passing two_apart counters_from action_bytes action_of last_action moves_in moves_from position_of positions_from places_of equal
-    equals_two_earlier times is_position move_bytes position_bytes position_check offer_in result_of claim_at claim_in run_after run_at irreversible rights_differ
-    actions_after call_answer counts_after log_check positions_after positions_begun result_answer start_answer action_part call_at history_of is_good next_sound
-    position_part sound called played started actions answer claim_stands current first_refusal last_but_one last_made moves offer_stands result ruling clock_from
-    full_from stopped_at laws_count moves_made rights_kept since_last equals_at ruled_on ruling_answer moves_written
+unfolding ascii all_at_most among same kind_of piece_of pair_told read_square in_range numbers numbers_in_range place_all place_byte assembled of_tokens
+    read_fen rights_of side_of sided joined onto place_after place_where tokens promotion_named read_move with_dest with_source list_in_range after_parts
+    castles colour_step corner enemy_pawn file_after full_after half_after one_more pawn_removed record_after restarts rights_after rights_without rook_moved
+    set_down squares_after steps_twice stood_before stood_behind takes_in_passing two_apart counters_from action_bytes action_of last_action moves_in
+    moves_from position_of positions_from places_of equal equals_two_earlier times is_position move_bytes position_bytes position_check offer_in result_of
+    claim_at claim_in run_after run_at irreversible rights_differ actions_after call_answer counts_after log_check positions_after positions_begun
+    result_answer start_answer action_part call_at history_of is_good next_sound position_part sound called played started actions answer claim_stands current
+    first_refusal last_but_one last_made moves offer_stands result ruling clock_from full_from stopped_at laws_count moves_made rights_kept since_last
+    equals_at ruled_on ruling_answer moves_written
 left_on_parts = record {
   begun_left = refl;
   short_actions = refl;

@@ -17,8 +17,8 @@ use Rattle.log_rows.specs.Games.{moves_written}
 use Rattle.log_rows.specs.Rights.{RightsCompared}
 
 pub rights_compared : RightsCompared
-unfolding ascii among kind_of piece_of pair_told read_square numbers place_all place_byte assembled of_tokens read_fen rights_of side_of sided joined onto place_after
-    place_where tokens promotion_named read_move with_dest with_source irreversible rights_differ current moves_made rights_kept moves_written
+unfolding ascii among kind_of piece_of pair_told read_square numbers place_all place_byte assembled of_tokens read_fen rights_of side_of sided joined onto
+    place_after place_where tokens promotion_named read_move with_dest with_source irreversible rights_differ current moves_made rights_kept moves_written
 rights_compared = record {
   alike = refl;
   white_gains = refl;

@@ -10,15 +10,17 @@ use Rattle.roll_text.specs.Calls.{acts_number, acts_over, front_number, is_acts,
 use Rattle.roll_text.specs.Number.{behind, groups, read_groups}
 use Rattle.roll_text.specs.Promises.{formed}
 use Rattle.roll_text.specs.Roll.{action_text, actions_text, coded, counts_text, full_by, half_by, is_code, largest_numbers, moved_by, next_action, numbers_text}
-use Rattle.roll_text.specs.Roll.{one_number, put_action, put_number, read_actions, read_by, read_counters, read_numbers, start_fits, text_by, with_actions, with_count}
+use Rattle.roll_text.specs.Roll.{one_number, put_action, put_number, read_actions, read_by, read_counters, read_numbers, start_fits, text_by, with_actions}
+use Rattle.roll_text.specs.Roll.{with_count}
 use Rattle.roll_text.specs.Roll.{with_counts, with_front, within_bounds}
 use Rattle.roll_reader.specs.Checked.{checked}
 use Rattle.log_rows.specs.Rolls.{WrittenByCalls, ReadByCalls, StartsRead, StagesRead, LooksAtRolls}
 
 pub written_by_calls : WrittenByCalls
-unfolding write_answer write_bytes all_at_most in_range numbers action_of actions_held acts_number acts_over front_number is_acts judged_by moves_by_kind roll_answer roll_over
-    write_check behind groups read_groups formed action_text actions_text coded counts_text full_by half_by is_code largest_numbers moved_by next_action numbers_text
-    one_number put_action put_number read_actions read_by read_counters read_numbers start_fits text_by with_actions with_count with_counts with_front within_bounds checked
+unfolding write_answer write_bytes all_at_most in_range numbers action_of actions_held acts_number acts_over front_number is_acts judged_by moves_by_kind
+    roll_answer roll_over write_check behind groups read_groups formed action_text actions_text coded counts_text full_by half_by is_code largest_numbers
+    moved_by next_action numbers_text one_number put_action put_number read_actions read_by read_counters read_numbers start_fits text_by with_actions
+    with_count with_counts with_front within_bounds checked
 written_by_calls = record {
   answer = refl;
   room = refl;
@@ -29,9 +31,10 @@ written_by_calls = record {
 }
 
 pub read_by_calls : ReadByCalls
-unfolding write_answer write_bytes all_at_most in_range numbers action_of actions_held acts_number acts_over front_number is_acts judged_by moves_by_kind roll_answer roll_over
-    write_check behind groups read_groups formed action_text actions_text coded counts_text full_by half_by is_code largest_numbers moved_by next_action numbers_text
-    one_number put_action put_number read_actions read_by read_counters read_numbers start_fits text_by with_actions with_count with_counts with_front within_bounds checked
+unfolding write_answer write_bytes all_at_most in_range numbers action_of actions_held acts_number acts_over front_number is_acts judged_by moves_by_kind
+    roll_answer roll_over write_check behind groups read_groups formed action_text actions_text coded counts_text full_by half_by is_code largest_numbers
+    moved_by next_action numbers_text one_number put_action put_number read_actions read_by read_counters read_numbers start_fits text_by with_actions
+    with_count with_counts with_front within_bounds checked
 read_by_calls = record {
   answer = refl;
   part = refl;
@@ -45,9 +48,10 @@ read_by_calls = record {
 }
 
 pub starts_read : StartsRead
-unfolding write_answer write_bytes all_at_most in_range numbers action_of actions_held acts_number acts_over front_number is_acts judged_by moves_by_kind roll_answer roll_over
-    write_check behind groups read_groups formed action_text actions_text coded counts_text full_by half_by is_code largest_numbers moved_by next_action numbers_text
-    one_number put_action put_number read_actions read_by read_counters read_numbers start_fits text_by with_actions with_count with_counts with_front within_bounds checked
+unfolding write_answer write_bytes all_at_most in_range numbers action_of actions_held acts_number acts_over front_number is_acts judged_by moves_by_kind
+    roll_answer roll_over write_check behind groups read_groups formed action_text actions_text coded counts_text full_by half_by is_code largest_numbers
+    moved_by next_action numbers_text one_number put_action put_number read_actions read_by read_counters read_numbers start_fits text_by with_actions
+    with_count with_counts with_front within_bounds checked
 starts_read = record {
   largest = refl;
   least = refl;
@@ -68,9 +72,10 @@ starts_read = record {
 }
 
 pub stages_read : StagesRead
-unfolding write_answer write_bytes all_at_most in_range numbers action_of actions_held acts_number acts_over front_number is_acts judged_by moves_by_kind roll_answer roll_over
-    write_check behind groups read_groups formed action_text actions_text coded counts_text full_by half_by is_code largest_numbers moved_by next_action numbers_text
-    one_number put_action put_number read_actions read_by read_counters read_numbers start_fits text_by with_actions with_count with_counts with_front within_bounds checked
+unfolding write_answer write_bytes all_at_most in_range numbers action_of actions_held acts_number acts_over front_number is_acts judged_by moves_by_kind
+    roll_answer roll_over write_check behind groups read_groups formed action_text actions_text coded counts_text full_by half_by is_code largest_numbers
+    moved_by next_action numbers_text one_number put_action put_number read_actions read_by read_counters read_numbers start_fits text_by with_actions
+    with_count with_counts with_front within_bounds checked
 stages_read = record {
   front_stopped = refl;
   front_passed = refl;
@@ -84,9 +89,10 @@ stages_read = record {
 }
 
 pub looks_at_rolls : LooksAtRolls
-unfolding write_answer write_bytes all_at_most in_range numbers action_of actions_held acts_number acts_over front_number is_acts judged_by moves_by_kind roll_answer roll_over
-    write_check behind groups read_groups formed action_text actions_text coded counts_text full_by half_by is_code largest_numbers moved_by next_action numbers_text
-    one_number put_action put_number read_actions read_by read_counters read_numbers start_fits text_by with_actions with_count with_counts with_front within_bounds checked
+unfolding write_answer write_bytes all_at_most in_range numbers action_of actions_held acts_number acts_over front_number is_acts judged_by moves_by_kind
+    roll_answer roll_over write_check behind groups read_groups formed action_text actions_text coded counts_text full_by half_by is_code largest_numbers
+    moved_by next_action numbers_text one_number put_action put_number read_actions read_by read_counters read_numbers start_fits text_by with_actions
+    with_count with_counts with_front within_bounds checked
 looks_at_rolls = record {
   looked_at = refl;
   refused = refl;

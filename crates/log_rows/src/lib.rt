@@ -1,1 +1,2 @@
 // Games as positions and texts, with their results, offers, counts and answers: rows in specs/ and proofs/.
+#![tactic(auto)]

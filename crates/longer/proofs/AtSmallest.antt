@@ -35,9 +35,9 @@ room_at_smallest =
     }
 
 pub rolls_at_smallest : RollsAtSmallest
-unfolding write_answer all_at_most in_range numbers action_of moves_by_kind actions_held groups behind read_groups largest_numbers numbers_text action_text actions_text
-    counts_text text_by is_code put_number one_number read_numbers full_by half_by read_counters moved_by coded put_action next_action read_actions with_actions with_count
-    with_counts with_front read_by roll_answer judged_by write_check
+unfolding write_answer all_at_most in_range numbers action_of moves_by_kind actions_held groups behind read_groups largest_numbers numbers_text action_text
+    actions_text counts_text text_by is_code put_number one_number read_numbers full_by half_by read_counters moved_by coded put_action next_action
+    read_actions with_actions with_count with_counts with_front read_by roll_answer judged_by write_check
 rolls_at_smallest =
     record {
       at_it = refl;
@@ -63,8 +63,8 @@ rolls_at_smallest =
     }
 
 pub within_at_smallest : WithinAtSmallest
-unfolding action_of moves_in groups behind read_groups largest_numbers is_code put_number one_number read_numbers full_by half_by read_counters moved_by coded put_action
-    next_action read_actions with_actions with_count with_counts with_front read_by roll_answer roll_over judged_by
+unfolding action_of moves_in groups behind read_groups largest_numbers is_code put_number one_number read_numbers full_by half_by read_counters moved_by coded
+    put_action next_action read_actions with_actions with_count with_counts with_front read_by roll_answer roll_over judged_by
 within_at_smallest =
     record {
       within_both = refl;
@@ -75,8 +75,9 @@ within_at_smallest =
     }
 
 pub logs_at_smallest : LogsAtSmallest
-unfolding same all_at_most among in_range numbers_in_range list_in_range action_of action_bytes moves_in moves_from position_of move_bytes position_bytes position_check
-    is_position result_of current actions last_made result first_refusal answer call_at history_of next_sound sound is_good log_check call_answer result_answer
+unfolding same all_at_most among in_range numbers_in_range list_in_range action_of action_bytes moves_in moves_from position_of move_bytes position_bytes
+    position_check is_position result_of current actions last_made result first_refusal answer call_at history_of next_sound sound is_good log_check
+    call_answer result_answer
 logs_at_smallest =
     record {
       offer = refl;

@@ -1,4 +1,6 @@
 // What the host links: each function passes its arguments to a proved one in the crates below, with that one's contract (HOST-ABI.md; host/menkhodur.h).
+#![tactic(auto)]
+
 ghost use Rattle.std.specs.Prelude.{◌≡◌, length};
 ghost use Rattle.version.specs.Version.{version};
 ghost use Rattle.answer.specs.Answer.{write_answer, write_bytes};
@@ -21,7 +23,17 @@ ghost use Rattle.fen_text.specs.Write.{fen_text, full_text, fen_check};
 ghost use Rattle.stored_position.specs.Bytes.{position_given};
 ghost use Rattle.game_rules.specs.Limits.{limits};
 ghost use Rattle.game_rules.specs.Rules.{make_move, offer_draw, accept_draw, declare_draw, resign};
-ghost use Rattle.game_rules.specs.Calls.{call_answer, counts, counts_after, actions_after, positions_after, start_answer, positions_begun, result_answer, claim_answer};
+ghost use Rattle.game_rules.specs.Calls.{
+  call_answer,
+  counts,
+  counts_after,
+  actions_after,
+  positions_after,
+  start_answer,
+  positions_begun,
+  result_answer,
+  claim_answer,
+};
 ghost use Rattle.laws.specs.Ruling.{ruling_answer, laws_answer};
 ghost use Rattle.pgn_text.specs.Walk.{check};
 ghost use Rattle.pgn_text.specs.Between.{next_across};
@@ -40,120 +52,103 @@ use pgn_text::{PgnCount, PgnNext};
 use report_text::Report;
 use roll_text::Roll;
 
-#[unsafe(no_mangle)]
-pub extern "C" fn menkhodur_version() -> u64
+pub fn menkhodur_version() -> u64
     ensures { result ≡ version }
 {
     version::number()
 }
 
-#[unsafe(no_mangle)]
-pub extern "C" fn menkhodur_make_square(rank: u8, file: u8) -> Answer
+pub fn menkhodur_make_square(rank: u8, file: u8) -> Answer
     ensures { result ≡ make_square rank file }
 {
     square::make_square(rank, file)
 }
 
-#[unsafe(no_mangle)]
-pub extern "C" fn menkhodur_rights_add(rights: u8, added: u8) -> Answer
+pub fn menkhodur_rights_add(rights: u8, added: u8) -> Answer
     ensures { result ≡ add_rights rights added }
 {
     castle_rights::add(rights, added)
 }
 
-#[unsafe(no_mangle)]
-pub extern "C" fn menkhodur_rights_remove(rights: u8, removed: u8) -> Answer
+pub fn menkhodur_rights_remove(rights: u8, removed: u8) -> Answer
     ensures { result ≡ remove_rights rights removed }
 {
     castle_rights::remove(rights, removed)
 }
 
-#[unsafe(no_mangle)]
-pub extern "C" fn menkhodur_square_rights(colour: u8, square: u8) -> Answer
+pub fn menkhodur_square_rights(colour: u8, square: u8) -> Answer
     ensures { result ≡ square_rights colour square }
 {
     castle_rights::square_to_castle_rights(colour, square)
 }
 
-#[unsafe(no_mangle)]
-pub extern "C" fn menkhodur_piece(b: BoardBuilder, square: u8, code: u8) -> Stepped
+pub fn menkhodur_piece(b: BoardBuilder, square: u8, code: u8) -> Stepped
     ensures { result ≡ set_piece b square code }
 {
     b.piece(square, code)
 }
 
-#[unsafe(no_mangle)]
-pub extern "C" fn menkhodur_clear_square(b: BoardBuilder, square: u8) -> Stepped
+pub fn menkhodur_clear_square(b: BoardBuilder, square: u8) -> Stepped
     ensures { result ≡ clear_square b square }
 {
     b.clear_square(square)
 }
 
-#[unsafe(no_mangle)]
-pub extern "C" fn menkhodur_side_to_move(b: BoardBuilder, colour: u8) -> Stepped
+pub fn menkhodur_side_to_move(b: BoardBuilder, colour: u8) -> Stepped
     ensures { result ≡ set_side b colour }
 {
     b.side_to_move(colour)
 }
 
-#[unsafe(no_mangle)]
-pub extern "C" fn menkhodur_castle_rights(b: BoardBuilder, colour: u8, rights: u8) -> Stepped
+pub fn menkhodur_castle_rights(b: BoardBuilder, colour: u8, rights: u8) -> Stepped
     ensures { result ≡ set_rights b colour rights }
 {
     b.castle_rights(colour, rights)
 }
 
-#[unsafe(no_mangle)]
-pub extern "C" fn menkhodur_en_passant(b: BoardBuilder, file: u8) -> Stepped
+pub fn menkhodur_en_passant(b: BoardBuilder, file: u8) -> Stepped
     ensures { result ≡ set_en_passant b file }
 {
     b.en_passant(file)
 }
 
-#[unsafe(no_mangle)]
-pub extern "C" fn menkhodur_half_moves(b: BoardBuilder, count: u64) -> Stepped
+pub fn menkhodur_half_moves(b: BoardBuilder, count: u64) -> Stepped
     ensures { result ≡ set_half_moves b count }
 {
     b.half_moves(count)
 }
 
-#[unsafe(no_mangle)]
-pub extern "C" fn menkhodur_full_moves(b: BoardBuilder, count: u64) -> Stepped
+pub fn menkhodur_full_moves(b: BoardBuilder, count: u64) -> Stepped
     ensures { result ≡ set_full_moves b count }
 {
     b.full_moves(count)
 }
 
-#[unsafe(no_mangle)]
-pub extern "C" fn menkhodur_board_after(b: BoardBuilder, m: u64) -> Stepped
+pub fn menkhodur_board_after(b: BoardBuilder, m: u64) -> Stepped
     ensures { result ≡ after_answer b m }
 {
     board_after::board_after(b, m)
 }
 
-#[unsafe(no_mangle)]
-pub extern "C" fn menkhodur_board_settled(b: BoardBuilder) -> Stepped
+pub fn menkhodur_board_settled(b: BoardBuilder) -> Stepped
     ensures { result ≡ settled_answer b }
 {
     board_after::settled::board_settled(b)
 }
 
-#[unsafe(no_mangle)]
-pub extern "C" fn menkhodur_fen_read(text: &[u8]) -> Fen
+pub fn menkhodur_fen_read(text: &[u8]) -> Fen
     ensures { result ≡ read_fen text.now }
 {
     fen_reader::read_fen(text)
 }
 
-#[unsafe(no_mangle)]
-pub extern "C" fn menkhodur_fen_read_full(text: &[u8]) -> Fen
+pub fn menkhodur_fen_read_full(text: &[u8]) -> Fen
     ensures { result ≡ read_full text.now }
 {
     fen_reader::full::read_full(text)
 }
 
-#[unsafe(no_mangle)]
-pub extern "C" fn menkhodur_fen_page(text: &[u8], records: &mut [u8], numbers: &mut [u64]) -> Answer
+pub fn menkhodur_fen_page(text: &[u8], records: &mut [u8], numbers: &mut [u64]) -> Answer
     ensures answer { result ≡ page_answer text.now (length records.old) (length numbers.old) }
     ensures records { records.new ≡ records_left text.now records.old (length numbers.old) }
     ensures numbers { numbers.new ≡ told_left text.now (length records.old) numbers.old }
@@ -161,12 +156,7 @@ pub extern "C" fn menkhodur_fen_page(text: &[u8], records: &mut [u8], numbers: &
     fen_reader::page::read_page(text, records, numbers)
 }
 
-#[unsafe(no_mangle)]
-pub extern "C" fn menkhodur_fen_report(
-    text: &[u8],
-    records: &mut [u8],
-    numbers: &mut [u64],
-) -> Report
+pub fn menkhodur_fen_report(text: &[u8], records: &mut [u8], numbers: &mut [u64]) -> Report
     ensures answer { result ≡ report_answer most_lines text.now (length records.old) (length numbers.old) }
     ensures records { records.new ≡ report_records most_lines text.now records.old (length numbers.old) }
     ensures numbers { numbers.new ≡ report_told most_lines text.now (length records.old) numbers.old }
@@ -174,87 +164,67 @@ pub extern "C" fn menkhodur_fen_report(
     report::report(text, records, numbers)
 }
 
-#[unsafe(no_mangle)]
-pub extern "C" fn menkhodur_fen_write(b: BoardBuilder, out: &mut [u8]) -> Answer
+pub fn menkhodur_fen_write(b: BoardBuilder, out: &mut [u8]) -> Answer
     ensures answer { result ≡ write_answer (fen_check b) (fen_text b) (length out.old) }
     ensures bytes { out.new ≡ write_bytes (fen_check b) (fen_text b) out.old }
 {
     fen_writer::write_fen(b, out)
 }
 
-#[unsafe(no_mangle)]
-pub extern "C" fn menkhodur_fen_write_full(b: BoardBuilder, out: &mut [u8]) -> Answer
+pub fn menkhodur_fen_write_full(b: BoardBuilder, out: &mut [u8]) -> Answer
     ensures answer { result ≡ write_answer (fen_check b) (full_text b) (length out.old) }
     ensures bytes { out.new ≡ write_bytes (fen_check b) (full_text b) out.old }
 {
     fen_writer::write_full(b, out)
 }
 
-#[unsafe(no_mangle)]
-pub extern "C" fn menkhodur_fen_settled(text: &[u8], out: &mut [u8]) -> Placed
+pub fn menkhodur_fen_settled(text: &[u8], out: &mut [u8]) -> Placed
     ensures answer { result ≡ settled_key text.now (length out.old) }
     ensures bytes { out.new ≡ settled_room text.now out.old }
 {
     settled::fen_settled(text, out)
 }
 
-#[unsafe(no_mangle)]
-pub extern "C" fn menkhodur_move_read(text: &[u8]) -> Placed
+pub fn menkhodur_move_read(text: &[u8]) -> Placed
     ensures { result ≡ read_move text.now }
 {
     chess_move::from_str(text)
 }
 
-#[unsafe(no_mangle)]
-pub extern "C" fn menkhodur_move_write(n: u64, out: &mut [u8]) -> Answer
+pub fn menkhodur_move_write(n: u64, out: &mut [u8]) -> Answer
     ensures answer { result ≡ write_answer (move_check n) (move_text n) (length out.old) }
     ensures bytes { out.new ≡ write_bytes (move_check n) (move_text n) out.old }
 {
     chess_move::to_string(n, out)
 }
 
-#[unsafe(no_mangle)]
-pub extern "C" fn menkhodur_san_read(b: BoardBuilder, list: &[u16], text: &[u8]) -> Answer
+pub fn menkhodur_san_read(b: BoardBuilder, list: &[u16], text: &[u8]) -> Answer
     ensures { result ≡ from_san b list.now text.now }
 {
     san::from_san(b, list, text)
 }
 
-#[unsafe(no_mangle)]
-pub extern "C" fn menkhodur_san_name(
-    b: BoardBuilder,
-    list: &[u16],
-    n: u64,
-    out: &mut [u8],
-) -> Answer
+pub fn menkhodur_san_name(b: BoardBuilder, list: &[u16], n: u64, out: &mut [u8]) -> Answer
     ensures answer { result ≡ name_answer b list.now n (length out.old) }
     ensures bytes { out.new ≡ name_bytes b list.now n out.old }
 {
     namer::to_san(b, list, n, out)
 }
 
-#[unsafe(no_mangle)]
-pub extern "C" fn menkhodur_san_read_standard(b: BoardBuilder, list: &[u16], text: &[u8]) -> Answer
+pub fn menkhodur_san_read_standard(b: BoardBuilder, list: &[u16], text: &[u8]) -> Answer
     ensures { result ≡ from_san_standard b list.now text.now }
 {
     san::from_san_standard(b, list, text)
 }
 
-#[unsafe(no_mangle)]
-pub extern "C" fn menkhodur_san_name_standard(
-    b: BoardBuilder,
-    list: &[u16],
-    n: u64,
-    out: &mut [u8],
-) -> Answer
+pub fn menkhodur_san_name_standard(b: BoardBuilder, list: &[u16], n: u64, out: &mut [u8]) -> Answer
     ensures answer { result ≡ standard_name_answer b list.now n (length out.old) }
     ensures bytes { out.new ≡ standard_name_bytes b list.now n out.old }
 {
     namer::to_san_standard(b, list, n, out)
 }
 
-#[unsafe(no_mangle)]
-pub extern "C" fn menkhodur_game_start(
+pub fn menkhodur_game_start(
     acts: &[u8],
     ps: &mut [u8],
     b: BoardBuilder,
@@ -269,8 +239,7 @@ pub extern "C" fn menkhodur_game_start(
     game::start(acts, ps, b, in_check, list)
 }
 
-#[unsafe(no_mangle)]
-pub extern "C" fn menkhodur_game_make_move(
+pub fn menkhodur_game_make_move(
     acts: &mut [u8],
     ps: &mut [u8],
     n: u64,
@@ -293,14 +262,7 @@ pub extern "C" fn menkhodur_game_make_move(
     game::make_move(acts, ps, n, m, x, next, in_check, list)
 }
 
-#[unsafe(no_mangle)]
-pub extern "C" fn menkhodur_game_offer_draw(
-    acts: &mut [u8],
-    ps: &[u8],
-    n: u64,
-    m: u64,
-    colour: u8,
-) -> Counts
+pub fn menkhodur_game_offer_draw(acts: &mut [u8], ps: &[u8], n: u64, m: u64, colour: u8) -> Counts
     ensures counts { result ≡ counts_after (call_answer limits acts.old ps.now n m (offer_draw colour)) n m (offer_draw colour) }
     ensures actions { acts.new ≡ actions_after
         (call_answer limits acts.old ps.now n m (offer_draw colour))
@@ -309,14 +271,7 @@ pub extern "C" fn menkhodur_game_offer_draw(
     game::offer_draw(acts, ps, n, m, colour)
 }
 
-#[unsafe(no_mangle)]
-pub extern "C" fn menkhodur_game_resign(
-    acts: &mut [u8],
-    ps: &[u8],
-    n: u64,
-    m: u64,
-    colour: u8,
-) -> Counts
+pub fn menkhodur_game_resign(acts: &mut [u8], ps: &[u8], n: u64, m: u64, colour: u8) -> Counts
     ensures counts { result ≡ counts_after (call_answer limits acts.old ps.now n m (resign colour)) n m (resign colour) }
     ensures actions { acts.new ≡ actions_after
         (call_answer limits acts.old ps.now n m (resign colour))
@@ -325,8 +280,7 @@ pub extern "C" fn menkhodur_game_resign(
     game::resign(acts, ps, n, m, colour)
 }
 
-#[unsafe(no_mangle)]
-pub extern "C" fn menkhodur_game_accept_draw(acts: &mut [u8], ps: &[u8], n: u64, m: u64) -> Counts
+pub fn menkhodur_game_accept_draw(acts: &mut [u8], ps: &[u8], n: u64, m: u64) -> Counts
     ensures counts { result ≡ counts_after (call_answer limits acts.old ps.now n m accept_draw) n m accept_draw }
     ensures actions { acts.new ≡ actions_after
         (call_answer limits acts.old ps.now n m accept_draw)
@@ -335,8 +289,7 @@ pub extern "C" fn menkhodur_game_accept_draw(acts: &mut [u8], ps: &[u8], n: u64,
     game::accept_draw(acts, ps, n, m)
 }
 
-#[unsafe(no_mangle)]
-pub extern "C" fn menkhodur_game_declare_draw(acts: &mut [u8], ps: &[u8], n: u64, m: u64) -> Counts
+pub fn menkhodur_game_declare_draw(acts: &mut [u8], ps: &[u8], n: u64, m: u64) -> Counts
     ensures counts { result ≡ counts_after (call_answer limits acts.old ps.now n m declare_draw) n m declare_draw }
     ensures actions { acts.new ≡ actions_after
         (call_answer limits acts.old ps.now n m declare_draw)
@@ -345,87 +298,71 @@ pub extern "C" fn menkhodur_game_declare_draw(acts: &mut [u8], ps: &[u8], n: u64
     game::declare_draw(acts, ps, n, m)
 }
 
-#[unsafe(no_mangle)]
-pub extern "C" fn menkhodur_game_result(acts: &[u8], ps: &[u8], n: u64, m: u64) -> Answer
+pub fn menkhodur_game_result(acts: &[u8], ps: &[u8], n: u64, m: u64) -> Answer
     ensures { result ≡ result_answer limits acts.now ps.now n m }
 {
     game::result(acts, ps, n, m)
 }
 
-#[unsafe(no_mangle)]
-pub extern "C" fn menkhodur_game_can_declare_draw(acts: &[u8], ps: &[u8], n: u64, m: u64) -> Answer
+pub fn menkhodur_game_can_declare_draw(acts: &[u8], ps: &[u8], n: u64, m: u64) -> Answer
     ensures { result ≡ claim_answer limits acts.now ps.now n m }
 {
     game::can_declare_draw(acts, ps, n, m)
 }
 
-#[unsafe(no_mangle)]
-pub extern "C" fn menkhodur_game_can_claim_by_laws(acts: &[u8], ps: &[u8], n: u64, m: u64) -> Answer
+pub fn menkhodur_game_can_claim_by_laws(acts: &[u8], ps: &[u8], n: u64, m: u64) -> Answer
     ensures { result ≡ laws_answer limits acts.now ps.now n m }
 {
     laws::can_claim(acts, ps, n, m)
 }
 
-#[unsafe(no_mangle)]
-pub extern "C" fn menkhodur_game_ruling(acts: &[u8], ps: &[u8], n: u64, m: u64) -> Ruled
+pub fn menkhodur_game_ruling(acts: &[u8], ps: &[u8], n: u64, m: u64) -> Ruled
     ensures { result ≡ ruling_answer limits acts.now ps.now n m }
 {
     laws::ruling(acts, ps, n, m)
 }
 
-#[unsafe(no_mangle)]
-pub extern "C" fn menkhodur_roll_write(
-    b: BoardBuilder,
-    acts: &[u8],
-    n: u64,
-    out: &mut [u8],
-) -> Answer
+pub fn menkhodur_roll_write(b: BoardBuilder, acts: &[u8], n: u64, out: &mut [u8]) -> Answer
     ensures answer { result ≡ write_answer (write_check limits b acts.now n) (game_text b acts.now n) (length out.old) }
     ensures bytes { out.new ≡ write_bytes (write_check limits b acts.now n) (game_text b acts.now n) out.old }
 {
     roll_writer::write(b, acts, n, out)
 }
 
-#[unsafe(no_mangle)]
-pub extern "C" fn menkhodur_roll_read(roll: &[u8], acts: &mut [u8]) -> Roll
+pub fn menkhodur_roll_read(roll: &[u8], acts: &mut [u8]) -> Roll
     ensures answer { result ≡ roll_answer (judged limits roll.now (length acts.old)) }
     ensures bytes { acts.new ≡ roll_over (judged limits roll.now (length acts.old)) acts.old }
 {
     roll_reader::read(roll, acts)
 }
 
-#[unsafe(no_mangle)]
-pub extern "C" fn menkhodur_roll_read_old(roll: &[u8], acts: &mut [u8]) -> Roll
+pub fn menkhodur_roll_read_old(roll: &[u8], acts: &mut [u8]) -> Roll
     ensures answer { result ≡ roll_answer (judged_old limits roll.now (length acts.old)) }
     ensures bytes { acts.new ≡ roll_over (judged_old limits roll.now (length acts.old)) acts.old }
 {
     roll_reader::read_old(roll, acts)
 }
 
-#[unsafe(no_mangle)]
-pub extern "C" fn menkhodur_roll_differences(first: &[u8], second: &[u8], out: &mut [u8]) -> Answer
+pub fn menkhodur_roll_differences(first: &[u8], second: &[u8], out: &mut [u8]) -> Answer
     ensures answer { result ≡ differences_answer limits first.now second.now (length out.old) }
     ensures bytes { out.new ≡ differences_room limits first.now second.now out.old }
 {
     differences::differences(first, second, out)
 }
 
-#[unsafe(no_mangle)]
-pub extern "C" fn menkhodur_pgn_check(text: &[u8]) -> PgnCount
+pub fn menkhodur_pgn_check(text: &[u8]) -> PgnCount
     ensures { result ≡ check text.now }
 {
     pgn::check(text)
 }
 
-#[unsafe(no_mangle)]
-pub extern "C" fn menkhodur_pgn_next(text: &[u8], offset: u64, level: u64) -> PgnNext
+pub fn menkhodur_pgn_next(text: &[u8], offset: u64, level: u64) -> PgnNext
     ensures { result ≡ next_across text.now offset level }
 {
     pgn::next_across(text, offset, level)
 }
 
-#[unsafe(no_mangle)]
-pub extern "C" fn menkhodur_game_step(
+pub fn menkhodur_game_step(
     text: &[u8],
     offset: u64,
     board: BoardBuilder,
@@ -438,36 +375,27 @@ pub extern "C" fn menkhodur_game_step(
     game_step::game_step(text, offset, board, list, out)
 }
 
-#[unsafe(no_mangle)]
-pub extern "C" fn menkhodur_play(
-    text: &[u8],
-    board: BoardBuilder,
-    list: &[u16],
-    out: &mut [u8],
-) -> GameStep
+pub fn menkhodur_play(text: &[u8], board: BoardBuilder, list: &[u16], out: &mut [u8]) -> GameStep
     ensures answer { result ≡ play_answer text.now board list.now (length out.old) }
     ensures bytes { out.new ≡ play_bytes text.now board list.now out.old }
 {
     game_step::play(text, board, list, out)
 }
 
-#[unsafe(no_mangle)]
-pub extern "C" fn menkhodur_in_check(board: BoardBuilder) -> Answer
+pub fn menkhodur_in_check(board: BoardBuilder) -> Answer
     ensures { result ≡ check_answer board }
 {
     legal::in_check(board)
 }
 
-#[unsafe(no_mangle)]
-pub extern "C" fn menkhodur_legal_list(board: BoardBuilder, out: &mut [u16]) -> Answer
+pub fn menkhodur_legal_list(board: BoardBuilder, out: &mut [u16]) -> Answer
     ensures answer { result ≡ write_answer (list_check board) (legal_moves board) (length out.old) }
     ensures bytes { out.new ≡ write_bytes (list_check board) (legal_moves board) out.old }
 {
     legal::legal_list(board, out)
 }
 
-#[unsafe(no_mangle)]
-pub extern "C" fn menkhodur_list_judged(board: BoardBuilder, in_check: u8, list: &[u16]) -> Judged
+pub fn menkhodur_list_judged(board: BoardBuilder, in_check: u8, list: &[u16]) -> Judged
     ensures { result ≡ judged_answer board in_check list.now }
 {
     judge::list_judged(board, in_check, list)

@@ -13,10 +13,11 @@ use Rattle.move_laws.specs.Legal.{own_rights, goes, legal_parts, is_legal}
 use Rattle.move_laws.specs.AtSmallest.{men, Rows}
 
 pub rows : Rows
-unfolding kind_of colour_step enemy_pawn two_apart castles corner rook_moved takes_in_passing pawn_removed set_down squares_after apart files_apart ranks_apart
-    distance file_or_rank diagonal knights_move adjoining lower upper line_step empty_up_to clear of_side ahead pawn_attacks bishop_attacks rook_attacks
-    queen_attacks kind_attacks attacks attacked_below attacked king_attacked in_check_below in_check may_take may_arrive pawn_steps pawn_steps_twice pawn_captures
-    pawn_passes pawn_moves right_held way_attacked king_castles promotes piece_moves kind_moves own_rights goes legal_parts is_legal men
+unfolding kind_of colour_step enemy_pawn two_apart castles corner rook_moved takes_in_passing pawn_removed set_down squares_after apart files_apart
+    ranks_apart distance file_or_rank diagonal knights_move adjoining lower upper line_step empty_up_to clear of_side ahead pawn_attacks bishop_attacks
+    rook_attacks queen_attacks kind_attacks attacks attacked_below attacked king_attacked in_check_below in_check may_take may_arrive pawn_steps
+    pawn_steps_twice pawn_captures pawn_passes pawn_moves right_held way_attacked king_castles promotes piece_moves kind_moves own_rights goes legal_parts
+    is_legal men
 rows = record {
   own_man = refl;
   captures = refl;

@@ -1,4 +1,6 @@
 // A lent list of moves, in the host's order: its range, and whether a move is in it.
+#![tactic(auto)]
+
 ghost use Rattle.std.specs.Prelude.{◌≡◌};
 ghost use Rattle.answer.specs.Numbers.{all_at_most, among};
 ghost use Rattle.move_list.specs.MoveList.{over, list_in_range};

@@ -1,7 +1,7 @@
 -- Two records as lists of numbers: they are equal exactly if their squares and their four other numbers are.
 -- Assumes nothing.
 use mathlib.Core.Path.{◌≡◌, refl, ap, sym, ◌∙◌}
-use mathlib.Core.Bool.{Bool, true, false, ◌&&◌, and_true, and_false}
+use mathlib.Core.Bool.{Bool, true, false, ◌&&◌, and-true, and-false}
 use mathlib.Core.List.{List, [], ◌∷◌, ◌++◌}
 use Prim.Native.Nat.{ℕ, ◌≤◌}
 use native.Mathlib.Omega.{arith}
@@ -68,17 +68,17 @@ module _ (l : List ℕ) (side white black file : ℕ) (b : BoardBuilder) (h : le
   five_tests = same_append l b.pieces _ _ h
 
   pub off_side : (side ≡ b.side_to_move → ⊥) → false ≡ same given (numbers b)
-  off_side n = sym (five_tests ∙ simp (ne_eqb _ _ n, and_false))
+  off_side n = sym (five_tests ∙ simp (ne_eqb _ _ n, and-false))
 
   pub off_white : (white ≡ b.white_castle_rights → ⊥) → false ≡ same given (numbers b)
-  off_white n = sym (five_tests ∙ simp (ne_eqb _ _ n, and_false))
+  off_white n = sym (five_tests ∙ simp (ne_eqb _ _ n, and-false))
 
   pub off_black : (black ≡ b.black_castle_rights → ⊥) → false ≡ same given (numbers b)
-  off_black n = sym (five_tests ∙ simp (ne_eqb _ _ n, and_false))
+  off_black n = sym (five_tests ∙ simp (ne_eqb _ _ n, and-false))
 
   pub off_file : (file ≡ b.en_passant → ⊥) → false ≡ same given (numbers b)
-  off_file n = sym (five_tests ∙ simp (ne_eqb _ _ n, and_false))
+  off_file n = sym (five_tests ∙ simp (ne_eqb _ _ n, and-false))
 
   pub by_squares : side ≡ b.side_to_move → white ≡ b.white_castle_rights → black ≡ b.black_castle_rights → file ≡ b.en_passant
       → same l b.pieces ≡ same given (numbers b)
-  by_squares s w k f = sym (five_tests ∙ simp (eq-eqb _ _ s, eq-eqb _ _ w, eq-eqb _ _ k, eq-eqb _ _ f, and_true))
+  by_squares s w k f = sym (five_tests ∙ simp (eq-eqb _ _ s, eq-eqb _ _ w, eq-eqb _ _ k, eq-eqb _ _ f, and-true))

@@ -13,8 +13,9 @@ use Rattle.stored_position.specs.Bytes.{is_position, is_position_with, lists_mov
 use Rattle.number_rows.specs.Logs.{ActionsInBytes, BytesAsActions, ActionsOfAPart, PositionsInBytes, BytesAsPositions, PositionsOfAPart}
 
 pub actions_in_bytes : ActionsInBytes
-unfolding all_at_most among same in_range numbers numbers_in_range list_in_range action_bytes action_check action_of actions_held last_action moves_in moves_from position_of
-    positions_from equal_places places_of equal equals_two_earlier times is_position is_position_with lists_move move_bytes position_bytes position_check
+unfolding all_at_most among same in_range numbers numbers_in_range list_in_range action_bytes action_check action_of actions_held last_action moves_in
+    moves_from position_of positions_from equal_places places_of equal equals_two_earlier times is_position is_position_with lists_move move_bytes
+    position_bytes position_check
 actions_in_bytes = record {
   size = refl;
   move = refl;
@@ -33,8 +34,9 @@ actions_in_bytes = record {
 }
 
 pub bytes_as_actions : BytesAsActions
-unfolding all_at_most among same in_range numbers numbers_in_range list_in_range action_bytes action_check action_of actions_held last_action moves_in moves_from position_of
-    positions_from equal_places places_of equal equals_two_earlier times is_position is_position_with lists_move move_bytes position_bytes position_check
+unfolding all_at_most among same in_range numbers numbers_in_range list_in_range action_bytes action_check action_of actions_held last_action moves_in
+    moves_from position_of positions_from equal_places places_of equal equals_two_earlier times is_position is_position_with lists_move move_bytes
+    position_bytes position_check
 bytes_as_actions = record {
   move = refl;
   last_move_fact = refl;
@@ -62,8 +64,9 @@ bytes_as_actions = record {
 }
 
 pub actions_of_a_part : ActionsOfAPart
-unfolding all_at_most among same in_range numbers numbers_in_range list_in_range action_bytes action_check action_of actions_held last_action moves_in moves_from position_of
-    positions_from equal_places places_of equal equals_two_earlier times is_position is_position_with lists_move move_bytes position_bytes position_check
+unfolding all_at_most among same in_range numbers numbers_in_range list_in_range action_bytes action_check action_of actions_held last_action moves_in
+    moves_from position_of positions_from equal_places places_of equal equals_two_earlier times is_position is_position_with lists_move move_bytes
+    position_bytes position_check
 actions_of_a_part = record {
   second = refl;
   first_move = refl;
@@ -84,8 +87,9 @@ actions_of_a_part = record {
 }
 
 pub positions_in_bytes : PositionsInBytes
-unfolding all_at_most among same in_range numbers numbers_in_range list_in_range action_bytes action_check action_of actions_held last_action moves_in moves_from position_of
-    positions_from equal_places places_of equal equals_two_earlier times is_position is_position_with lists_move move_bytes position_bytes position_check
+unfolding all_at_most among same in_range numbers numbers_in_range list_in_range action_bytes action_check action_of actions_held last_action moves_in
+    moves_from position_of positions_from equal_places places_of equal equals_two_earlier times is_position is_position_with lists_move move_bytes
+    position_bytes position_check
 positions_in_bytes = record {
   places = (refl, refl, refl, refl, refl);
   size = refl;
@@ -105,8 +109,9 @@ positions_in_bytes = record {
 }
 
 pub bytes_as_positions : BytesAsPositions
-unfolding all_at_most among same in_range numbers numbers_in_range list_in_range action_bytes action_check action_of actions_held last_action moves_in moves_from position_of
-    positions_from equal_places places_of equal equals_two_earlier times is_position is_position_with lists_move move_bytes position_bytes position_check
+unfolding all_at_most among same in_range numbers numbers_in_range list_in_range action_bytes action_check action_of actions_held last_action moves_in
+    moves_from position_of positions_from equal_places places_of equal equals_two_earlier times is_position is_position_with lists_move move_bytes
+    position_bytes position_check
 bytes_as_positions = record {
   whole = refl;
   one_short = refl;
@@ -123,8 +128,9 @@ bytes_as_positions = record {
 }
 
 pub positions_of_a_part : PositionsOfAPart
-unfolding all_at_most among same in_range numbers numbers_in_range list_in_range action_bytes action_check action_of actions_held last_action moves_in moves_from position_of
-    positions_from equal_places places_of equal equals_two_earlier times is_position is_position_with lists_move move_bytes position_bytes position_check
+unfolding all_at_most among same in_range numbers numbers_in_range list_in_range action_bytes action_check action_of actions_held last_action moves_in
+    moves_from position_of positions_from equal_places places_of equal equals_two_earlier times is_position is_position_with lists_move move_bytes
+    position_bytes position_check
 positions_of_a_part = record {
   second = refl;
   newest_first = refl;

@@ -4,8 +4,10 @@
 use Rattle.std.specs.Prelude.{ℕ, ◌≡◌, true, false, [], ◌∷◌}
 use Rattle.answer.specs.declared.Answer.{Answer}
 use Rattle.answer.specs.declared.Placed.{Placed}
-use Rattle.answer.specs.Answer.{invalid_fen, invalid_square, invalid_uci_move, invalid_san_move, out_of_range, bad_list, output_too_short, no_name, not_good, game_over}
-use Rattle.answer.specs.Answer.{not_listed, wrong_side, log_full, no_offer, no_claim, part_too_short, bad_roll, too_few_tokens, bad_placement, bad_side, left_open, too_deep}
+use Rattle.answer.specs.Answer.{invalid_fen, invalid_square, invalid_uci_move, invalid_san_move, out_of_range, bad_list, output_too_short, no_name, not_good}
+use Rattle.answer.specs.Answer.{game_over}
+use Rattle.answer.specs.Answer.{not_listed, wrong_side, log_full, no_offer, no_claim, part_too_short, bad_roll, too_few_tokens, bad_placement, bad_side}
+use Rattle.answer.specs.Answer.{left_open, too_deep}
 use Rattle.answer.specs.Answer.{unknown_token, wrong_record, bad_counter, accepted, refused, read_as, fault_at, too_short, in_range_or5}
 use Rattle.answer.specs.Answer.{write_answer, overwrite, write_bytes}
 use Rattle.answer.specs.Ascii.{ascii}

@@ -6,7 +6,8 @@ use Rattle.castle_rights.specs.CastleRights.{from_index, has_king, has_queen, ro
 use Rattle.board_builder.specs.declared.BoardBuilder.{BoardBuilder}
 use Rattle.board_builder.specs.declared.Stepped.{Stepped}
 use Rattle.board_builder.specs.BoardBuilder.{board_counted, board, with_counters, uncounted, numbers, all_numbers, squares, record_size, last_count, in_range}
-use Rattle.board_builder.specs.BoardBuilder.{side_at, white_rights_at, black_rights_at, file_at, board_of, numbers_in_range, empty_board, no_board, initial_board}
+use Rattle.board_builder.specs.BoardBuilder.{side_at, white_rights_at, black_rights_at, file_at, board_of, numbers_in_range, empty_board, no_board}
+use Rattle.board_builder.specs.BoardBuilder.{initial_board}
 use Rattle.board_builder.specs.Getters.{piece_on, side_answer, rights_answer, en_passant_square}
 use Rattle.board_builder.specs.Steps.{set_piece, clear_square, set_side, set_rights, set_en_passant, set_half_moves, set_full_moves}
 use Rattle.number_rows.specs.Answers.{says}

@@ -4,7 +4,7 @@ use mathlib.Core.Path.{◌≡◌, refl, ap, sym, subst, ◌∙◌}
 use mathlib.Core.Bool.{Bool, true, false, cond}
 use mathlib.Core.List.{List, [], ◌∷◌}
 use Prim.Native.Nat.{ℕ, zero, suc, ◌+◌, ◌-◌, ◌*◌, ◌^◌, ◌≤◌, ◌<◌, zero-le}
-use native.Mathlib.Nat.{le_refl, le_trans}
+use native.Mathlib.Nat.{le_trans}
 use native.Mathlib.Omega.{arith}
 use lib.Dec.{eqb, ltb}
 use lib.ListN.{length, drop, get_or, replicate, length-drop, length-replicate}
@@ -22,16 +22,13 @@ use Rattle.pgn_text.proofs.Follows.{moves_in_text_order}
 use Rattle.pgn_text.proofs.Walks.{walk_at, walk_end, beyond, beyond_skip}
 use Rattle.pgn.specs.declared.walk.Walked.{Walked}
 use Rattle.pgn.specs.declared.walk.Walked.TheVariants.{On, Found, Ended}
-use Rattle.pgn.specs.CodeWalkers.{outcome, walked_from, at_result, Near, Came, Over, Sequenced, Varied, count_of, move_walked}
+use Rattle.pgn.specs.CodeWalkers.{outcome, walked_from, at_result, Near, Came, Over, Sequenced, count_of, move_walked}
 
 -- the levels left, then the text left, as one number: a text is shorter than 2 ^ 64
 abbrev pub lexicographic : ℕ → ℕ → ℕ
 lexicographic levels text = levels * 2 ^ 64 + text
 
 module _ (s : List ℕ) (stop : ℕ) (level : ℕ) where
-  pub came_here : (at count : ℕ) → at ≤ length s → count ≤ at → Came s stop level at count at count
-  came_here at count h k = record { same = λ os l. refl; forth = le_refl at; within = h; counted = k }
-
   pub came_on : {start moves at count to total : ℕ} → Came s stop level start moves at count → Came s stop level at count to total
       → Came s stop level start moves to total
   came_on p q = record { same = λ os l. p.same os l ∙ q.same os l; forth = le_trans p.forth q.forth; within = q.within; counted = q.counted }
@@ -46,27 +43,18 @@ module _ (s : List ℕ) (stop : ℕ) (level : ℕ) where
   sequence_after p (Found from size deep) q = over_on p q
   sequence_after p (Ended total number place) q = over_on p q
 
--- what a walker promises in the case that it came to
+-- what a sequence promises in the case that it came to
 module _ {s : List ℕ} {stop : ℕ} {level start moves : ℕ} {w : Walked} {at count : ℕ} (e : w ≡ On at count) where
   pub sequence_on : Sequenced s stop level start moves w → Sequenced s stop level start moves (On at count)
   sequence_on p = subst (Sequenced s stop level start moves) e p
-
-  pub variation_on : Varied s stop level start moves w → Varied s stop level start moves (On at count)
-  variation_on p = subst (Varied s stop level start moves) e p
 
 module _ (s : List ℕ) (stop : ℕ) (level start moves : ℕ) {w : Walked} {from size deep : ℕ} (e : w ≡ Found from size deep) where
   pub sequence_found : Sequenced s stop level start moves w → Over s stop level start moves (Found from size deep)
   sequence_found p = subst (Sequenced s stop level start moves) e p
 
-  pub variation_found : Varied s stop level start moves w → Over s stop level start moves (Found from size deep)
-  variation_found p = subst (Varied s stop level start moves) e p
-
 module _ (s : List ℕ) (stop : ℕ) (level start moves : ℕ) {w : Walked} {count number place : ℕ} (e : w ≡ Ended count number place) where
   pub sequence_over : Sequenced s stop level start moves w → Over s stop level start moves (Ended count number place)
   sequence_over p = subst (Sequenced s stop level start moves) e p
-
-  pub variation_over : Varied s stop level start moves w → Over s stop level start moves (Ended count number place)
-  variation_over p = subst (Varied s stop level start moves) e p
 
 -- ---- one token
 module _ (s : List ℕ) (stop : ℕ) (level at count : ℕ) (h : at < length s) (k : count ≤ at) where

@@ -1,4 +1,6 @@
 // PGN move text (document 02, order 8): the check of a whole text, and the next move from a place.
+#![tactic(auto)]
+
 mod bytes;
 mod reader;
 mod token;

@@ -6,7 +6,7 @@ ghost use Rattle.pgn.specs.Reader.{placed};
 use crate::next;
 use pgn_text::PgnMove;
 
-#[derive(Drop)]
+#[derive(Clone, Copy)]
 pub struct Reader<'a> {
     pub text: &'a [u8],
     pub offset: u64,

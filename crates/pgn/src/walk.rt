@@ -21,7 +21,7 @@ pub(crate) const ANYWHERE: u64 = 9;
 
 // Where a walker has stopped: to go on from an offset, with the moves counted so far; at a move, by its start, its length and its level; or at the end of the
 // whole walk, with the moves counted, an answer number and its offset.
-#[derive(Drop)]
+#[derive(Clone, Copy)]
 pub(crate) enum Walked {
     On(usize, usize),
     Found(usize, usize, u64),

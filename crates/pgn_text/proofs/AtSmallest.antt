@@ -59,8 +59,8 @@ main_at_smallest = record {
 }
 
 pub between_rows : BetweenAtSmallest
-unfolding crossed_from cross cross_met is_white is_digit is_letter starts_move is_sign in_move in_run onward run_length begins_with number brace_comment line_comment glyph
-    is_result token ascii at_end met walk walk_from move_found no_move_found first_move next_move across_with next_across
+unfolding crossed_from cross cross_met is_white is_digit is_letter starts_move is_sign in_move in_run onward run_length begins_with number brace_comment
+    line_comment glyph is_result token ascii at_end met walk walk_from move_found no_move_found first_move next_move across_with next_across
 between_rows = record {
   two = (refl, refl, refl);
   one = (refl, refl, refl);

@@ -1,7 +1,8 @@
 // What PGN move text says (document 02, order 8): definitions and theorems in specs/ and proofs/. The code that meets them is in crate pgn.
+#![tactic(auto)]
 
 // Bytes that continue a token.
-#[derive(Drop)]
+#[derive(Clone, Copy)]
 pub enum Run {
     Digits,
     Periods,
@@ -11,7 +12,7 @@ pub enum Run {
 }
 
 // What stands at a place. A token has its first byte and as many more as its number says.
-#[derive(Drop)]
+#[derive(Clone, Copy)]
 pub enum Token {
     Passed(usize),
     Move(usize),
@@ -24,7 +25,7 @@ pub enum Token {
 
 // What the check of a whole text answers: its number with the offset of a refusal, and how many moves there are.
 #[repr(C)]
-#[derive(Drop)]
+#[derive(Clone, Copy)]
 pub struct PgnCount {
     pub number: u64,
     pub offset: u64,
@@ -34,7 +35,7 @@ pub struct PgnCount {
 // What a call for the next move answers: its number with the offset of a refusal, whether there is a move, which part of the text holds it, and its
 // level.
 #[repr(C)]
-#[derive(Drop)]
+#[derive(Clone, Copy)]
 pub struct PgnMove {
     pub number: u64,
     pub offset: u64,
@@ -46,7 +47,7 @@ pub struct PgnMove {
 
 // How many brackets are closed before the next move from a place, and then opened.
 #[repr(C)]
-#[derive(Drop)]
+#[derive(Clone, Copy)]
 pub struct Crossed {
     pub closed: u64,
     pub opened: u64,
@@ -54,7 +55,7 @@ pub struct Crossed {
 
 // What the host's call for the next move answers: both in one. Without a move nothing is crossed.
 #[repr(C)]
-#[derive(Drop)]
+#[derive(Clone, Copy)]
 pub struct PgnNext {
     pub number: u64,
     pub offset: u64,

@@ -63,7 +63,8 @@ same_moves p q bp bq (suc k) at hp hq =
 
 -- the same with the length's byte in front
 pub same_lists : (p q : List ℕ) → AllBytes p → AllBytes q → length p ≡ position_size → length q ≡ position_size
-    → same (take (moves_at + 2 * get_or p length_at 0 - length_at) (drop length_at p)) (take (moves_at + 2 * get_or p length_at 0 - length_at) (drop length_at q))
+    → same (take (moves_at + 2 * get_or p length_at 0 - length_at) (drop length_at p))
+    (take (moves_at + 2 * get_or p length_at 0 - length_at) (drop length_at q))
     ≡ same (position_of p).moves (position_of q).moves
 unfolding same position_of
 same_lists p q bp bq hp hq =

@@ -1,4 +1,6 @@
 // The positions part of a log, after game.rs: where a position lies, when two are equal, and whether the last equals two earlier ones.
+#![tactic(auto)]
+
 ghost use Rattle.std.specs.Prelude.{◌≡◌, cond, List, [], ◌∷◌, ◌++◌, ℕ, ◌+◌, ◌*◌, ◌-◌, ◌<◌, ◌≤◌, leb, length};
 ghost use Rattle.answer.specs.Parts.{item};
 ghost use Rattle.position.specs.Layout.{IsItem, position_size, position_of, position_at, positions_from};
@@ -93,7 +95,7 @@ pub fn equals_two_earlier(ps: &[u8], first: usize, last: usize) -> bool
 }
 
 // How many earlier positions equal one, and the numbers of the two earliest; 0 where there is none.
-#[derive(Drop)]
+#[derive(Clone, Copy)]
 pub struct Places {
     pub count: u64,
     pub first: u64,

@@ -5,7 +5,7 @@ use Prim.Native.Nat.{ℕ, zero, suc, ◌+◌, ◌≤◌, ◌<◌, zero-le}
 use native.Mathlib.Numerals.{add-one}
 use native.Mathlib.Omega.{arith}
 use mathlib.Core.Path.{◌≡◌, refl, sym, ap, ◌∙◌}
-use mathlib.Core.Bool.{Bool, true, false, cond, not, ◌&&◌, ◌||◌, and_false, or_true, true≢false}
+use mathlib.Core.Bool.{Bool, true, false, cond, not, ◌&&◌, ◌||◌, and-false, or-true, true≢false}
 use mathlib.Core.List.{List}
 use lib.Dec.{eqb}
 use lib.ListN.{length, get_or, set, replicate, length-set, length-replicate}
@@ -45,7 +45,7 @@ module _ (counts : ℕ → Bool) (alike : ℕ → ℕ → Bool) where
 
   pub found_other : (i k : ℕ) → alike k i ≡ false → found_below counts alike i (k + 1) ≡ found_below counts alike i k
   unfolding found_below
-  found_other i k e = rw (add-one k, e, and_false (counts k))
+  found_other i k e = rw (add-one k, e, and-false (counts k))
 
   -- what is found for a line like line i is found for line i
   found_passes : Passes alike → (i k m : ℕ) → alike k i ≡ true → found_below counts alike k m ≡ true → found_below counts alike i m ≡ true
@@ -57,7 +57,7 @@ module _ (counts : ℕ → Bool) (alike : ℕ → ℕ → Bool) where
           → (found_below counts alike k m ≡ true → found_below counts alike i m ≡ true)
           → (t && alike m i) || found_below counts alike i m ≡ true
       go true true g f was = rw (passes m k i g e)
-      go true false g f was = rw (was f) (or_true (alike m i))
+      go true false g f was = rw (was f) (or-true (alike m i))
       go false u g f was = was f
 
   pub new_counts : (k : ℕ) → is_new counts alike k ≡ true → counts k ≡ true
@@ -67,7 +67,7 @@ module _ (counts : ℕ → Bool) (alike : ℕ → ℕ → Bool) where
   is_new_fact k e f = rw (e, f)
 
   pub old_found : (k : ℕ) → found_below counts alike k k ≡ true → is_new counts alike k ≡ false
-  old_found k f = rw f (and_false (counts k))
+  old_found k f = rw f (and-false (counts k))
 
   pub old_not_counted : (k : ℕ) → counts k ≡ false → is_new counts alike k ≡ false
   old_not_counted k e = rw e
@@ -90,7 +90,7 @@ module _ (counts : ℕ → Bool) (alike : ℕ → ℕ → Bool) where
     latest_old b k e = latest_not b k (rw e)
 
     pub latest_other : (b k : ℕ) → (bucket k ≡ b → ⊥) → latest counts alike bucket b (k + 1) ≡ latest counts alike bucket b k
-    latest_other b k n = latest_not b k (rw (ne_eqb (bucket k) b n) (and_false (is_new counts alike k)))
+    latest_other b k n = latest_not b k (rw (ne_eqb (bucket k) b n) (and-false (is_new counts alike k)))
 
     pub latest_le : (b k : ℕ) → latest counts alike bucket b k ≤ k
     unfolding latest

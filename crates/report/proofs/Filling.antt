@@ -7,12 +7,11 @@ use Prim.Native.Nat.{ℕ, zero, suc, ◌+◌, ◌*◌, ◌-◌, ◌≤◌, ◌<�
 use native.Mathlib.Omega.{arith}
 use lib.Dec.{eqb}
 use lib.ListN.{length, take, drop, get_or, length-append}
-use lib.Seq.{take_at, take_all}
+use lib.Seq.{take_all}
 use borrow.Author.Tests.{eqb-true, eqb-false, lt-ltb, le-ltb}
 use Rattle.answer.specs.Answer.{log_full}
 use Rattle.answer.specs.declared.Answer.{Answer}
 use Rattle.answer.specs.Numbers.{all_at_most, same}
-use Rattle.board_builder.specs.declared.BoardBuilder.{BoardBuilder}
 use Rattle.board_builder.specs.BoardBuilder.{squares, record_size, numbers}
 use Rattle.board_builder.proofs.Ranges.{in_range_lem}
 use Rattle.fen_text.specs.declared.Fen.{Fen}
@@ -27,7 +26,7 @@ use Rattle.report_text.specs.Report.{refused_report, report_answer, report_recor
 use Rattle.report_text.specs.Repeats.{repeats_below, taken_at}
 use Rattle.report_text.proofs.Sets.{one_most}
 use Rattle.report_text.proofs.Figures.{said_from, taken_next, taken_squares, men_snoc, refused_and_taken, repeats_are_repeated}
-use Rattle.report.specs.CodeRooms.{counts_at, record_at, alike_in, counted_below, men_below, Rooms, Filled, MenSums}
+use Rattle.report.specs.CodeRooms.{counts_at, alike_in, counted_below, men_below, Rooms, Filled, MenSums}
 
 -- ---- the figures over the rooms
 

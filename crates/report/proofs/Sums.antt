@@ -137,7 +137,8 @@ module _ (records told : List ℕ) (k : ℕ) (men buckets : List ℕ) where
       rw e (refl, (record { long = long; each = λ j h. omega arith }, refl))
 
   -- of one that counts, its men and its bucket
-  pub line_noted : {here men' : List ℕ} {r : ℕ} → get_or told (k * 2) 0 ≡ 0 → here ≡ record_at records k → r ≡ bucket_of here → Added (take squares here) men men'
+  pub line_noted : {here men' : List ℕ} {r : ℕ} → get_or told (k * 2) 0 ≡ 0 → here ≡ record_at records k → r ≡ bucket_of here
+      → Added (take squares here) men men'
       → NotedAt records told k 1 men men' buckets (set buckets k r)
   line_noted {men' = men'} {r = r} z f b a =
       let e : counts_at told k ≡ true = eq-eqb (get_or told (told_size * k) 0) 0 (sym (told_at told k) ∙ z) in
@@ -209,7 +210,8 @@ module _ {records told buckets : List ℕ} {k : ℕ} (so_far : Bucketed records 
       → Bucketed records told buckets' (k + 1)
   bucket_more {buckets'} h b = go (counts_at told k) refl b
     where
-      go : (t : Bool) → counts_at told k ≡ t → buckets' ≡ cond t (set buckets k (bucket_of (record_at records k))) buckets → Bucketed records told buckets' (k + 1)
+      go : (t : Bool) → counts_at told k ≡ t → buckets' ≡ cond t (set buckets k (bucket_of (record_at records k))) buckets
+          → Bucketed records told buckets' (k + 1)
       go true e f = rw f (bucket_noted h)
       go false e f = rw f (bucket_left e)
 

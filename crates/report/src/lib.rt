@@ -1,4 +1,6 @@
 // The evening report over a page of FENs: the page call fills the two rooms, and the figures are counted over what it left there.
+#![tactic(auto)]
+
 mod men;
 mod repeats;
 mod rooms;

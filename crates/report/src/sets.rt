@@ -62,7 +62,7 @@ fn plane(a: u64, b: u64, c: u64, d: u64) -> u64
 }
 
 // For each bit of a code, by its value, the set of the squares whose codes have it.
-#[derive(Drop)]
+#[derive(Clone, Copy)]
 pub struct Planes {
     pub one: u64,
     pub two: u64,
@@ -88,7 +88,7 @@ pub(crate) fn planes_of(places: &[u8]) -> Planes
 }
 
 // All squares, parted by two bits of their codes.
-#[derive(Drop)]
+#[derive(Clone, Copy)]
 pub struct Quarters {
     pub none: u64,
     pub first: u64,

@@ -17,8 +17,8 @@ use Rattle.report_text.specs.Sets.{set_of}
 use Rattle.report_text.specs.AtSmallest.{ReportsAtSmallest, RefusalsAtSmallest, SetsAtSmallest}
 
 pub reports_at_smallest : ReportsAtSmallest
-unfolding ascii among same read_square piece_of numbers onto joined tokens place_after place_where place_byte place_all side_of rights_of sided assembled of_tokens
-    read_fen lines page_fits with_taken taken_records refused_lines squares_with men_with has_record repeated_behind report_answer
+unfolding ascii among same read_square piece_of numbers onto joined tokens place_after place_where place_byte place_all side_of rights_of sided assembled
+    of_tokens read_fen lines page_fits with_taken taken_records refused_lines squares_with men_with has_record repeated_behind report_answer
 reports_at_smallest = record {
   no_line = refl;
   empty_line = refl;
@@ -39,9 +39,9 @@ reports_at_smallest = record {
 }
 
 pub refusals_at_smallest : RefusalsAtSmallest
-unfolding ascii among same read_square piece_of numbers onto joined tokens place_after place_where place_byte place_all side_of rights_of sided assembled of_tokens
-    read_fen lines over_lines page_fits records_left told_left with_taken taken_records refused_lines squares_with men_with has_record repeated_behind
-    report_answer report_records report_told
+unfolding ascii among same read_square piece_of numbers onto joined tokens place_after place_where place_byte place_all side_of rights_of sided assembled
+    of_tokens read_fen lines over_lines page_fits records_left told_left with_taken taken_records refused_lines squares_with men_with has_record
+    repeated_behind report_answer report_records report_told
 refusals_at_smallest = record {
   too_many = refl;
   as_many = refl;

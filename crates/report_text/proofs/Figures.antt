@@ -101,7 +101,8 @@ unfolding squares_with
 empty_squares code zero h = refl
 empty_squares code (suc n) h = rw (ne_eqb 0 code (λ e. omega arith), empty_squares code n h)
 
-men_on : (code : ℕ) → 1 ≤ code → (l : List ℕ) → cond (is_taken l) (squares_with code (take squares (record_of l))) 0 ≡ squares_with code (read_fen l).board.pieces
+men_on : (code : ℕ) → 1 ≤ code → (l : List ℕ)
+    → cond (is_taken l) (squares_with code (take squares (record_of l))) 0 ≡ squares_with code (read_fen l).board.pieces
 men_on code h l = go (is_taken l) refl
   where
     go : (t : Bool) → is_taken l ≡ t → cond t (squares_with code (take squares (record_of l))) 0 ≡ squares_with code (read_fen l).board.pieces

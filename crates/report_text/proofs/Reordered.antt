@@ -1,6 +1,6 @@
 -- Lines, or records, in another order: what is counted over them stays the same.
 -- Assumes nothing.
-use mathlib.Core.Path.{◌≡◌, refl, ap, ap₂, ◌∙◌}
+use mathlib.Core.Path.{◌≡◌, refl, ap, ap₂, subst, ◌∙◌}
 use mathlib.Core.Bool.{Bool, true, false, ◌||◌}
 use mathlib.Core.List.{List, [], ◌∷◌, ◌++◌, append-nil}
 use Prim.Native.Nat.{ℕ, ◌+◌}
@@ -77,8 +77,8 @@ reordered_again (keep x p) = ap₂ (λ (t : Bool) (n : ℕ). one t + n) (reorder
 reordered_again (swap x y a) = go (same x y) (same y x) refl refl
   where
     go : (t u : Bool) → same x y ≡ t → same y x ≡ u → stood_again (x ∷ y ∷ a) ≡ stood_again (y ∷ x ∷ a)
-    go true u e f = rw (same_eq x y e)
-    go false true e f = rw (same_eq y x f)
+    go true u e f = subst (λ (z : List ℕ). stood_again (x ∷ z ∷ a) ≡ stood_again (z ∷ x ∷ a)) (same_eq x y e) refl
+    go false true e f = subst (λ (z : List ℕ). stood_again (z ∷ y ∷ a) ≡ stood_again (y ∷ z ∷ a)) (same_eq y x f) refl
     go false false e f = rw (e, f) (omega arith)
 reordered_again (twice p q) = reordered_again p ∙ reordered_again q
 

@@ -8,7 +8,8 @@ use Rattle.fen_text.specs.Read.{read_fen}
 use Rattle.fen_text.specs.Lines.{lines}
 use Rattle.fen_text.specs.Page.{line_count, page_fits, page_answer, records_left, told_left}
 use Rattle.report_text.specs.declared.Report.{Report}
-use Rattle.report_text.specs.Report.{one, is_taken, taken_records, squares_with, men_with, has_record, refused_report, report_answer, report_records, report_told}
+use Rattle.report_text.specs.Report.{one, is_taken, taken_records, squares_with, men_with, has_record, refused_report, report_answer, report_records}
+use Rattle.report_text.specs.Report.{report_told}
 use Rattle.report_text.specs.Repeats.{repeats_below, taken_at, alike_at}
 
 -- ---- "Every figure equals its count over the single reader's answers."

@@ -25,7 +25,8 @@ use Rattle.roll_text.specs.declared.Counters.TheVariants.{Counts, Wrong}
 use Rattle.roll_text.specs.declared.Roll.{Roll}
 use Rattle.roll_text.specs.Number.{read_number}
 use Rattle.roll_text.specs.Roll.{Start, Front, stopped, front, Acts, halted, acts, Rolled, refusal, largest_numbers, is_code, moved_by}
-use Rattle.roll_text.specs.Roll.{coded, read_entry, put_action, next_action, read_numbers, read_actions, with_actions, with_count, with_counts, with_front, read_by}
+use Rattle.roll_text.specs.Roll.{coded, read_entry, put_action, next_action, read_numbers, read_actions, with_actions, with_count, with_counts, with_front}
+use Rattle.roll_text.specs.Roll.{read_by}
 use Rattle.roll_text.specs.Roll.{full_by, half_by, read_counters, start_board}
 use Rattle.roll_text.specs.Calls.{front_number, acts_number, acts_over, is_acts, roll_answer, roll_over, judged_by}
 use Rattle.roll_reader.specs.CodeStart.{start_long, Started}
@@ -185,7 +186,8 @@ over_acts xs n (acts bs) part = refl
 pub written_over : (x : Rolled) (xs : Start) (n : ℕ) (a : Acts) (part out : List ℕ) → x ≡ with_actions xs n a → out ≡ acts_over a part → out ≡ roll_over x part
 written_over x xs n a part out e f = f ∙ over_acts xs n a part ∙ ap (λ (y : Rolled). roll_over y part) (sym e)
 
-answer_acts : (xs : Start) (n : ℕ) (x : Acts) → is_acts x ≡ true → roll_answer (with_actions xs n x) ≡ record { number = 0; actions = n; board = start_board xs }
+answer_acts : (xs : Start) (n : ℕ) (x : Acts) → is_acts x ≡ true → roll_answer (with_actions xs n x)
+    ≡ record { number = 0; actions = n; board = start_board xs }
 unfolding with_actions is_acts roll_answer
 answer_acts xs n (halted k) e = let z : ◌≡◌ {A = ℕ} 0 1 = cc in absurd (omega arith)
 answer_acts xs n (acts bs) e = refl
@@ -195,7 +197,8 @@ board_front s =
     let a : take 64 (take 68 s) ≡ take 64 s = take-take 64 68 s (omega arith) in
     simp (a, get_or-take 68 s 64 0 (omega arith), get_or-take 68 s 65 0 (omega arith), get_or-take 68 s 66 0 (omega arith), get_or-take 68 s 67 0 (omega arith))
 
-pub roll_answer_lem : (x : Rolled) (s : List ℕ) (half full n : ℕ) (a : Acts) (b : BoardBuilder) → x ≡ with_actions (start_with s half full) n a → is_acts a ≡ true
+pub roll_answer_lem : (x : Rolled) (s : List ℕ) (half full n : ℕ) (a : Acts) (b : BoardBuilder) → x ≡ with_actions (start_with s half full) n a
+    → is_acts a ≡ true
     → b ≡ with_counters (board_of s) half full → ◌≡◌ {A = Roll} (record { number = 0; actions = n; board = b }) (roll_answer x)
 roll_answer_lem x s half full n a b e f g =
     ap (λ (c : BoardBuilder). record { number = 0; actions = n; board = c }) (g ∙ ap (λ (c : BoardBuilder). with_counters c half full) (board_front s))

@@ -58,7 +58,8 @@ number_stopped k = refl
 
 module _ (i : ℕ) (s t : List ℕ) (x : Number) (most : ℕ) (h : i < 68) (rest : t ≡ drop i s) (is : x ≡ read_number t) (bound : most ≡ get_or largest_numbers
     i 0) where
-  on : (y : Number) → x ≡ y → read_numbers (drop i largest_numbers) (drop i s) ≡ one_number most y (drop i s) (λ u. read_numbers (drop (suc i) largest_numbers) u)
+  on : (y : Number) → x ≡ y → read_numbers (drop i largest_numbers) (drop i s)
+      ≡ one_number most y (drop i s) (λ u. read_numbers (drop (suc i) largest_numbers) u)
   on y e =
       let n : read_number (drop i s) ≡ y = sym (is ∙ ap read_number rest) ∙ e in
       ap (λ (l : List ℕ). read_numbers l (drop i s)) (drop-cons largest_numbers i 0 (omega (arith, long_bounds)))
@@ -76,7 +77,8 @@ module _ (i : ℕ) (s t : List ℕ) (x : Number) (most : ℕ) (h : i < 68) (rest
       ∙ number_put n (read_numbers (drop (suc i) largest_numbers) (drop size (drop i s)))
       ∙ rw (d, add-one i)
 
-  pub number_over : (n size total : ℕ) → x ≡ Got n size → most < n → total ≡ front_number (read_numbers (drop i largest_numbers) (drop i s)) → out_of_range ≡ total
+  pub number_over : (n size total : ℕ) → x ≡ Got n size → most < n → total ≡ front_number (read_numbers (drop i largest_numbers) (drop i s))
+      → out_of_range ≡ total
   number_over n size total e l f =
       sym (f ∙ ap front_number (on (Got n size) e ∙ one_over most n size (drop i s) (λ u. read_numbers (drop (suc i) largest_numbers) u) l) ∙
       number_stopped out_of_range)

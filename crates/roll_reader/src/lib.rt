@@ -1,4 +1,6 @@
 // Reads a game roll (document 02, orders 1 and 12).
+#![tactic(auto)]
+
 ghost use Rattle.std.specs.Prelude.{◌≡◌, true, ◌+◌, ◌*◌, ◌≤◌, ◌<◌, length, take, drop, get_or};
 ghost use Rattle.answer.specs.Parts.{written};
 ghost use Rattle.board_builder.specs.BoardBuilder.{record_size, board_of, with_counters};
@@ -20,7 +22,7 @@ use game_rules::{ACTIONS_LENGTH, MAX_ACTIONS, MAX_MOVES};
 use roll_text::{Counters, Entry, Number, Roll};
 
 // What a look at a roll answers: a number of document 01's table, how many actions the roll has, and its start's counters.
-#[derive(Drop)]
+#[derive(Clone, Copy)]
 pub struct Checked {
     pub number: u64,
     pub actions: u64,

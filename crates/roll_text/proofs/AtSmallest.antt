@@ -19,8 +19,8 @@ numbers_at_smallest =
     record { one_group = refl; lowest_first = refl; reads = refl; cut_short = refl; needless = refl; six_groups = refl; five_groups = refl }
 
 pub reading_at_smallest : ReadingAtSmallest
-unfolding numbers behind read_groups largest_numbers is_code put_number one_number read_numbers moved_by coded put_action next_action read_actions with_actions with_count
-    with_counts with_front full_by half_by read_counters read_by roll_answer judged_by
+unfolding numbers behind read_groups largest_numbers is_code put_number one_number read_numbers moved_by coded put_action next_action read_actions
+    with_actions with_count with_counts with_front full_by half_by read_counters read_by roll_answer judged_by
 reading_at_smallest =
     record {
       gives_16 = refl;
@@ -49,8 +49,8 @@ reading_at_smallest =
     }
 
 pub old_reading_at_smallest : OldReadingAtSmallest
-unfolding numbers behind read_groups largest_numbers is_code put_number one_number read_numbers moved_by coded put_action next_action read_actions with_actions with_count
-    with_counts with_front full_by half_by read_counters read_by roll_answer judged_by
+unfolding numbers behind read_groups largest_numbers is_code put_number one_number read_numbers moved_by coded put_action next_action read_actions
+    with_actions with_count with_counts with_front full_by half_by read_counters read_by roll_answer judged_by
 old_reading_at_smallest =
     record {
       accepted = refl;
@@ -66,9 +66,9 @@ old_reading_at_smallest =
     }
 
 pub writing_at_smallest : WritingAtSmallest
-unfolding write_answer all_at_most in_range numbers action_of moves_by_kind actions_held groups behind read_groups largest_numbers numbers_text counts_text action_text
-    actions_text text_by is_code put_number one_number read_numbers coded put_action next_action read_actions with_actions with_count with_counts with_front read_counters
-    read_by roll_answer judged_by write_check
+unfolding write_answer all_at_most in_range numbers action_of moves_by_kind actions_held groups behind read_groups largest_numbers numbers_text counts_text
+    action_text actions_text text_by is_code put_number one_number read_numbers coded put_action next_action read_actions with_actions with_count with_counts
+    with_front read_counters read_by roll_answer judged_by write_check
 writing_at_smallest =
     record {
       gives_16 = refl;

@@ -13,10 +13,9 @@ use Rattle.roll_text.specs.Roll.{with_counts, with_front}
 use Rattle.roll_text.specs.WholeAtSmallest.{WholeAtSmallest}
 
 pub whole_at_smallest : WholeAtSmallest
-unfolding all_at_most in_range numbers action_of actions_held moves_by_kind judged_by roll_answer roll_over write_check behind groups read_groups action_text actions_text
-    coded
-    counts_text full_by half_by is_code largest_numbers moved_by next_action numbers_text one_number put_action put_number read_actions read_by read_counters read_numbers
-    text_by with_actions with_count with_counts with_front
+unfolding all_at_most in_range numbers action_of actions_held moves_by_kind judged_by roll_answer roll_over write_check behind groups read_groups action_text
+    actions_text coded counts_text full_by half_by is_code largest_numbers moved_by next_action numbers_text one_number put_action put_number read_actions
+    read_by read_counters read_numbers text_by with_actions with_count with_counts with_front
 whole_at_smallest =
     record {
       written = refl;

@@ -22,7 +22,8 @@ unfoldable pub move_in_range : ℕ → ℕ → Bool
 move_in_range colour move = cond (eqb colour 0) (leb move last_move) false
 
 unfoldable pub action_in_range : ℕ → ℕ → ℕ → Bool
-action_in_range kind colour move = cond (eqb kind 1) (move_in_range colour move) (cond (leb colour 1) (cond (eqb move 0) (is_code (code_of kind colour)) false) false)
+action_in_range kind colour move =
+    cond (eqb kind 1) (move_in_range colour move) (cond (leb colour 1) (cond (eqb move 0) (is_code (code_of kind colour)) false) false)
 
 unfoldable pub actions_in_range : ℕ → List ℕ → Bool
 actions_in_range zero bs = true
@@ -116,7 +117,8 @@ held_fields k c m = go (eqb k 1) (eqb k 2) (eqb k 3) (eqb k 4) (eqb k 5) refl re
     go false true three four five e1 e2 e3 e4 e5 =
         simp (e1, e2) (alone 1 c m (OfferDraw c) ∙ coded (leb c 1) (is_code (code_of k c)) c m (both_colours k c (eqb-true k 2 e2)) (λ l. lt-leb c 1 l))
     go false false true four five e1 e2 e3 e4 e5 =
-        simp (e1, e2, e3) (alone 0 c m AcceptDraw ∙ coded (leb c 0) (is_code (code_of k c)) c m (no_colour k c (eqb-true k 3 e3)) (λ l. lt-leb c 0 (omega arith)))
+        simp (e1, e2, e3)
+        (alone 0 c m AcceptDraw ∙ coded (leb c 0) (is_code (code_of k c)) c m (no_colour k c (eqb-true k 3 e3)) (λ l. lt-leb c 0 (omega arith)))
     go false false false true five e1 e2 e3 e4 e5 =
         simp (e1, e2, e3, e4)
         (alone 0 c m DeclareDraw ∙ coded (leb c 0) (is_code (code_of k c)) c m (no_colour_declared k c (eqb-true k 4 e4)) (λ l. lt-leb c 0 (omega arith)))
@@ -145,7 +147,8 @@ fields_here (k ∷ c ∷ []) h = absurd (omega arith)
 fields_here (k ∷ c ∷ l ∷ []) h = absurd (omega arith)
 fields_here (k ∷ c ∷ l ∷ u ∷ bs) h = refl
 
-pub held_here : (bs : List ℕ) → action_size ≤ length bs → is_held (action_of (take action_size bs)) ≡ action_in_range (kind_at bs) (colour_at bs) (move_number_at bs)
+pub held_here : (bs : List ℕ) → action_size ≤ length bs
+    → is_held (action_of (take action_size bs)) ≡ action_in_range (kind_at bs) (colour_at bs) (move_number_at bs)
 held_here bs h = ap is_held (fields_here bs h) ∙ held_fields (kind_at bs) (colour_at bs) (move_number_at bs)
 
 -- an action behind the first is one of what is left
@@ -156,11 +159,13 @@ at_behind bs i =
 
 first_held : (bs : List ℕ) (n : ℕ) → actions_held bs (n + 1) ≡ (is_held (action_at bs 0) && actions_held (drop action_size bs) n)
 unfolding actions_held
-first_held bs zero = and_true (is_held (action_at bs 0))
+first_held bs zero =
+    and_true (is_held (action_at bs 0))
 first_held bs (suc n) =
     let e : suc n + 1 ≡ suc (n + 1) = omega arith in
     let i : suc n ≡ n + 1 = omega arith in
-    rw (e, first_held bs n, at_behind bs n) (and_assoc (is_held (action_at bs 0)) (actions_held (drop action_size bs) n) (is_held (action_at (drop action_size bs) n)))
+    rw (e, first_held bs n, at_behind bs n)
+    (and_assoc (is_held (action_at bs 0)) (actions_held (drop action_size bs) n) (is_held (action_at (drop action_size bs) n)))
 
 pub held_in_range : (n : ℕ) (bs : List ℕ) → action_size * n ≤ length bs → actions_held bs n ≡ actions_in_range n bs
 unfolding actions_held actions_in_range

@@ -81,7 +81,8 @@ pub moved_over : (size move more : ℕ) → last_move < move → moved_by size (
 unfolding moved_by
 moved_over size move more h = simp (lt-leb _ _ h)
 
-plain_back : (full : Bool) (code : ℕ) (rest : List ℕ) → is_code code ≡ true → read_entry full (number_text code ++ rest) ≡ Plain code (length (number_text code))
+plain_back : (full : Bool) (code : ℕ) (rest : List ℕ) → is_code code ≡ true
+    → read_entry full (number_text code ++ rest) ≡ Plain code (length (number_text code))
 plain_back full code rest e =
     let r = code_range code e in
     let b = numbers_read_back code rest (omega (arith, reach_five)) in
@@ -159,7 +160,8 @@ pub action_next : (k c l u left : ℕ) (rest : List ℕ) (go : ℕ → List ℕ 
     256 * u) ≤ left
     → next_action (read_entry (eqb left 0) (action_text k c (l + 256 * u) ++ rest)) left (action_text k c (l + 256 * u) ++ rest) go
     ≡ put_action (k ∷ c ∷ l ∷ u ∷ []) (go (left - one_if_move k c (l + 256 * u)) rest)
-action_next k c l u left rest go hl e few = by (eqb k 1) refl
+action_next k c l u left rest go hl e few =
+    by (eqb k 1) refl
   where
     by : (t : Bool) → eqb k 1 ≡ t
         → next_action (read_entry (eqb left 0) (action_text k c (l + 256 * u) ++ rest)) left (action_text k c (l + 256 * u) ++ rest) go
@@ -176,7 +178,8 @@ action_next k c l u left rest go hl e few = by (eqb k 1) refl
         let high : (l + 256 * u) / 256 ≡ u = omega arith in
         let zero : c ≡ 0 = m.none in
         rw (text, append_assoc (number_text 2) (number_text (l + 256 * u)) rest, some, move_back (l + 256 * u) rest m.last, o)
-        (next_move_lem left (number_text 2 ++ (number_text (l + 256 * u) ++ rest)) (l + 256 * u) (length (number_text 2) + length (number_text (l + 256 * u))) go
+        (next_move_lem left (number_text 2 ++ (number_text (l + 256 * u) ++ rest)) (l + 256 * u)
+        (length (number_text 2) + length (number_text (l + 256 * u))) go
         ∙ rw (behind_both (number_text 2) (number_text (l + 256 * u)) rest, low, high, one, zero))
     by false f =
         let not : k ≡ 1 → ⊥ = eqb-false k 1 f in

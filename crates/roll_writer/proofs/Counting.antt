@@ -80,12 +80,14 @@ module _ (n i : ℕ) (s t : List ℕ) (h : i < n) (rest : t ≡ drop (4 * i) s) 
   less : n - i - 1 ≡ n - (i + 1)
   less = omega arith
 
-  pub text_turn : actions_text (n - i) (drop (4 * i) s) ≡ action_text (kind_at t) (colour_at t) (move_number_at t) ++ actions_text (n - (i + 1)) (drop (4 * (i + 1)) s)
+  pub text_turn : actions_text (n - i) (drop (4 * i) s)
+      ≡ action_text (kind_at t) (colour_at t) (move_number_at t) ++ actions_text (n - (i + 1)) (drop (4 * (i + 1)) s)
   text_turn = text_one (n - i) (drop (4 * i) s) (omega arith) ∙ rw (less, four i s, rest)
 
   pub length_turn : length (actions_text (n - i) (drop (4 * i) s)) ≡ length (action_text (kind_at t) (colour_at t) (move_number_at t)) + length (actions_text
       (n - (i + 1)) (drop (4 * (i + 1)) s))
-  length_turn = ap length text_turn ∙ length-append (action_text (kind_at t) (colour_at t) (move_number_at t)) (actions_text (n - (i + 1)) (drop (4 * (i + 1)) s))
+  length_turn = ap length text_turn ∙ length-append (action_text (kind_at t) (colour_at t) (move_number_at t))
+      (actions_text (n - (i + 1)) (drop (4 * (i + 1)) s))
 
 pub text_end : (n i : ℕ) (s : List ℕ) → n ≤ i → actions_text (n - i) s ≡ []
 unfolding actions_text

@@ -72,7 +72,8 @@ at_move bs h one = go (eqb c 0) (leb m last_move) refl refl
         let code : code_of (kind_at bs) (colour_at bs) ≡ 2 = omega (arith, one, eqb-true (colour_at bs) 0 e) in
         let long = ap length (text_of_move (kind_at bs) (colour_at bs) (move_number_at bs) one)
         ∙ length-append (number_text (code_of (kind_at bs) (colour_at bs))) (number_text (move_number_at bs)) in
-        let two : length (number_text (code_of (kind_at bs) (colour_at bs))) ≡ 1 = ap (λ (k : ℕ). length (number_text k)) code ∙ sym (one_byte 2 (omega arith)) in
+        let two : length (number_text (code_of (kind_at bs) (colour_at bs))) ≡ 1 = ap (λ (k : ℕ). length (number_text k)) code
+        ∙ sym (one_byte 2 (omega arith)) in
         rw (held, long, two) (simp (e, f))
     go true false e f = rw held (simp (e, f))
     go false u e f = rw held (simp e)
@@ -81,7 +82,8 @@ pub at_plain : (bs t : List ℕ) → action_size ≤ length bs → (kind_at bs �
 unfolding size_at
 at_plain bs t h not is = rw is (go (is_held (action_of (take action_size bs))) refl)
   where
-    go : (b : Bool) → is_held (action_of (take action_size bs)) ≡ b → cond b 1 0 ≡ cond b (length (action_text (kind_at bs) (colour_at bs) (move_number_at bs))) 0
+    go : (b : Bool) → is_held (action_of (take action_size bs)) ≡ b → cond b 1 0
+        ≡ cond b (length (action_text (kind_at bs) (colour_at bs) (move_number_at bs))) 0
     go true e =
         let range : action_in_range (kind_at bs) (colour_at bs) (move_number_at bs) ≡ true =
         sym (ap is_held (fields_here bs h) ∙ held_fields (kind_at bs) (colour_at bs) (move_number_at bs)) ∙ e in

@@ -103,7 +103,8 @@ module _ (b : BoardBuilder) (part : List ℕ) (n : ℕ) (good : in_range b ≡ t
   in_parts : game_text b part n ≡ start_text b ++ (number_text n ++ actions_text n part)
   unfolding text_by counts_text start_text
   in_parts =
-      ap (λ (l : List ℕ). l ++ (counts_text true (start_from b) ++ (number_text n ++ actions_text n part))) (start_numbers_lem (numbers b) (numbers_good b good))
+      ap (λ (l : List ℕ). l ++ (counts_text true (start_from b) ++ (number_text n ++ actions_text n part)))
+      (start_numbers_lem (numbers b) (numbers_good b good))
       ∙ sym (append_assoc (numbers b) (counts_text true (start_from b)) (number_text n ++ actions_text n part))
 
   pub text_long : length (game_text b part n) ≡ length (start_text b) + length (number_text n) + length (actions_text n part)

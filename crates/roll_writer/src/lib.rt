@@ -1,4 +1,6 @@
 // Writes a game roll (document 02, orders 1 and 12).
+#![tactic(auto)]
+
 ghost use Rattle.std.specs.Prelude.{◌≡◌, true, cond, ◌+◌, ◌*◌, ◌≤◌, ◌<◌, eqb, ltb, length, drop};
 ghost use Rattle.answer.specs.Answer.{write_answer, write_bytes};
 ghost use Rattle.answer.specs.Parts.{written};

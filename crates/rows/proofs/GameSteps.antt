@@ -14,7 +14,8 @@ use Rattle.fen_text.specs.Token.{joined, onto, place_after, place_where, tokens}
 use Rattle.fen_text.specs.Write.{digit_text, en_passant_text, fen_text, ranks_text, rights_text, run_text, slash_text, tail_text}
 use Rattle.move_list.specs.MoveList.{count, first_of, list_in_range}
 use Rattle.move_rules.specs.After.{after_parts, castles, colour_step, corner, enemy_pawn, file_after, full_after, half_after, one_more, pawn_removed, restarts}
-use Rattle.move_rules.specs.After.{rights_after, rights_without, rook_moved, set_down, squares_after, steps_twice, stood_before, stood_behind, takes_in_passing, two_apart}
+use Rattle.move_rules.specs.After.{rights_after, rights_without, rook_moved, set_down, squares_after, steps_twice, stood_before, stood_behind}
+use Rattle.move_rules.specs.After.{takes_in_passing, two_apart}
 use Rattle.san_text.specs.Form.{castled, read_answer, resolved}
 use Rattle.san_text.specs.Name.{changes_files, head_of, optional, piece_letter, promotion_letter, takes_of}
 use Rattle.san_text.specs.Place.{place_from, square_at}
@@ -35,16 +36,17 @@ use Rattle.game_text.specs.Variations.{entered, moved_on, plays_from, variations
 use Rattle.rows.specs.GameSteps.{StepsInNumbers, GamesInNumbers, VariationsInNumbers}
 
 pub steps_in_numbers : StepsInNumbers
-unfolding write_answer write_bytes ascii all_at_most among same kind_of letter_of piece_of read_square letters_of letters_text in_range place_all place_byte assembled
-    of_tokens read_fen rights_of side_of sided joined onto place_after place_where tokens digit_text en_passant_text fen_text ranks_text rights_text run_text slash_text
-    tail_text count first_of list_in_range after_parts castles colour_step corner enemy_pawn file_after full_after half_after one_more pawn_removed restarts rights_after
-    rights_without rook_moved set_down squares_after steps_twice stood_before stood_behind takes_in_passing two_apart castled read_answer resolved changes_files head_of
-    optional piece_letter promotion_letter takes_of place_from square_at agrees castle castling_move fits sole_that ends_here is_castling read_standard standard_captures
-    standard_castles standard_dest standard_end standard_promotion standard_tail standard_text with_equals after is_check piece_kind piece_or promotion_kind read_file
-    read_piece read_rank read_takes cross cross_met crossed_from begins_with in_move in_run is_digit is_letter is_sign is_white onward run_length starts_move first_main
-    next_main brace_comment glyph is_result line_comment number token at_end first_move met move_found next_move no_move_found part walk walk_from game_along play_on
-    played_in played_on positions_of only speaks_of answers_of bytes_from bytes_read game_step game_step_bytes play_answer step_from step_read step_written stepping played_at
-    played_through entered moved_on plays_from variations_of
+unfolding write_answer write_bytes ascii all_at_most among same kind_of letter_of piece_of read_square letters_of letters_text in_range place_all place_byte
+    assembled of_tokens read_fen rights_of side_of sided joined onto place_after place_where tokens digit_text en_passant_text fen_text ranks_text rights_text
+    run_text slash_text tail_text count first_of list_in_range after_parts castles colour_step corner enemy_pawn file_after full_after half_after one_more
+    pawn_removed restarts rights_after rights_without rook_moved set_down squares_after steps_twice stood_before stood_behind takes_in_passing two_apart
+    castled read_answer resolved changes_files head_of optional piece_letter promotion_letter takes_of place_from square_at agrees castle castling_move fits
+    sole_that ends_here is_castling read_standard standard_captures standard_castles standard_dest standard_end standard_promotion standard_tail standard_text
+    with_equals after is_check piece_kind piece_or promotion_kind read_file read_piece read_rank read_takes cross cross_met crossed_from begins_with in_move
+    in_run is_digit is_letter is_sign is_white onward run_length starts_move first_main next_main brace_comment glyph is_result line_comment number token
+    at_end first_move met move_found next_move no_move_found part walk walk_from game_along play_on played_in played_on positions_of only speaks_of answers_of
+    bytes_from bytes_read game_step game_step_bytes play_answer step_from step_read step_written stepping played_at played_through entered moved_on plays_from
+    variations_of
 steps_in_numbers = record {
   played = refl;
   too_short_fact = refl;
@@ -64,16 +66,17 @@ steps_in_numbers = record {
 }
 
 pub games_in_numbers : GamesInNumbers
-unfolding write_answer write_bytes ascii all_at_most among same kind_of letter_of piece_of read_square letters_of letters_text in_range place_all place_byte assembled
-    of_tokens read_fen rights_of side_of sided joined onto place_after place_where tokens digit_text en_passant_text fen_text ranks_text rights_text run_text slash_text
-    tail_text count first_of list_in_range after_parts castles colour_step corner enemy_pawn file_after full_after half_after one_more pawn_removed restarts rights_after
-    rights_without rook_moved set_down squares_after steps_twice stood_before stood_behind takes_in_passing two_apart castled read_answer resolved changes_files head_of
-    optional piece_letter promotion_letter takes_of place_from square_at agrees castle castling_move fits sole_that ends_here is_castling read_standard standard_captures
-    standard_castles standard_dest standard_end standard_promotion standard_tail standard_text with_equals after is_check piece_kind piece_or promotion_kind read_file
-    read_piece read_rank read_takes cross cross_met crossed_from begins_with in_move in_run is_digit is_letter is_sign is_white onward run_length starts_move first_main
-    next_main brace_comment glyph is_result line_comment number token at_end first_move met move_found next_move no_move_found part walk walk_from game_along play_on
-    played_in played_on positions_of only speaks_of answers_of bytes_from bytes_read game_step game_step_bytes play_answer step_from step_read step_written stepping played_at
-    played_through entered moved_on plays_from variations_of
+unfolding write_answer write_bytes ascii all_at_most among same kind_of letter_of piece_of read_square letters_of letters_text in_range place_all place_byte
+    assembled of_tokens read_fen rights_of side_of sided joined onto place_after place_where tokens digit_text en_passant_text fen_text ranks_text rights_text
+    run_text slash_text tail_text count first_of list_in_range after_parts castles colour_step corner enemy_pawn file_after full_after half_after one_more
+    pawn_removed restarts rights_after rights_without rook_moved set_down squares_after steps_twice stood_before stood_behind takes_in_passing two_apart
+    castled read_answer resolved changes_files head_of optional piece_letter promotion_letter takes_of place_from square_at agrees castle castling_move fits
+    sole_that ends_here is_castling read_standard standard_captures standard_castles standard_dest standard_end standard_promotion standard_tail standard_text
+    with_equals after is_check piece_kind piece_or promotion_kind read_file read_piece read_rank read_takes cross cross_met crossed_from begins_with in_move
+    in_run is_digit is_letter is_sign is_white onward run_length starts_move first_main next_main brace_comment glyph is_result line_comment number token
+    at_end first_move met move_found next_move no_move_found part walk walk_from game_along play_on played_in played_on positions_of only speaks_of answers_of
+    bytes_from bytes_read game_step game_step_bytes play_answer step_from step_read step_written stepping played_at played_through entered moved_on plays_from
+    variations_of
 games_in_numbers = record {
   moves = refl;
   moves_refused = refl;
@@ -88,16 +91,17 @@ games_in_numbers = record {
 }
 
 pub variations_in_numbers : VariationsInNumbers
-unfolding write_answer write_bytes ascii all_at_most among same kind_of letter_of piece_of read_square letters_of letters_text in_range place_all place_byte assembled
-    of_tokens read_fen rights_of side_of sided joined onto place_after place_where tokens digit_text en_passant_text fen_text ranks_text rights_text run_text slash_text
-    tail_text count first_of list_in_range after_parts castles colour_step corner enemy_pawn file_after full_after half_after one_more pawn_removed restarts rights_after
-    rights_without rook_moved set_down squares_after steps_twice stood_before stood_behind takes_in_passing two_apart castled read_answer resolved changes_files head_of
-    optional piece_letter promotion_letter takes_of place_from square_at agrees castle castling_move fits sole_that ends_here is_castling read_standard standard_captures
-    standard_castles standard_dest standard_end standard_promotion standard_tail standard_text with_equals after is_check piece_kind piece_or promotion_kind read_file
-    read_piece read_rank read_takes cross cross_met crossed_from begins_with in_move in_run is_digit is_letter is_sign is_white onward run_length starts_move first_main
-    next_main brace_comment glyph is_result line_comment number token at_end first_move met move_found next_move no_move_found part walk walk_from game_along play_on
-    played_in played_on positions_of only speaks_of answers_of bytes_from bytes_read game_step game_step_bytes play_answer step_from step_read step_written stepping played_at
-    played_through entered moved_on plays_from variations_of
+unfolding write_answer write_bytes ascii all_at_most among same kind_of letter_of piece_of read_square letters_of letters_text in_range place_all place_byte
+    assembled of_tokens read_fen rights_of side_of sided joined onto place_after place_where tokens digit_text en_passant_text fen_text ranks_text rights_text
+    run_text slash_text tail_text count first_of list_in_range after_parts castles colour_step corner enemy_pawn file_after full_after half_after one_more
+    pawn_removed restarts rights_after rights_without rook_moved set_down squares_after steps_twice stood_before stood_behind takes_in_passing two_apart
+    castled read_answer resolved changes_files head_of optional piece_letter promotion_letter takes_of place_from square_at agrees castle castling_move fits
+    sole_that ends_here is_castling read_standard standard_captures standard_castles standard_dest standard_end standard_promotion standard_tail standard_text
+    with_equals after is_check piece_kind piece_or promotion_kind read_file read_piece read_rank read_takes cross cross_met crossed_from begins_with in_move
+    in_run is_digit is_letter is_sign is_white onward run_length starts_move first_main next_main brace_comment glyph is_result line_comment number token
+    at_end first_move met move_found next_move no_move_found part walk walk_from game_along play_on played_in played_on positions_of only speaks_of answers_of
+    bytes_from bytes_read game_step game_step_bytes play_answer step_from step_read step_written stepping played_at played_through entered moved_on plays_from
+    variations_of
 variations_in_numbers = record {
   one_bracket = refl;
   two_brackets = refl;

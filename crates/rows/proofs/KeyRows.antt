@@ -17,9 +17,9 @@ use Rattle.settled_rules.specs.Settled.{own_pawn, settled, settled_answer, settl
 use Rattle.rows.specs.KeyRows.{KeysByTwoCalls}
 
 pub keys_by_two_calls : KeysByTwoCalls
-unfolding write_answer write_bytes ascii all_at_most among letter_of piece_of read_square letters_of letters_text in_range place_all place_byte assembled of_tokens read_fen
-    rights_of side_of sided joined onto place_after place_where tokens digit_text en_passant_text fen_text ranks_text rights_text run_text slash_text tail_text stood_before
-    stood_behind own_pawn settled settled_answer settled_file stepped_pawn stepped_rank usable
+unfolding write_answer write_bytes ascii all_at_most among letter_of piece_of read_square letters_of letters_text in_range place_all place_byte assembled
+    of_tokens read_fen rights_of side_of sided joined onto place_after place_where tokens digit_text en_passant_text fen_text ranks_text rights_text run_text
+    slash_text tail_text stood_before stood_behind own_pawn settled settled_answer settled_file stepped_pawn stepped_rank usable
 keys_by_two_calls = record {
   cleared = refl;
   kept = refl;

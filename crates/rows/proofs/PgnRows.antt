@@ -10,9 +10,9 @@ use Rattle.pgn_text.specs.Walk.{at_end, check, counted, end_count, first_move, m
 use Rattle.rows.specs.PgnRows.{BytesBeside, BracketsBetween, WalksFromPlaces, ReaderAtPlace}
 
 pub bytes_beside : BytesBeside
-unfolding ascii across_with cross cross_met crossed_from next_across begins_with in_move in_run is_digit is_letter is_sign is_white onward run_length starts_move end_number
-    end_offset moves_of walked brace_comment glyph is_result line_comment number token at_end check counted end_count first_move met move_found next_move no_move_found
-    part walk walk_from
+unfolding ascii across_with cross cross_met crossed_from next_across begins_with in_move in_run is_digit is_letter is_sign is_white onward run_length
+    starts_move end_number end_offset moves_of walked brace_comment glyph is_result line_comment number token at_end check counted end_count first_move met
+    move_found next_move no_move_found part walk walk_from
 bytes_beside = record {
   white = (refl, refl, refl, refl, refl, refl);
   brace = refl;
@@ -26,9 +26,9 @@ bytes_beside = record {
 }
 
 pub brackets_between : BracketsBetween
-unfolding ascii across_with cross cross_met crossed_from next_across begins_with in_move in_run is_digit is_letter is_sign is_white onward run_length starts_move end_number
-    end_offset moves_of walked brace_comment glyph is_result line_comment number token at_end check counted end_count first_move met move_found next_move no_move_found
-    part walk walk_from
+unfolding ascii across_with cross cross_met crossed_from next_across begins_with in_move in_run is_digit is_letter is_sign is_white onward run_length
+    starts_move end_number end_offset moves_of walked brace_comment glyph is_result line_comment number token at_end check counted end_count first_move met
+    move_found next_move no_move_found part walk walk_from
 brackets_between = record {
   one_left = refl;
   two_left = refl;
@@ -41,9 +41,9 @@ brackets_between = record {
 }
 
 pub walks_from_places : WalksFromPlaces
-unfolding ascii across_with cross cross_met crossed_from next_across begins_with in_move in_run is_digit is_letter is_sign is_white onward run_length starts_move end_number
-    end_offset moves_of walked brace_comment glyph is_result line_comment number token at_end check counted end_count first_move met move_found next_move no_move_found
-    part walk walk_from
+unfolding ascii across_with cross cross_met crossed_from next_across begins_with in_move in_run is_digit is_letter is_sign is_white onward run_length
+    starts_move end_number end_offset moves_of walked brace_comment glyph is_result line_comment number token at_end check counted end_count first_move met
+    move_found next_move no_move_found part walk walk_from
 walks_from_places = record {
   all = refl;
   behind = refl;

@@ -13,25 +13,27 @@ use Rattle.fen_text.specs.Token.{joined, onto, place_after, place_where, tokens}
 use Rattle.chess_move.specs.Coordinate.{promotion_named, read_move, with_dest, with_source}
 use Rattle.move_list.specs.MoveList.{count, first_of, list_in_range}
 use Rattle.san_text.specs.Form.{castled, read_answer, resolved}
-use Rattle.san_text.specs.Name.{candidates, castling_name, changes_files, first_name, head_of, king_first, name_check, name_of, name_text, names, optional, piece_letter}
+use Rattle.san_text.specs.Name.{candidates, castling_name, changes_files, first_name, head_of, king_first, name_check, name_of, name_text, names, optional}
+use Rattle.san_text.specs.Name.{piece_letter}
 use Rattle.san_text.specs.Name.{promotion_letter, takes_of}
 use Rattle.san_text.specs.Paper.{end_of, mark_of, san_text}
 use Rattle.san_text.specs.Place.{place_from, square_at}
 use Rattle.san_text.specs.Resolve.{agrees, capture_test, castle, castling_move, fits, sole_that}
 use Rattle.san_text.specs.Standard.{ends_here, is_castling, read_standard, standard_captures, standard_castles, standard_dest, standard_end, standard_promotion}
 use Rattle.san_text.specs.Standard.{standard_tail, standard_text, with_equals}
-use Rattle.san_text.specs.Text.{after, is_check, piece_kind, piece_or, promotion_kind, read_dest, read_end, read_file, read_piece, read_promotion, read_rank, read_takes}
+use Rattle.san_text.specs.Text.{after, is_check, piece_kind, piece_or, promotion_kind, read_dest, read_end, read_file, read_piece, read_promotion, read_rank}
+use Rattle.san_text.specs.Text.{read_takes}
 use Rattle.san_text.specs.Text.{read_text}
 use Rattle.rows.specs.SanRows.{list_in}
 use Rattle.rows.specs.SanRows.{InDocument01, InTheStandard, FormsByFlag}
 
 pub in_document01 : InDocument01
-unfolding write_answer write_bytes ascii all_at_most among same kind_of piece_of pair_told read_square in_range place_all place_byte assembled of_tokens read_fen rights_of
-    side_of sided joined onto place_after place_where tokens promotion_named read_move with_dest with_source count first_of list_in_range castled read_answer resolved
-    candidates castling_name changes_files first_name head_of king_first name_check name_of name_text names optional piece_letter promotion_letter takes_of end_of mark_of
-    san_text place_from square_at agrees capture_test castle castling_move fits sole_that ends_here is_castling read_standard standard_captures standard_castles
-    standard_dest standard_end standard_promotion standard_tail standard_text with_equals after is_check piece_kind piece_or promotion_kind read_dest read_end read_file
-    read_piece read_promotion read_rank read_takes read_text list_in
+unfolding write_answer write_bytes ascii all_at_most among same kind_of piece_of pair_told read_square in_range place_all place_byte assembled of_tokens
+    read_fen rights_of side_of sided joined onto place_after place_where tokens promotion_named read_move with_dest with_source count first_of list_in_range
+    castled read_answer resolved candidates castling_name changes_files first_name head_of king_first name_check name_of name_text names optional piece_letter
+    promotion_letter takes_of end_of mark_of san_text place_from square_at agrees capture_test castle castling_move fits sole_that ends_here is_castling
+    read_standard standard_captures standard_castles standard_dest standard_end standard_promotion standard_tail standard_text with_equals after is_check
+    piece_kind piece_or promotion_kind read_dest read_end read_file read_piece read_promotion read_rank read_takes read_text list_in
 in_document01 = record {
   long = record { answer = refl; text = refl; back = refl };
   black_short = record { answer = refl; text = refl; back = refl };
@@ -75,12 +77,12 @@ in_document01 = record {
 }
 
 pub in_the_standard : InTheStandard
-unfolding write_answer write_bytes ascii all_at_most among same kind_of piece_of pair_told read_square in_range place_all place_byte assembled of_tokens read_fen rights_of
-    side_of sided joined onto place_after place_where tokens promotion_named read_move with_dest with_source count first_of list_in_range castled read_answer resolved
-    candidates castling_name changes_files first_name head_of king_first name_check name_of name_text names optional piece_letter promotion_letter takes_of end_of mark_of
-    san_text place_from square_at agrees capture_test castle castling_move fits sole_that ends_here is_castling read_standard standard_captures standard_castles
-    standard_dest standard_end standard_promotion standard_tail standard_text with_equals after is_check piece_kind piece_or promotion_kind read_dest read_end read_file
-    read_piece read_promotion read_rank read_takes read_text list_in
+unfolding write_answer write_bytes ascii all_at_most among same kind_of piece_of pair_told read_square in_range place_all place_byte assembled of_tokens
+    read_fen rights_of side_of sided joined onto place_after place_where tokens promotion_named read_move with_dest with_source count first_of list_in_range
+    castled read_answer resolved candidates castling_name changes_files first_name head_of king_first name_check name_of name_text names optional piece_letter
+    promotion_letter takes_of end_of mark_of san_text place_from square_at agrees capture_test castle castling_move fits sole_that ends_here is_castling
+    read_standard standard_captures standard_castles standard_dest standard_end standard_promotion standard_tail standard_text with_equals after is_check
+    piece_kind piece_or promotion_kind read_dest read_end read_file read_piece read_promotion read_rank read_takes read_text list_in
 in_the_standard = record {
   long = record { answer = refl; text = refl; back = refl };
   black_short = record { answer = refl; text = refl; back = refl };
@@ -113,12 +115,12 @@ in_the_standard = record {
 }
 
 pub forms_by_flag : FormsByFlag
-unfolding write_answer write_bytes ascii all_at_most among same kind_of piece_of pair_told read_square in_range place_all place_byte assembled of_tokens read_fen rights_of
-    side_of sided joined onto place_after place_where tokens promotion_named read_move with_dest with_source count first_of list_in_range castled read_answer resolved
-    candidates castling_name changes_files first_name head_of king_first name_check name_of name_text names optional piece_letter promotion_letter takes_of end_of mark_of
-    san_text place_from square_at agrees capture_test castle castling_move fits sole_that ends_here is_castling read_standard standard_captures standard_castles
-    standard_dest standard_end standard_promotion standard_tail standard_text with_equals after is_check piece_kind piece_or promotion_kind read_dest read_end read_file
-    read_piece read_promotion read_rank read_takes read_text list_in
+unfolding write_answer write_bytes ascii all_at_most among same kind_of piece_of pair_told read_square in_range place_all place_byte assembled of_tokens
+    read_fen rights_of side_of sided joined onto place_after place_where tokens promotion_named read_move with_dest with_source count first_of list_in_range
+    castled read_answer resolved candidates castling_name changes_files first_name head_of king_first name_check name_of name_text names optional piece_letter
+    promotion_letter takes_of end_of mark_of san_text place_from square_at agrees capture_test castle castling_move fits sole_that ends_here is_castling
+    read_standard standard_captures standard_castles standard_dest standard_end standard_promotion standard_tail standard_text with_equals after is_check
+    piece_kind piece_or promotion_kind read_dest read_end read_file read_piece read_promotion read_rank read_takes read_text list_in
 forms_by_flag = record {
   standard_read = refl;
   paper_read = refl;

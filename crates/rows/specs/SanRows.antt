@@ -126,7 +126,8 @@ pub record InTheStandard : Type 0 where
   pub comment_behind : StandardSaysNone "8/8/8/8/8/8/8/1N6 w - -" ("b1c3" ∷ []) "Nc3!"
   pub piece_only : StandardSaysNone "8/8/8/8/8/1N6/8/8 w - -" ("b3a1" ∷ []) "N"
   pub file_only : StandardSaysNone "8/8/8/8/8/8/4P3/8 w - -" ("e2a1" ∷ "e2e1" ∷ []) "e"
-  pub room_behind : standard_name_bytes (board_in "8/8/8/8/8/8/8/1N6 w - -") (list_in ("b1c3" ∷ [])) (move_in "b1c3") (replicate 5 9) ≡ ascii "Nc3" ++ (9 ∷ 9 ∷ [])
+  pub room_behind : standard_name_bytes (board_in "8/8/8/8/8/8/8/1N6 w - -") (list_in ("b1c3" ∷ [])) (move_in "b1c3") (replicate 5 9) ≡ ascii "Nc3" ++
+      (9 ∷ 9 ∷ [])
   pub room_short : standard_name_answer (board_in "8/8/8/8/8/8/8/1N6 w - -") (list_in ("b1c3" ∷ [])) (move_in "b1c3") 2 ≡ record { number = 7; value = 3 }
   pub room_left : standard_name_bytes (board_in "8/8/8/8/8/8/8/1N6 w - -") (list_in ("b1c3" ∷ [])) (move_in "b1c3") (replicate 2 9) ≡ replicate 2 9
   pub to_the_right : StandardWrites "8/8/8/3P4/8/8/8/8 w - -" ("d5e6" ∷ []) "d5e6" "dxe6"

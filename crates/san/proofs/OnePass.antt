@@ -189,7 +189,8 @@ module _ (p : ℕ → Bool) where
       let e : back + (i + 1) ≡ back + i + 1 = omega arith in
       rw e (turn_seen l n i (back + i) g h k (before refl) inv)
 
-  pub turn_start : (l : List ℕ) (n back : ℕ) → back ≤ n → Left l (at_front l n 0) (behind l n (back + 0)) (record { above = 0; count = 0; sum = 0; largest = 0 })
+  pub turn_start : (l : List ℕ) (n back : ℕ) → back ≤ n
+      → Left l (at_front l n 0) (behind l n (back + 0)) (record { above = 0; count = 0; sum = 0; largest = 0 })
   turn_start l n back h =
       let e : max n (back + 0) ≡ n = omega arith in
       let z : n - 0 ≡ n = omega arith in

@@ -27,7 +27,8 @@ few_bits true false = omega arith
 few_bits false true = omega arith
 few_bits true true = omega arith
 
-masked : (m : ℕ) (f r : Bool) → m < 65536 → bit_and m (65472 + number_if f 7 + number_if r 56) ≡ m / 64 * 64 + (cond r (m % 64 / 8) 0 * 8 + cond f (m % 64 % 8) 0)
+masked : (m : ℕ) (f r : Bool) → m < 65536
+    → bit_and m (65472 + number_if f 7 + number_if r 56) ≡ m / 64 * 64 + (cond r (m % 64 / 8) 0 * 8 + cond f (m % 64 % 8) 0)
 masked m f r h =
     ap (λ (x : ℕ). bit_and x (65472 + number_if f 7 + number_if r 56)) split
     ∙ ap (λ (x : ℕ). bit_and (m / 64 * 64 + m % 64) x) (joined (number_if f 7) (number_if r 56))

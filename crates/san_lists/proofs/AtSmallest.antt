@@ -32,10 +32,10 @@ lists_at_smallest = record {
 }
 
 in_document_01 : InOneForm (calls_of paper)
-unfolding write_answer write_bytes ascii all_at_most kind_of in_range list_in_range among count first_of place_from square_at same promotion_kind piece_kind is_check
-    after piece_or read_takes read_rank read_file read_piece read_end read_promotion read_dest read_text agrees fits capture_test sole_that castling_move castle castled
-    resolved read_answer optional promotion_letter piece_letter changes_files takes_of head_of candidates names castling_name first_name king_first name_of name_text
-    name_check mark_of end_of san_text
+unfolding write_answer write_bytes ascii all_at_most kind_of in_range list_in_range among count first_of place_from square_at same promotion_kind piece_kind
+    is_check after piece_or read_takes read_rank read_file read_piece read_end read_promotion read_dest read_text agrees fits capture_test sole_that
+    castling_move castle castled resolved read_answer optional promotion_letter piece_letter changes_files takes_of head_of candidates names castling_name
+    first_name king_first name_of name_text name_check mark_of end_of san_text
 in_document_01 = record {
   read = (refl, refl);
   not_alone = (refl, refl);
@@ -55,10 +55,10 @@ in_document_01 = record {
 }
 
 in_the_standard : InOneForm (calls_of standard)
-unfolding write_answer write_bytes ascii all_at_most kind_of in_range list_in_range among count first_of place_from square_at same promotion_kind piece_kind is_check
-    after piece_or read_takes read_rank read_file read_piece ends_here standard_end standard_promotion standard_dest is_castling read_standard agrees fits
-    standard_captures standard_castles sole_that castling_move castle castled resolved read_answer optional promotion_letter piece_letter changes_files takes_of
-    head_of candidates names castling_name first_name king_first name_of name_text name_check with_equals standard_tail standard_text
+unfolding write_answer write_bytes ascii all_at_most kind_of in_range list_in_range among count first_of place_from square_at same promotion_kind piece_kind
+    is_check after piece_or read_takes read_rank read_file read_piece ends_here standard_end standard_promotion standard_dest is_castling read_standard agrees
+    fits standard_captures standard_castles sole_that castling_move castle castled resolved read_answer optional promotion_letter piece_letter changes_files
+    takes_of head_of candidates names castling_name first_name king_first name_of name_text name_check with_equals standard_tail standard_text
 in_the_standard = record {
   read = (refl, refl);
   not_alone = (refl, refl);
@@ -78,11 +78,11 @@ in_the_standard = record {
 }
 
 pub at_smallest : AtSmallest
-unfolding write_answer write_bytes ascii all_at_most kind_of in_range list_in_range among count first_of place_from square_at same promotion_kind piece_kind is_check
-    after piece_or read_takes read_rank read_file read_piece read_end read_promotion read_dest read_text agrees fits capture_test sole_that castling_move castle castled
-    resolved read_answer optional promotion_letter piece_letter changes_files takes_of head_of candidates names castling_name first_name king_first name_of name_text
-    name_check mark_of end_of san_text ends_here standard_end standard_promotion standard_dest is_castling read_standard standard_captures standard_castles with_equals
-    standard_tail standard_text
+unfolding write_answer write_bytes ascii all_at_most kind_of in_range list_in_range among count first_of place_from square_at same promotion_kind piece_kind
+    is_check after piece_or read_takes read_rank read_file read_piece read_end read_promotion read_dest read_text agrees fits capture_test sole_that
+    castling_move castle castled resolved read_answer optional promotion_letter piece_letter changes_files takes_of head_of candidates names castling_name
+    first_name king_first name_of name_text name_check mark_of end_of san_text ends_here standard_end standard_promotion standard_dest is_castling
+    read_standard standard_captures standard_castles with_equals standard_tail standard_text
 at_smallest = record {
   lists = lists_at_smallest;
   paper_form = in_document_01;

@@ -104,9 +104,11 @@ pub record Resolved (F : Form) (b : BoardBuilder) (l text : List ℕ) (m : ℕ) 
 
 pub accepted_so : (F : Form) (b : BoardBuilder) (l text : List ℕ) (m : ℕ) → read_answer F b l text ≡ accepted m → Resolved F b l text m
 unfolding read_answer
-accepted_so F b l text m e = go (in_range b) (list_in_range l) refl refl e
+accepted_so F b l text m e =
+    go (in_range b) (list_in_range l) refl refl e
   where
-    go : (p q : Bool) → in_range b ≡ p → list_in_range l ≡ q → cond p (cond q (resolved F b l (F.read text)) (refused bad_list)) (refused out_of_range) ≡ accepted m
+    go : (p q : Bool) → in_range b ≡ p → list_in_range l ≡ q → cond p (cond q (resolved F b l (F.read text)) (refused bad_list)) (refused out_of_range) ≡
+        accepted m
         → Resolved F b l text m
     go true true p q r = record { record_in_range = p; list_in_range_fact = q; resolves = r }
     go true false p q r = absurd (let z : ◌≡◌ {A = ℕ} 6 0 = ap (λ (a : Answer). a.number) r in omega arith)
@@ -119,9 +121,11 @@ sole_listed f g l m e =
 
 castle_listed : (side file : ℕ) (l : List ℕ) (m : ℕ) → castle side l file ≡ accepted m → among m l ≡ true
 unfolding castle
-castle_listed side file l m e = go (among (castling_move side file) l) refl e
+castle_listed side file l m e =
+    go (among (castling_move side file) l) refl e
   where
-    go : (c : Bool) → among (castling_move side file) l ≡ c → cond c (accepted (castling_move side file)) (refused invalid_san_move) ≡ accepted m → among m l ≡ true
+    go : (c : Bool) → among (castling_move side file) l ≡ c → cond c (accepted (castling_move side file)) (refused invalid_san_move) ≡ accepted m → among
+        m l ≡ true
     go true h q = rw (ap (λ (a : Answer). a.value) q) at h
     go false h q = absurd (refused_not q)
 

@@ -38,7 +38,8 @@ module _ (l k : List ℕ) (r : Reordered l k) where
       answer : ℕ → Answer
       answer m = cond (g m) (accepted m) (refused invalid_san_move)
 
-      go : (b : Bool) → eqb (count f l) 1 ≡ b → cond b (answer (first_of f l)) (refused invalid_san_move) ≡ cond b (answer (first_of f k)) (refused invalid_san_move)
+      go : (b : Bool) → eqb (count f l) 1 ≡ b
+          → cond b (answer (first_of f l)) (refused invalid_san_move) ≡ cond b (answer (first_of f k)) (refused invalid_san_move)
       go true e = ap answer (first_same f (eqb-true (count f l) 1 e))
       go false e = refl
 

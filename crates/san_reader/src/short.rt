@@ -7,7 +7,7 @@ ghost use Rattle.san_reader.specs.CodeShort.{no_short, short_two, short_three, p
 use crate::text::{is_check, piece_kind, place_from};
 
 // What such a text says. Its square counts from 1; 0 says nothing about the text.
-#[derive(Drop)]
+#[derive(Clone, Copy)]
 pub struct Short {
     pub piece: u8,
     pub file: u8,

@@ -18,10 +18,10 @@ use Rattle.san_text.specs.Standard.{standard_castles, with_equals, standard_tail
 use Rattle.san_text.specs.Rows.{StandardRows}
 
 pub standard_rows : StandardRows
-unfolding write_answer write_bytes ascii all_at_most kind_of in_range list_in_range among count first_of place_from square_at same promotion_kind piece_kind is_check after
-    piece_or read_takes read_rank read_file read_piece ends_here standard_end standard_promotion standard_dest is_castling read_standard agrees fits standard_captures
-    standard_castles sole_that castling_move castle castled resolved read_answer optional promotion_letter piece_letter changes_files takes_of head_of candidates names
-    castling_name first_name king_first name_of name_text name_check with_equals standard_tail standard_text
+unfolding write_answer write_bytes ascii all_at_most kind_of in_range list_in_range among count first_of place_from square_at same promotion_kind piece_kind
+    is_check after piece_or read_takes read_rank read_file read_piece ends_here standard_end standard_promotion standard_dest is_castling read_standard agrees
+    fits standard_captures standard_castles sole_that castling_move castle castled resolved read_answer optional promotion_letter piece_letter changes_files
+    takes_of head_of candidates names castling_name first_name king_first name_of name_text name_check with_equals standard_tail standard_text
 standard_rows = record {
   equals = refl;
   no_equals = refl;

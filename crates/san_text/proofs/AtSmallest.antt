@@ -18,10 +18,10 @@ use Rattle.san_text.specs.Paper.{mark_of, end_of, san_text}
 use Rattle.san_text.specs.Slips.{Slips}
 
 pub slips : Slips
-unfolding write_answer write_bytes ascii all_at_most kind_of in_range list_in_range among count first_of place_from square_at same promotion_kind piece_kind is_check
-    after piece_or read_takes read_rank read_file read_piece read_end read_promotion read_dest read_text agrees fits capture_test sole_that castling_move castle castled
-    resolved read_answer optional promotion_letter piece_letter changes_files takes_of head_of candidates names castling_name first_name king_first name_of name_text
-    name_check mark_of end_of san_text
+unfolding write_answer write_bytes ascii all_at_most kind_of in_range list_in_range among count first_of place_from square_at same promotion_kind piece_kind
+    is_check after piece_or read_takes read_rank read_file read_piece read_end read_promotion read_dest read_text agrees fits capture_test sole_that
+    castling_move castle castled resolved read_answer optional promotion_letter piece_letter changes_files takes_of head_of candidates names castling_name
+    first_name king_first name_of name_text name_check mark_of end_of san_text
 slips = record {
   second_fit = refl;
   takes_behind = refl;

@@ -42,7 +42,8 @@ read_dest_lem : (k f r : ℕ) (x : Bool) (sq : ℕ) (s : List ℕ) → sq < 64 �
 unfolding read_dest
 read_dest_lem k f r x sq s h = rw (square_back sq h, there sq)
 
-read_tail : (k f r : ℕ) (x : Bool) (sq : ℕ) {p : ℕ} → Promotes p → (mark : Bool) → read_promotion k f r x (sq + 1) (promotion_letter p ++ optional mark mark_text)
+read_tail : (k f r : ℕ) (x : Bool) (sq : ℕ) {p : ℕ} → Promotes p → (mark : Bool)
+    → read_promotion k f r x (sq + 1) (promotion_letter p ++ optional mark mark_text)
     ≡ Move (record { piece = piece_or k; file = f; rank = r; takes = x; dest = sq; promotion = p; mark = mark })
 unfolding read_promotion read_end promotion_letter promotion_kind is_check after same optional
 read_tail k f r x sq Promotes.nothing true = rw (less sq)

@@ -1,8 +1,9 @@
 // What a SAN text says, which listed move it names, and what a move is called: definitions and theorems in specs/ and proofs/. The code that meets
 // them is in crates san_reader, san, san_writer and namer.
+#![tactic(auto)]
 
 // What a text says about a move. A kind is 1 to 6; a file and a rank of the source are 1 to 8, or 0 where the text has none.
-#[derive(Drop)]
+#[derive(Clone, Copy)]
 pub struct San {
     pub piece: u8,
     pub file: u8,
@@ -13,7 +14,7 @@ pub struct San {
     pub mark: bool,
 }
 
-#[derive(Drop)]
+#[derive(Clone, Copy)]
 pub enum SanText {
     KingSide,
     QueenSide,

@@ -18,9 +18,10 @@ use Rattle.settled.specs.Key.{settled_read, settled_bytes}
 use Rattle.settled.specs.AtSmallest.{KeyRows}
 
 pub key_rows : KeyRows
-unfolding ascii write_answer write_bytes all_at_most among read_square piece_of letter_of letters_of letters_text in_range onto joined tokens place_after place_where
-    place_byte place_all side_of rights_of sided assembled of_tokens read_fen digit_text run_text slash_text ranks_text rights_text en_passant_text tail_text fen_text
-    stood_before stood_behind stepped_rank stepped_pawn own_pawn usable settled_file settled settled_read settled_bytes
+unfolding ascii write_answer write_bytes all_at_most among read_square piece_of letter_of letters_of letters_text in_range onto joined tokens
+    place_after place_where place_byte place_all side_of rights_of sided assembled of_tokens read_fen digit_text run_text slash_text ranks_text
+    rights_text en_passant_text tail_text fen_text stood_before stood_behind stepped_rank stepped_pawn own_pawn usable settled_file settled
+    settled_read settled_bytes
 key_rows = record {
   cleared = (refl, refl);
   none = (refl, refl);

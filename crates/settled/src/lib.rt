@@ -1,4 +1,6 @@
 // One position, one name: the key of a FEN text's settled record, in one call.
+#![tactic(auto)]
+
 ghost use Rattle.std.specs.Prelude.{◌≡◌, length};
 ghost use Rattle.settled.specs.Key.{settled_key, settled_room};
 

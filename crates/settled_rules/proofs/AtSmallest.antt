@@ -12,7 +12,8 @@ use Rattle.settled_rules.specs.AtSmallest.{Rows, CallRows}
 
 pub rows : Rows
 unfolding kind_of colour_step enemy_pawn two_apart castles corner rook_moved takes_in_passing pawn_removed set_down squares_after rights_without rights_after
-    steps_twice stood_before stood_behind file_after after_parts restarts one_more half_after full_after stepped_rank stepped_pawn own_pawn usable settled_file settled
+    steps_twice stood_before stood_behind file_after after_parts restarts one_more half_after full_after stepped_rank stepped_pawn own_pawn usable
+    settled_file settled
 rows = record {
   alone = (refl, refl);
   wrong_rank = (refl, refl);

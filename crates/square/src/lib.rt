@@ -1,4 +1,6 @@
 // Squares, colours and pieces as document 01 numbers them, after square.rs, rank.rs, file.rs, color.rs and piece.rs.
+#![tactic(auto)]
+
 ghost use Rattle.std.specs.Prelude.{◌≡◌, length};
 ghost use Rattle.answer.specs.Answer.{write_answer, write_bytes};
 ghost use Rattle.square.specs.Square.{make_square, rank_of, file_of, back_rank, square_named, read_square, pair_told, square_text, square_check};
@@ -13,7 +15,7 @@ pub const PAWN: u8 = 1;
 pub const KING: u8 = 6;
 
 // A pair of bytes read as a square: the square, or what is wrong with it.
-#[derive(Drop)]
+#[derive(Clone, Copy)]
 pub enum Pair {
     Square(u8),
     BadFile,

@@ -1,7 +1,7 @@
 -- A list looked at move by move without a branch, and a block of entries that holds the list and zeros past it.
 -- Assumes nothing.
 use mathlib.Core.Path.{◌≡◌, refl, ap, sym, ◌∙◌}
-use mathlib.Core.Bool.{Bool, true, false, ◌&&◌, ◌||◌, and_true, and_false, or_assoc, or-false}
+use mathlib.Core.Bool.{Bool, true, false, ◌&&◌, ◌||◌, and-true, and-false, or_assoc, or-false}
 use mathlib.Core.List.{List}
 use Prim.Native.Nat.{ℕ, zero, suc, ◌+◌, ◌*◌, ◌-◌, ◌<◌, ◌≤◌}
 use native.Mathlib.Omega.{arith}
@@ -54,11 +54,11 @@ module _ (s : List ℕ) (entries : ℕ) where
 
   pub not_moves : all_at_most last_move (moves_from s moves_at entries) ≡ false → list_fits s entries ≡ false
   unfolding list_fits
-  not_moves e = rw e (and_false (all_at_most 0 past))
+  not_moves e = rw e (and-false (all_at_most 0 past))
 
   pub by_past : all_at_most last_move (moves_from s moves_at entries) ≡ true → list_fits s entries ≡ all_at_most 0 (drop (moves_at + 2 * entries) s)
   unfolding list_fits
-  by_past e = rw e (and_true (all_at_most 0 past))
+  by_past e = rw e (and-true (all_at_most 0 past))
 
   -- a short list's zeros, in two parts that overlap
   pub not_near : (block : ℕ) → all_at_most 0 (take (2 * block) (drop (moves_at + 2 * entries) s)) ≡ false → list_fits s entries ≡ false
@@ -135,7 +135,8 @@ block_among m s k block h n z =
     ap (λ (x : ℕ). among m (moves_from s moves_at x)) (sym e) ∙ among_from m s moves_at k (block - k) n (zeros_from s (moves_at + 2 * k) z)
 
 -- so a block has a move other than 0 exactly if the list, which is shorter, has it
-pub block_lists : (m : ℕ) (s : List ℕ) (k block : ℕ) → k ≤ block → (m ≡ 0 → ⊥) → list_fits s k ≡ true → among m (moves_from s moves_at block) ≡ list_fits_with s k m
+pub block_lists : (m : ℕ) (s : List ℕ) (k block : ℕ) → k ≤ block → (m ≡ 0 → ⊥) → list_fits s k ≡ true
+    → among m (moves_from s moves_at block) ≡ list_fits_with s k m
 unfolding list_fits
 block_lists m s k block h n fits =
     block_among m s k block h n (both_left (all_at_most 0 (drop (moves_at + 2 * k) s)) _ fits) ∙ by_among s k m fits

@@ -12,18 +12,20 @@ use Rattle.fen_text.specs.Read.{assembled, of_tokens, read_fen, rights_of, side_
 use Rattle.fen_text.specs.Token.{joined, onto, place_after, place_where, tokens}
 use Rattle.fen_text.specs.Write.{digit_text, en_passant_text, fen_text, ranks_text, rights_text, run_text, slash_text, tail_text}
 use Rattle.chess_move.specs.Coordinate.{promotion_named, read_move, with_dest, with_source}
-use Rattle.move_rules.specs.After.{after_answer, after_parts, castles, colour_step, corner, enemy_pawn, file_after, full_after, half_after, one_more, pawn_removed}
-use Rattle.move_rules.specs.After.{record_after, restarts, rights_after, rights_without, rook_moved, set_down, squares_after, steps_twice, stood_before, stood_behind}
+use Rattle.move_rules.specs.After.{after_answer, after_parts, castles, colour_step, corner, enemy_pawn, file_after, full_after, half_after, one_more}
+use Rattle.move_rules.specs.After.{pawn_removed}
+use Rattle.move_rules.specs.After.{record_after, restarts, rights_after, rights_without, rook_moved, set_down, squares_after, steps_twice, stood_before}
+use Rattle.move_rules.specs.After.{stood_behind}
 use Rattle.move_rules.specs.After.{takes_in_passing, two_apart}
 use Rattle.move_rules.specs.Leads.{comes_from, counters_from, counters_lead}
 use Rattle.text_rows.specs.AfterMoves.{MovesAtTheEdge, SquaresNamed, RecordsThatFollow}
 
 pub moves_at_the_edge : MovesAtTheEdge
-unfolding ascii all_at_most among same kind_of letter_of piece_of pair_told read_square letters_of letters_text in_range numbers place_all place_byte assembled of_tokens
-    read_fen rights_of side_of sided joined onto place_after place_where tokens digit_text en_passant_text fen_text ranks_text rights_text run_text slash_text tail_text
-    promotion_named read_move with_dest with_source after_answer after_parts castles colour_step corner enemy_pawn file_after full_after half_after one_more pawn_removed
-    record_after restarts rights_after rights_without rook_moved set_down squares_after steps_twice stood_before stood_behind takes_in_passing two_apart comes_from
-    counters_from counters_lead
+unfolding ascii all_at_most among same kind_of letter_of piece_of pair_told read_square letters_of letters_text in_range numbers place_all place_byte
+    assembled of_tokens read_fen rights_of side_of sided joined onto place_after place_where tokens digit_text en_passant_text fen_text ranks_text rights_text
+    run_text slash_text tail_text promotion_named read_move with_dest with_source after_answer after_parts castles colour_step corner enemy_pawn file_after
+    full_after half_after one_more pawn_removed record_after restarts rights_after rights_without rook_moved set_down squares_after steps_twice stood_before
+    stood_behind takes_in_passing two_apart comes_from counters_from counters_lead
 moves_at_the_edge = record {
   three_right = (refl, refl);
   three_left = (refl, refl);
@@ -40,11 +42,11 @@ moves_at_the_edge = record {
 }
 
 pub squares_named : SquaresNamed
-unfolding ascii all_at_most among same kind_of letter_of piece_of pair_told read_square letters_of letters_text in_range numbers place_all place_byte assembled of_tokens
-    read_fen rights_of side_of sided joined onto place_after place_where tokens digit_text en_passant_text fen_text ranks_text rights_text run_text slash_text tail_text
-    promotion_named read_move with_dest with_source after_answer after_parts castles colour_step corner enemy_pawn file_after full_after half_after one_more pawn_removed
-    record_after restarts rights_after rights_without rook_moved set_down squares_after steps_twice stood_before stood_behind takes_in_passing two_apart comes_from
-    counters_from counters_lead
+unfolding ascii all_at_most among same kind_of letter_of piece_of pair_told read_square letters_of letters_text in_range numbers place_all place_byte
+    assembled of_tokens read_fen rights_of side_of sided joined onto place_after place_where tokens digit_text en_passant_text fen_text ranks_text rights_text
+    run_text slash_text tail_text promotion_named read_move with_dest with_source after_answer after_parts castles colour_step corner enemy_pawn file_after
+    full_after half_after one_more pawn_removed record_after restarts rights_after rights_without rook_moved set_down squares_after steps_twice stood_before
+    stood_behind takes_in_passing two_apart comes_from counters_from counters_lead
 squares_named = record {
   castling = refl;
   in_passing = refl;
@@ -53,11 +55,11 @@ squares_named = record {
 }
 
 pub records_that_follow : RecordsThatFollow
-unfolding ascii all_at_most among same kind_of letter_of piece_of pair_told read_square letters_of letters_text in_range numbers place_all place_byte assembled of_tokens
-    read_fen rights_of side_of sided joined onto place_after place_where tokens digit_text en_passant_text fen_text ranks_text rights_text run_text slash_text tail_text
-    promotion_named read_move with_dest with_source after_answer after_parts castles colour_step corner enemy_pawn file_after full_after half_after one_more pawn_removed
-    record_after restarts rights_after rights_without rook_moved set_down squares_after steps_twice stood_before stood_behind takes_in_passing two_apart comes_from
-    counters_from counters_lead
+unfolding ascii all_at_most among same kind_of letter_of piece_of pair_told read_square letters_of letters_text in_range numbers place_all place_byte
+    assembled of_tokens read_fen rights_of side_of sided joined onto place_after place_where tokens digit_text en_passant_text fen_text ranks_text rights_text
+    run_text slash_text tail_text promotion_named read_move with_dest with_source after_answer after_parts castles colour_step corner enemy_pawn file_after
+    full_after half_after one_more pawn_removed record_after restarts rights_after rights_without rook_moved set_down squares_after steps_twice stood_before
+    stood_behind takes_in_passing two_apart comes_from counters_from counters_lead
 records_that_follow = record {
   follows = refl;
   other_rights = refl;

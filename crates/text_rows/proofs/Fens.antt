@@ -19,10 +19,10 @@ use Rattle.fen_text.specs.Write.{digit_text, en_passant_text, fen_text, full_tai
 use Rattle.text_rows.specs.Fens.{FensBefore, FensRefused, LongestTexts, LinesEnd}
 
 pub fens_before : FensBefore
-unfolding write_answer write_bytes ascii all_at_most among letter_of piece_of read_square decimal digits letters_of letters_text in_range base_assembled base_fen
-    base_tokens clocked counter_of counters_read digits_from numbered read_full start_behind ended_lines ended_lines_by lines onto_ended place_all place_byte assembled
-    of_tokens read_fen rights_of side_of sided joined onto place_after place_where tokens digit_text en_passant_text fen_text full_tail full_text ranks_text rights_text
-    run_text slash_text tail_text
+unfolding write_answer write_bytes ascii all_at_most among letter_of piece_of read_square decimal digits letters_of letters_text in_range base_assembled
+    base_fen base_tokens clocked counter_of counters_read digits_from numbered read_full start_behind ended_lines ended_lines_by lines onto_ended place_all
+    place_byte assembled of_tokens read_fen rights_of side_of sided joined onto place_after place_where tokens digit_text en_passant_text fen_text full_tail
+    full_text ranks_text rights_text run_text slash_text tail_text
 fens_before = record {
   initial = refl;
   white = refl;
@@ -35,10 +35,10 @@ fens_before = record {
 }
 
 pub fens_refused : FensRefused
-unfolding write_answer write_bytes ascii all_at_most among letter_of piece_of read_square decimal digits letters_of letters_text in_range base_assembled base_fen
-    base_tokens clocked counter_of counters_read digits_from numbered read_full start_behind ended_lines ended_lines_by lines onto_ended place_all place_byte assembled
-    of_tokens read_fen rights_of side_of sided joined onto place_after place_where tokens digit_text en_passant_text fen_text full_tail full_text ranks_text rights_text
-    run_text slash_text tail_text
+unfolding write_answer write_bytes ascii all_at_most among letter_of piece_of read_square decimal digits letters_of letters_text in_range base_assembled
+    base_fen base_tokens clocked counter_of counters_read digits_from numbered read_full start_behind ended_lines ended_lines_by lines onto_ended place_all
+    place_byte assembled of_tokens read_fen rights_of side_of sided joined onto place_after place_where tokens digit_text en_passant_text fen_text full_tail
+    full_text ranks_text rights_text run_text slash_text tail_text
 fens_refused = record {
   side_a = refl;
   side_c = refl;
@@ -56,20 +56,20 @@ fens_refused = record {
 }
 
 pub longest_texts : LongestTexts
-unfolding write_answer write_bytes ascii all_at_most among letter_of piece_of read_square decimal digits letters_of letters_text in_range base_assembled base_fen
-    base_tokens clocked counter_of counters_read digits_from numbered read_full start_behind ended_lines ended_lines_by lines onto_ended place_all place_byte assembled
-    of_tokens read_fen rights_of side_of sided joined onto place_after place_where tokens digit_text en_passant_text fen_text full_tail full_text ranks_text rights_text
-    run_text slash_text tail_text
+unfolding write_answer write_bytes ascii all_at_most among letter_of piece_of read_square decimal digits letters_of letters_text in_range base_assembled
+    base_fen base_tokens clocked counter_of counters_read digits_from numbered read_full start_behind ended_lines ended_lines_by lines onto_ended place_all
+    place_byte assembled of_tokens read_fen rights_of side_of sided joined onto place_after place_where tokens digit_text en_passant_text fen_text full_tail
+    full_text ranks_text rights_text run_text slash_text tail_text
 longest_texts = record {
   of_the_crate = refl;
   full = refl;
 }
 
 pub lines_end : LinesEnd
-unfolding write_answer write_bytes ascii all_at_most among letter_of piece_of read_square decimal digits letters_of letters_text in_range base_assembled base_fen
-    base_tokens clocked counter_of counters_read digits_from numbered read_full start_behind ended_lines ended_lines_by lines onto_ended place_all place_byte assembled
-    of_tokens read_fen rights_of side_of sided joined onto place_after place_where tokens digit_text en_passant_text fen_text full_tail full_text ranks_text rights_text
-    run_text slash_text tail_text
+unfolding write_answer write_bytes ascii all_at_most among letter_of piece_of read_square decimal digits letters_of letters_text in_range base_assembled
+    base_fen base_tokens clocked counter_of counters_read digits_from numbered read_full start_behind ended_lines ended_lines_by lines onto_ended place_all
+    place_byte assembled of_tokens read_fen rights_of side_of sided joined onto place_after place_where tokens digit_text en_passant_text fen_text full_tail
+    full_text ranks_text rights_text run_text slash_text tail_text
 lines_end = record {
   tab = refl;
   tab_ended = refl;

@@ -17,9 +17,9 @@ use Rattle.key_line.specs.KeyPage.{bytes_of, going, keys_among, keys_text}
 use Rattle.text_rows.specs.KeyLines.{KeysLineByLine, KeysPageByPage}
 
 pub keys_line_by_line : KeysLineByLine
-unfolding ascii among letter_of piece_of read_square decimal digits letters_of letters_text ended_lines ended_lines_by lines onto_ended over_lines place_all place_byte
-    assembled of_tokens read_fen rights_of side_of sided joined onto place_after place_where tokens digit_text en_passant_text fen_text ranks_text rights_text run_text
-    slash_text tail_text key_line bytes_of going keys_among keys_text
+unfolding ascii among letter_of piece_of read_square decimal digits letters_of letters_text ended_lines ended_lines_by lines onto_ended over_lines place_all
+    place_byte assembled of_tokens read_fen rights_of side_of sided joined onto place_after place_where tokens digit_text en_passant_text fen_text ranks_text
+    rights_text run_text slash_text tail_text key_line bytes_of going keys_among keys_text
 keys_line_by_line = record {
   key = refl;
   refused = refl;
@@ -29,9 +29,9 @@ keys_line_by_line = record {
 }
 
 pub keys_page_by_page : KeysPageByPage
-unfolding ascii among letter_of piece_of read_square decimal digits letters_of letters_text ended_lines ended_lines_by lines onto_ended over_lines place_all place_byte
-    assembled of_tokens read_fen rights_of side_of sided joined onto place_after place_where tokens digit_text en_passant_text fen_text ranks_text rights_text run_text
-    slash_text tail_text key_line bytes_of going keys_among keys_text
+unfolding ascii among letter_of piece_of read_square decimal digits letters_of letters_text ended_lines ended_lines_by lines onto_ended over_lines place_all
+    place_byte assembled of_tokens read_fen rights_of side_of sided joined onto place_after place_where tokens digit_text en_passant_text fen_text ranks_text
+    rights_text run_text slash_text tail_text key_line bytes_of going keys_among keys_text
 keys_page_by_page = record {
   three = refl;
   two = refl;

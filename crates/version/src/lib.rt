@@ -1,4 +1,6 @@
 // The version of what a host links and of the programs: it rises by one with each landing that adds or changes a function of the archive.
+#![tactic(auto)]
+
 ghost use Rattle.std.specs.Prelude.{◌≡◌};
 ghost use Rattle.version.specs.Version.{version};
 

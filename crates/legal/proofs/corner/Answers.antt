@@ -1,0 +1,12 @@
+-- `corner` of lib.rt meets its contract: r ≡ corner source dest.
+use borrow.Author.Tests.{lt-ltb, le-ltb}
+use Rattle.move_rules.specs.After.{corner}
+use Rattle.legal.proofs.corner.Goals as goal
+
+pub returns-then-source-dest : goal.returns-then-source-dest
+unfolding corner
+returns-then-source-dest c = simp (lt-ltb _ _ c.if-source-dest.true)
+
+pub returns-else-source-dest : goal.returns-else-source-dest
+unfolding corner
+returns-else-source-dest c = simp (le-ltb _ _ c.if-source-dest.false)

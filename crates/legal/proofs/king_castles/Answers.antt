@@ -1,0 +1,114 @@
+-- `king_castles` of lib.rt meets its contract: r ≡ king_castles (now squares.entry) side rights s t.
+use borrow.Author.Tests.{eq-eqb, ne_eqb}
+use native.Mathlib.Omega.{arith}
+use mathlib.Core.Path.{ap, sym, ◌∙◌}
+use Prim.Native.Nat.{ℕ, ◌+◌, ◌*◌}
+use lib.Dec.{eqb}
+use lib.ListN.{get_or}
+use Rattle.move_laws.specs.Move.{king_castles}
+use Rattle.legal.proofs.Castle.{corner_under, home_corner}
+use Rattle.move_laws.specs.Apart.{clear}
+use Rattle.legal.proofs.king_castles.Goals as goal
+
+pub returns-then-s-side : goal.returns-then-s-side
+unfolding king_castles
+returns-then-s-side c = simp (ne_eqb _ _ c.if-s-side.true)
+
+pub returns-then-not-two_apart : goal.returns-then-not-two_apart
+unfolding king_castles
+returns-then-not-two_apart c = simp (eq-eqb _ _ c.if-s-side.false, sym c.two_apart.ensures ∙ c.if-not-two_apart.true)
+
+pub returns-then-not-right_held : goal.returns-then-not-right_held
+unfolding king_castles
+returns-then-not-right_held c =
+    let at-if1 = c.if-s-side in
+    let at-two-apart = c.two_apart in
+    let at-if2 = c.if-not-two_apart in
+    let at-right-held = c.right_held in
+    simp (
+      eq-eqb _ _ at-if1.false,
+      sym at-two-apart.ensures ∙ at-if2.false,
+      sym at-right-held.ensures ∙ c.if-not-right_held.true,
+    )
+
+pub bounds-squares-from : goal.bounds-squares-from
+bounds-squares-from c =
+    let a = c.args in
+    let at_pre = c.requires in
+    let at_corner = c.corner-from in
+    omega (arith, at_pre.0, at_corner.ensures, corner_under a.s a.t at_pre.2)
+
+pub returns-then-squares-from : goal.returns-then-squares-from
+unfolding king_castles
+returns-then-squares-from c =
+    let a = c.args in
+    let at-if1 = c.if-s-side in
+    let at-two-apart = c.two_apart in
+    let at-if2 = c.if-not-two_apart in
+    let at-right-held = c.right_held in
+    let at-if3 = c.if-not-right_held in
+    let at_corner = c.corner-from in
+    simp (
+      eq-eqb _ _ at-if1.false,
+      sym at-two-apart.ensures ∙ at-if2.false,
+      sym at-right-held.ensures ∙ at-if3.false,
+      sym (ap (λ (x : ℕ). eqb (get_or a.squares.now x 0) (4 + 6 * a.side)) at_corner.ensures) ∙ ne_eqb _ _
+          c.if-squares-from.true,
+    )
+
+pub clear-requires : goal.clear-requires
+clear-requires c =
+    let a = c.args in
+    let at_pre = c.requires in
+    let at-if1 = c.if-s-side in
+    let at_corner = c.corner-from in (
+      at_pre.0,
+      at_pre.2,
+      omega (arith, at_corner.ensures, corner_under a.s a.t at_pre.2),
+      λ e. home_corner a.side a.s a.t at_pre.1
+          at-if1.false (e ∙ at_corner.ensures),
+    )
+
+pub returns-then-not-clear : goal.returns-then-not-clear
+unfolding king_castles
+returns-then-not-clear c =
+    let a = c.args in
+    let at-if1 = c.if-s-side in
+    let at-two-apart = c.two_apart in
+    let at-if2 = c.if-not-two_apart in
+    let at-right-held = c.right_held in
+    let at-if3 = c.if-not-right_held in
+    let at_corner = c.corner-from in
+    let at-if4 = c.if-squares-from in
+    let at_clear = c.clear in
+    simp (
+      eq-eqb _ _ at-if1.false,
+      sym at-two-apart.ensures ∙ at-if2.false,
+      sym at-right-held.ensures ∙ at-if3.false,
+      sym (ap (λ (x : ℕ). eqb (get_or a.squares.now x 0) (4 + 6 * a.side)) at_corner.ensures) ∙ eq-eqb _ _
+          at-if4.false,
+      sym (at_clear.ensures ∙ ap (λ (x : ℕ). clear a.squares.now a.s x) at_corner.ensures) ∙ c.if-not-clear.true,
+    )
+
+pub returns : goal.returns
+unfolding king_castles
+returns c =
+    let a = c.args in
+    let at-if1 = c.if-s-side in
+    let at-two-apart = c.two_apart in
+    let at-if2 = c.if-not-two_apart in
+    let at-right-held = c.right_held in
+    let at-if3 = c.if-not-right_held in
+    let at_corner = c.corner-from in
+    let at-if4 = c.if-squares-from in
+    let at_clear = c.clear in
+    let at-if5 = c.if-not-clear in
+    simp (
+      eq-eqb _ _ at-if1.false,
+      sym at-two-apart.ensures ∙ at-if2.false,
+      sym at-right-held.ensures ∙ at-if3.false,
+      sym (ap (λ (x : ℕ). eqb (get_or a.squares.now x 0) (4 + 6 * a.side)) at_corner.ensures) ∙ eq-eqb _ _
+          at-if4.false,
+      sym (at_clear.ensures ∙ ap (λ (x : ℕ). clear a.squares.now a.s x) at_corner.ensures) ∙ at-if5.false,
+      c.way_attacked.ensures,
+    )

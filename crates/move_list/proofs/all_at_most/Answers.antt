@@ -1,0 +1,35 @@
+use mathlib.Core.Path.{refl, sym, ap, ◌∙◌}
+use mathlib.Core.Bool.{◌&&◌}
+use native.Mathlib.Omega.{arith}
+use Prim.Native.Nat.{ℕ, ◌+◌, zero-le}
+use lib.Bits.{bit_or}
+use lib.Dec.{eqb}
+use lib.ListN.{drop}
+use Rattle.answer.specs.Numbers.{all_at_most}
+use Rattle.answer.proofs.Numbers.{most_end}
+use Rattle.answer.proofs.Bounds.{gather_turn, gather_end}
+use Rattle.move_list.proofs.all_at_most.Goals as goal
+
+pub loop-i-init : goal.loop-i-init
+loop-i-init c = (zero-le, refl)
+
+pub loop-i-preserved : goal.loop-i-preserved
+loop-i-preserved c =
+    let a = c.args in
+    let at-loop = c.loop-i in
+    let at-loop-test = c.loop-i-test in
+    let s = a.moves.now in
+    let i = at-loop.i in
+    let left = all_at_most a.most (drop (i + 1) s) in (
+      omega arith,
+      ap (λ (x : ℕ). eqb (bit_or at-loop.above x) 0 && left) c.over-above.ensures
+          ∙ gather_turn a.most s at-loop.above i at-loop-test.true
+          ∙ at-loop.invariant.1,
+    )
+
+pub returns : goal.returns
+returns c =
+    let a = c.args in
+    let s = a.moves.now in
+    let i = c.loop-i.i in
+    sym (gather_end c.loop-i.above (all_at_most a.most (drop i s)) (most_end a.most s i c.loop-i-test.false)) ∙ c.loop-i.invariant.1

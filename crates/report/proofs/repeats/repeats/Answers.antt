@@ -1,0 +1,7 @@
+-- `repeats` of repeats.rt meets its contract: r ≡ repeats_below (counts_at (now told.entry)) (alike_in (now records.entry)) lines.
+use Rattle.report.proofs.Chains.{linked_none}
+use Rattle.report.proofs.repeats.repeats.Goals as goal
+
+pub link_lines-requires : goal.link_lines-requires
+link_lines-requires c =
+    record { rooms = c.requires.rooms; bucketed = c.requires.bucketed; linked = linked_none c.args.records.now c.args.told.now c.args.buckets.now }

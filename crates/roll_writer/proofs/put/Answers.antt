@@ -1,0 +1,64 @@
+-- `put` of lib.rt meets its contract: now out.exit ≡ written (now out.entry) 0 (game_text b (now acts.entry) n).
+use native.Mathlib.Omega.{arith}
+use mathlib.Core.Path.{◌≡◌, refl, ap, ◌∙◌}
+use Prim.Native.Nat.{ℕ, ◌+◌}
+use lib.ListN.{length}
+use Rattle.answer.specs.Parts.{written}
+use Rattle.roll_text.specs.Number.{number_text}
+use Rattle.game_rules.specs.Limits.{limits}
+use Rattle.roll_text.proofs.Entries.{reach_five}
+use Rattle.roll_writer.specs.CodeSizes.{start_text}
+use Rattle.roll_writer.proofs.Whole.{passed, text_long, record_there, count_there, all_there}
+use Rattle.roll_writer.proofs.put.Goals as goal
+
+pub put_start-behind-requires : goal.put_start-behind-requires
+put_start-behind-requires c =
+    let a = c.args in
+    let pre = c.requires in
+    let p = passed limits a.b a.acts.now a.n pre.n_value in
+    record { b_value = p.good; b_in_bounds = omega (arith, pre.n_in_bounds, text_long a.b a.acts.now a.n p.good) }
+
+pub put_groups-at-requires : goal.put_groups-at-requires
+put_groups-at-requires c =
+    let a = c.args in
+    let pre = c.requires in
+    let at-put-start = c.put_start-behind in
+    let p = passed limits a.b a.acts.now a.n pre.n_value in
+    let x = at-put-start.new.out in
+    let there = record_there a.b a.acts.now a.n p.good a.out.now x x x _ pre.n_in_bounds at-put-start.ensures.bytes refl in
+    record { le_k = (omega arith, omega (arith, reach_five, p.few)); n_in_bounds = omega (arith, there, at-put-start.ensures.end) }
+
+pub put_actions-requires : goal.put_actions-requires
+put_actions-requires c =
+    let a = c.args in
+    let pre = c.requires in
+    let at-put-start = c.put_start-behind in
+    let at-put-groups = c.put_groups-at in
+    let p = passed limits a.b a.acts.now a.n pre.n_value in
+    let x = at-put-start.new.out in
+    let y = at-put-groups.new.out in
+    let here : at-put-groups.result ≡ length (start_text a.b) + length (number_text a.n) = omega
+    (arith, at-put-groups.ensures.end, at-put-start.ensures.end) in
+    let count : y ≡ written x (length (start_text a.b)) (number_text a.n)
+    = at-put-groups.ensures.bytes ∙ ap (λ (i : ℕ). written x i (number_text a.n)) at-put-start.ensures.end in (
+      omega (arith, p.long, p.few),
+      count_there a.b a.acts.now a.n p.good a.out.now x y y at-put-groups.result pre.n_in_bounds at-put-start.ensures.bytes here count,
+    )
+
+pub returns : goal.returns
+returns c =
+    let a = c.args in
+    let pre = c.requires in
+    let at-put-start = c.put_start-behind in
+    let at-put-groups = c.put_groups-at in
+    let at-put-actions = c.put_actions in
+    let p = passed limits a.b a.acts.now a.n pre.n_value in
+    let x = at-put-start.new.out in
+    let y = at-put-groups.new.out in
+    let here : at-put-groups.result ≡ length (start_text a.b) + length (number_text a.n) = omega
+    (arith, at-put-groups.ensures.end, at-put-start.ensures.end) in
+    let count : y ≡ written x (length (start_text a.b)) (number_text a.n)
+    = at-put-groups.ensures.bytes ∙ ap (λ (i : ℕ). written x i (number_text a.n)) at-put-start.ensures.end in
+    all_there a.b a.acts.now a.n p.good a.out.now x y at-put-actions.new.out at-put-groups.result pre.n_in_bounds
+    at-put-start.ensures.bytes here
+    count at-put-actions.ensures
