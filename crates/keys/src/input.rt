@@ -5,9 +5,19 @@ use crate::line::newline_at;
 use crate::output::{Run, counted, flush, flush_if, put_line, put_long, with_room};
 use crate::tell;
 use key_line::page::key_page;
+use std::io;
+use std::io::Read;
 
 // Puts every ended line of the input's bytes from `from` to `end`. The run's `held` is then where the line that is not ended begins.
-fn put_lines(input: &[u8], from: usize, end: usize, out: &mut [u8], run: Run) -> Run
+fn put_lines(
+    rt: &impl Print,
+    err: &impl Print,
+    input: &[u8],
+    from: usize,
+    end: usize,
+    out: &mut [u8],
+    run: Run,
+) -> Run
     requires from_le_end { from ≤ end }
     requires end_in_bounds { end ≤ length input.now }
     requires ready_in_bounds { run.ready ≤ length out.old }
@@ -17,7 +27,7 @@ fn put_lines(input: &[u8], from: usize, end: usize, out: &mut [u8], run: Run) ->
     let mut next = run;
     let mut at = from;
     while at < end {
-        next = with_room(out, next);
+        next = with_room(rt, err, out, next);
         next.held = at;
         if next.output_failed {
             return next;
@@ -27,7 +37,7 @@ fn put_lines(input: &[u8], from: usize, end: usize, out: &mut [u8], run: Run) ->
         if page.taken == 0 {
             return next;
         }
-        next = counted(next, page.ready, page.accepted, page.refused, out);
+        next = counted(err, next, page.ready, page.accepted, page.refused, out);
         at += page.taken;
     }
     next.held = end;
@@ -35,7 +45,14 @@ fn put_lines(input: &[u8], from: usize, end: usize, out: &mut [u8], run: Run) ->
 }
 
 // The rest of a line that did not fit the input's room is passed over, and reported once its end is there.
-fn put_after_long(input: &[u8], end: usize, out: &mut [u8], run: Run) -> Run
+fn put_after_long(
+    rt: &impl Print,
+    err: &impl Print,
+    input: &[u8],
+    end: usize,
+    out: &mut [u8],
+    run: Run,
+) -> Run
     requires end_in_bounds { end ≤ length input.now }
     requires ready_in_bounds { run.ready ≤ length out.old }
     ensures ready { result.ready ≤ length out.old }
@@ -47,21 +64,28 @@ fn put_after_long(input: &[u8], end: usize, out: &mut [u8], run: Run) -> Run
         next.held = end;
         return next;
     }
-    let next = put_long(out, run);
-    put_lines(input, stop + 1, end, out, next)
+    let next = put_long(rt, err, out, run);
+    put_lines(rt, err, input, stop + 1, end, out, next)
 }
 
 // Puts every ended line of the input's first `end` bytes.
-fn put_ended(input: &[u8], end: usize, out: &mut [u8], run: Run) -> Run
+fn put_ended(
+    rt: &impl Print,
+    err: &impl Print,
+    input: &[u8],
+    end: usize,
+    out: &mut [u8],
+    run: Run,
+) -> Run
     requires end_in_bounds { end ≤ length input.now }
     requires ready_in_bounds { run.ready ≤ length out.old }
     ensures ready { result.ready ≤ length out.old }
     ensures held { result.held ≤ end }
 {
     if run.long {
-        return put_after_long(input, end, out, run);
+        return put_after_long(rt, err, input, end, out, run);
     }
-    put_lines(input, 0, end, out, run)
+    put_lines(rt, err, input, 0, end, out, run)
 }
 
 // Moves the bytes from `from` to `end` to the front.
@@ -77,7 +101,14 @@ fn to_front(input: &mut [u8], from: usize, end: usize)
 }
 
 // One more page: `more` bytes came in behind those held. A line that fills the whole room, or continues one that did, is not held.
-fn put_page(input: &mut [u8], more: usize, out: &mut [u8], run: Run) -> Run
+fn put_page(
+    rt: &impl Print,
+    err: &impl Print,
+    input: &mut [u8],
+    more: usize,
+    out: &mut [u8],
+    run: Run,
+) -> Run
     requires input_nonzero { 0 < length input.old }
     requires more_in_bounds { run.held + more ≤ length input.old }
     requires ready_in_bounds { run.ready ≤ length out.old }
@@ -85,7 +116,7 @@ fn put_page(input: &mut [u8], more: usize, out: &mut [u8], run: Run) -> Run
     ensures held { result.held < length input.old }
 {
     let end = run.held + more;
-    let mut next = put_ended(input, end, out, run);
+    let mut next = put_ended(rt, err, input, end, out, run);
     let from = next.held;
     let left = end - from;
     next.held = 0;
@@ -102,13 +133,20 @@ fn put_page(input: &mut [u8], more: usize, out: &mut [u8], run: Run) -> Run
 }
 
 // One read and what came of it. False: the input has ended or cannot be read, or the output cannot be written.
-#[derive(Drop)]
+#[derive(Clone, Copy)]
 struct Turn {
     goes_on: bool,
     run: Run,
 }
 
-fn put_more(input: &mut [u8], more: usize, out: &mut [u8], run: Run) -> Turn
+fn put_more(
+    rt: &impl Print,
+    err: &impl Print,
+    input: &mut [u8],
+    more: usize,
+    out: &mut [u8],
+    run: Run,
+) -> Turn
     requires held_in_bounds { run.held < length input.old }
     requires more_in_bounds { run.held + more ≤ length input.old }
     requires ready_in_bounds { run.ready ≤ length out.old }
@@ -116,8 +154,8 @@ fn put_more(input: &mut [u8], more: usize, out: &mut [u8], run: Run) -> Turn
     ensures held { result.run.held < length input.old }
 {
     let is_short = run.held + more < input.len();
-    let next = put_page(input, more, out, run);
-    let next = flush_if(is_short, out, next);
+    let next = put_page(rt, err, input, more, out, run);
+    let next = flush_if(rt, err, is_short, out, next);
     Turn {
         goes_on: !next.output_failed,
         run: next,
@@ -132,12 +170,13 @@ fn is_cut(run: Run) -> bool {
 }
 
 // A line that a failed read cut short does not count: with its end missing it would be filed as another position.
-fn stopped(name: &[u8], run: Run) -> Run
+fn stopped(err: &impl Print, name: &[u8], error: io::Error, run: Run) -> Run
     ensures ready { result.ready ≤ run.ready }
     ensures held { result.held ≤ 0 }
 {
-    tell::failed(name);
+    tell::failed(err, name, error);
     tell::stopped(
+        err,
         name,
         std::num::wrapping_sub_u64(run.lines, run.before),
         is_cut(run),
@@ -149,53 +188,57 @@ fn stopped(name: &[u8], run: Run) -> Run
     next
 }
 
-fn put_turn(fd: i32, name: &[u8], input: &mut [u8], out: &mut [u8], run: Run) -> Turn
+fn put_turn(
+    rt: &impl Print,
+    err: &impl Print,
+    source: &mut impl Read,
+    name: &[u8],
+    input: &mut [u8],
+    out: &mut [u8],
+    run: Run,
+) -> Turn
     requires held_in_bounds { run.held < length input.old }
     requires ready_in_bounds { run.ready ≤ length out.old }
     ensures ready { result.run.ready ≤ length out.old }
     ensures held { result.run.held < length input.old }
 {
     let held = run.held;
-    let got = libc::read(fd, &mut input[held..]);
-    if got < 0 {
-        return Turn {
+    match source.read(&mut input[held..]) {
+        Err(e) => Turn {
             goes_on: false,
-            run: stopped(name, run),
-        };
-    }
-    if got == 0 {
-        return Turn {
+            run: stopped(err, name, e, run),
+        },
+        Ok(0) => Turn {
             goes_on: false,
             run,
-        };
+        },
+        Ok(more) => put_more(rt, err, input, more, out, run),
     }
-    let more = io::count(got, &input[held..]);
-    put_more(input, more, out, run)
 }
 
 // The input has ended: a last line without a newline counts if it has a byte.
-fn put_last(input: &[u8], out: &mut [u8], run: Run) -> Run
+fn put_last(rt: &impl Print, err: &impl Print, input: &[u8], out: &mut [u8], run: Run) -> Run
     requires held_in_bounds { run.held < length input.now }
     requires ready_in_bounds { run.ready ≤ length out.old }
     ensures { result.ready ≤ length out.old }
 {
     let held = run.held;
     if run.long {
-        return put_long(out, run);
+        return put_long(rt, err, out, run);
     }
     if held == 0 {
         return run;
     }
-    put_line(&input[..held], out, run)
+    put_line(rt, err, &input[..held], out, run)
 }
 
-fn put_rest(input: &[u8], out: &mut [u8], run: Run) -> Run
+fn put_rest(rt: &impl Print, err: &impl Print, input: &[u8], out: &mut [u8], run: Run) -> Run
     requires held_in_bounds { run.held < length input.now }
     requires ready_in_bounds { run.ready ≤ length out.old }
     ensures { result.ready ≤ length out.old }
 {
-    let next = put_last(input, out, run);
-    flush(out, next)
+    let next = put_last(rt, err, input, out, run);
+    flush(rt, err, out, next)
 }
 
 fn begun(run: Run) -> Run
@@ -210,7 +253,15 @@ fn begun(run: Run) -> Run
 }
 
 // Every line of one input. A proved loop ends, and nothing says that an input does: the reads are counted down from a number that no input uses up.
-pub(crate) fn put_input(fd: i32, name: &[u8], input: &mut [u8], out: &mut [u8], run: Run) -> Run
+pub(crate) fn put_input(
+    rt: &impl Print,
+    err: &impl Print,
+    source: &mut impl Read,
+    name: &[u8],
+    input: &mut [u8],
+    out: &mut [u8],
+    run: Run,
+) -> Run
     requires input_nonzero { 0 < length input.old }
     requires ready_in_bounds { run.ready ≤ length out.old }
     ensures { result.ready ≤ length out.old }
@@ -219,10 +270,10 @@ pub(crate) fn put_input(fd: i32, name: &[u8], input: &mut [u8], out: &mut [u8], 
     let mut turns = u64::MAX;
     while 0 < turns {
         turns -= 1;
-        let t = put_turn(fd, name, input, out, next);
+        let t = put_turn(rt, err, source, name, input, out, next);
         next = t.run;
         if !t.goes_on {
-            return put_rest(input, out, next);
+            return put_rest(rt, err, input, out, next);
         }
     }
     next

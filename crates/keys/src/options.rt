@@ -1,7 +1,14 @@
 // What the arguments ask for: options stand before `--`, or anywhere if there is none; `-` is standard input.
-use answer::same_bytes;
+ghost use Rattle.std.specs.Prelude.{◌≤◌, length};
 
-#[derive(Drop)]
+use answer::same_bytes;
+use std::env::FillError;
+use std::rt::Env;
+
+// The longest word that is read.
+pub(crate) const LONGEST_WORD: usize = 4_096;
+
+#[derive(Clone, Copy)]
 pub(crate) enum Asked {
     Keys,
     Help,
@@ -10,11 +17,30 @@ pub(crate) enum Asked {
     Unknown(usize),
 }
 
+// How many words the program was started with, its own name among them.
+pub(crate) fn word_count(rt: &impl Env) -> usize {
+    let mut word = [0u8; LONGEST_WORD];
+    for i in 0..usize::MAX {
+        match rt.arg(i, &mut word) {
+            Err(FillError::NotPresent) => return i,
+            _ => {}
+        }
+    }
+    usize::MAX
+}
+
+// Puts word `i` to the front of `word` and answers its length; one that is too long is read as an empty one.
+pub(crate) fn read_word(rt: &impl Env, i: usize, word: &mut [u8]) -> usize
+    ensures { result ≤ length word.old }
+{
+    rt.arg(i, word).unwrap_or(0)
+}
+
 // Where `--` stands, or the number of arguments.
-pub(crate) fn end_of_options(count: usize) -> usize {
+pub(crate) fn end_of_options(rt: &impl Env, count: usize) -> usize {
     let mut i: usize = 1;
     while i < count {
-        if is_end(i) {
+        if is_end(rt, i) {
             return i;
         }
         i += 1;
@@ -22,9 +48,9 @@ pub(crate) fn end_of_options(count: usize) -> usize {
     count
 }
 
-fn is_end(i: usize) -> bool {
-    let mut word = io::buffer();
-    let n = os::arg(i, &mut word);
+fn is_end(rt: &impl Env, i: usize) -> bool {
+    let mut word = [0u8; LONGEST_WORD];
+    let n = read_word(rt, i, &mut word);
     same_bytes(&word[..n], b"--")
 }
 
@@ -59,17 +85,17 @@ fn asked_by(word: &[u8], i: usize) -> Asked {
     Asked::Keys
 }
 
-fn asked_at(i: usize) -> Asked {
-    let mut word = io::buffer();
-    let n = os::arg(i, &mut word);
+fn asked_at(rt: &impl Env, i: usize) -> Asked {
+    let mut word = [0u8; LONGEST_WORD];
+    let n = read_word(rt, i, &mut word);
     asked_by(&word[..n], i)
 }
 
 // The first option decides.
-pub(crate) fn first_option(end: usize) -> Asked {
+pub(crate) fn first_option(rt: &impl Env, end: usize) -> Asked {
     let mut i: usize = 1;
     while i < end {
-        let a = asked_at(i);
+        let a = asked_at(rt, i);
         match a {
             Asked::Keys => {}
             other => return other,

@@ -4,13 +4,14 @@ ghost use Rattle.std.specs.Prelude.{◌≡◌, ◌+◌, ◌≤◌, length};
 use crate::line::newline_at;
 use crate::tell;
 use key_line::LONGEST;
-use libc::STDOUT_FILENO;
+use std::io;
+use std::io::ErrorKind;
 
 // After how many lines their number is told on standard error.
 const TOLD: u64 = 1_000_000;
 
 // What is carried from page to page.
-#[derive(Drop)]
+#[derive(Clone, Copy)]
 pub(crate) struct Run {
     // bytes of an unended line at the front of the input
     pub(crate) held: usize,
@@ -27,23 +28,44 @@ pub(crate) struct Run {
     pub(crate) input_failed: bool,
     // `out` could not be written; nothing more is put or counted
     pub(crate) output_failed: bool,
+    // .. since whoever reads standard output has gone: the run ends and says nothing
+    pub(crate) reader_gone: bool,
 }
 
-// Writes the first `ready` bytes and answers how many were taken: fewer only if a write failed.
-fn write_ready(out: &[u8], ready: usize) -> usize
+// How many bytes were taken, and why no more, if a write failed.
+#[derive(Clone, Copy)]
+struct Written {
+    done: usize,
+    failed: Option<io::Error>,
+}
+
+// Writes the first `ready` bytes: fewer are taken only if a write failed.
+fn write_ready(rt: &impl Print, out: &[u8], ready: usize) -> Written
     requires { ready ≤ length out.now }
-    ensures { result ≤ ready }
+    ensures { result.done ≤ ready }
 {
     let mut done: usize = 0;
     while done < ready {
-        let got = libc::write(STDOUT_FILENO, &out[done..ready]);
-        let put = io::count(got, &out[done..ready]);
-        if put == 0 {
-            return done;
+        match rt.write_some(&out[done..ready]) {
+            Ok(0) => {
+                return Written {
+                    done,
+                    failed: Some(io::Error::from(ErrorKind::WriteZero)),
+                };
+            }
+            Ok(put) => done += put,
+            Err(e) => {
+                return Written {
+                    done,
+                    failed: Some(e),
+                };
+            }
         }
-        done += put;
     }
-    ready
+    Written {
+        done: ready,
+        failed: None,
+    }
 }
 
 // The run without a line that was counted, unless the line was written whole.
@@ -79,7 +101,7 @@ fn without_cut(out: &[u8], done: usize, ready: usize, run: Run) -> Run
 }
 
 // Writes what waits in `out`.
-pub(crate) fn flush(out: &[u8], run: Run) -> Run
+pub(crate) fn flush(rt: &impl Print, err: &impl Print, out: &[u8], run: Run) -> Run
     requires { run.ready ≤ length out.now }
     ensures ready { result.ready ≤ 0 }
     ensures held { result.held ≡ run.held }
@@ -90,38 +112,48 @@ pub(crate) fn flush(out: &[u8], run: Run) -> Run
     if run.output_failed {
         return next;
     }
-    let done = write_ready(out, ready);
-    if done == ready {
+    let written = write_ready(rt, out, ready);
+    let Some(error) = written.failed else {
+        return next;
+    };
+    next.output_failed = true;
+    if error.kind() == ErrorKind::BrokenPipe {
+        next.reader_gone = true;
         return next;
     }
-    tell::failed(b"standard output");
-    let left = without_cut(out, done, ready, run);
+    tell::failed(err, b"standard output", error);
+    let left = without_cut(out, written.done, ready, run);
     next.lines = left.lines;
     next.accepted = left.accepted;
     next.refused = left.refused;
-    next.output_failed = true;
     next
 }
 
 // What waits goes out when a read brought less than its room: whoever feeds a slow pipe gets each answer at once.
-pub(crate) fn flush_if(is_short: bool, out: &[u8], run: Run) -> Run
+pub(crate) fn flush_if(
+    rt: &impl Print,
+    err: &impl Print,
+    is_short: bool,
+    out: &[u8],
+    run: Run,
+) -> Run
     requires { run.ready ≤ length out.now }
     ensures ready { result.ready ≤ length out.now }
     ensures held { result.held ≡ run.held }
 {
     if is_short {
-        return flush(out, run);
+        return flush(rt, err, out, run);
     }
     run
 }
 
 // Makes room for one more line in `out`.
-pub(crate) fn with_room(out: &[u8], run: Run) -> Run
+pub(crate) fn with_room(rt: &impl Print, err: &impl Print, out: &[u8], run: Run) -> Run
     requires { run.ready ≤ length out.now }
     ensures { result.ready ≤ length out.now }
 {
     if out.len() - run.ready < LONGEST {
-        return flush(out, run);
+        return flush(rt, err, out, run);
     }
     run
 }
@@ -144,7 +176,14 @@ fn told(lines: u64) -> u64 {
 }
 
 // The run with `n` more bytes in `out`, the lines of that many texts accepted and refused.
-pub(crate) fn counted(run: Run, n: usize, accepted: u64, refused: u64, out: &[u8]) -> Run
+pub(crate) fn counted(
+    err: &impl Print,
+    run: Run,
+    n: usize,
+    accepted: u64,
+    refused: u64,
+    out: &[u8],
+) -> Run
     requires { run.ready + n ≤ length out.now }
     ensures { result.ready ≤ length out.now }
 {
@@ -158,7 +197,7 @@ pub(crate) fn counted(run: Run, n: usize, accepted: u64, refused: u64, out: &[u8
     );
     let reached = told(next.lines);
     if reached != told(run.lines) {
-        tell::progress(reached);
+        tell::progress(err, reached);
     }
     next
 }
@@ -172,11 +211,17 @@ fn is_key(out: &[u8], at: usize) -> bool {
 }
 
 // A last line that no newline ends.
-pub(crate) fn put_line(line: &[u8], out: &mut [u8], run: Run) -> Run
+pub(crate) fn put_line(
+    rt: &impl Print,
+    err: &impl Print,
+    line: &[u8],
+    out: &mut [u8],
+    run: Run,
+) -> Run
     requires { run.ready ≤ length out.old }
     ensures { result.ready ≤ length out.old }
 {
-    let run = with_room(out, run);
+    let run = with_room(rt, err, out, run);
     if run.output_failed {
         return run;
     }
@@ -185,24 +230,24 @@ pub(crate) fn put_line(line: &[u8], out: &mut [u8], run: Run) -> Run
     let answer = key_line::key_line(line, &mut out[ready..]);
     let n = taken(answer, room);
     if is_key(out, ready) {
-        return counted(run, n, 1, 0, out);
+        return counted(err, run, n, 1, 0, out);
     }
-    counted(run, n, 0, 1, out)
+    counted(err, run, n, 0, 1, out)
 }
 
 // A line that did not fit the input's room.
-pub(crate) fn put_long(out: &mut [u8], run: Run) -> Run
+pub(crate) fn put_long(rt: &impl Print, err: &impl Print, out: &mut [u8], run: Run) -> Run
     requires { run.ready ≤ length out.old }
     ensures { result.ready ≤ length out.old }
 {
-    let run = with_room(out, run);
+    let run = with_room(rt, err, out, run);
     if run.output_failed {
         return run;
     }
     let ready = run.ready;
     let room = out.len() - ready;
     let answer = answer::write_text(b"! long\n", &mut out[ready..]);
-    let mut next = counted(run, taken(answer, room), 0, 1, out);
+    let mut next = counted(err, run, taken(answer, room), 0, 1, out);
     next.long = false;
     next
 }

@@ -2,31 +2,35 @@
 ghost use Rattle.std.specs.Prelude.{◌≤◌};
 
 use answer::Answer;
-use libc::STDOUT_FILENO;
 
-pub(crate) fn text(t: &[u8]) {
-    io::write_all(STDOUT_FILENO, t);
+// What cannot be written is passed over.
+pub(crate) fn text(rt: &impl Print, t: &[u8]) {
+    let _ = rt.write_all(t);
 }
 
-pub(crate) fn argument(n: u8) {
-    text(b" ");
-    io::print_decimal(STDOUT_FILENO, n as u64);
+fn number(rt: &impl Print, n: u64) {
+    let _ = rt.print(n);
 }
 
-pub(crate) fn answer(a: Answer) {
-    text(b" ");
-    io::print_decimal(STDOUT_FILENO, a.number);
-    text(b" ");
-    io::print_decimal(STDOUT_FILENO, a.value);
+pub(crate) fn argument(rt: &impl Print, n: u8) {
+    text(rt, b" ");
+    number(rt, n as u64);
+}
+
+pub(crate) fn answer(rt: &impl Print, a: Answer) {
+    text(rt, b" ");
+    number(rt, a.number);
+    text(rt, b" ");
+    number(rt, a.value);
 }
 
 // The line of a call with one argument.
-pub(crate) fn line(name: &[u8], n: u8, a: Answer) {
-    text(name);
-    argument(n);
-    text(b" =");
-    answer(a);
-    text(b"\n");
+pub(crate) fn line(rt: &impl Print, name: &[u8], n: u8, a: Answer) {
+    text(rt, name);
+    argument(rt, n);
+    text(rt, b" =");
+    answer(rt, a);
+    text(rt, b"\n");
 }
 
 fn at_most(n: u64, most: usize) -> usize
@@ -36,11 +40,11 @@ fn at_most(n: u64, most: usize) -> usize
 }
 
 // A writer's answer, what stands at the front of its room, and the line's end.
-pub(crate) fn written(a: Answer, out: &[u8]) {
+pub(crate) fn written(rt: &impl Print, a: Answer, out: &[u8]) {
     let n = at_most(a.value, out.len());
-    text(b" =");
-    answer(a);
-    text(b" [");
-    text(&out[..n]);
-    text(b"]\n");
+    text(rt, b" =");
+    answer(rt, a);
+    text(rt, b" [");
+    text(rt, &out[..n]);
+    text(rt, b"]\n");
 }

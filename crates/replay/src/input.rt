@@ -1,16 +1,16 @@
 // Standard input, line by line.
 ghost use Rattle.std.specs.Prelude.{◌≤◌, length};
 
-use libc::STDIN_FILENO;
+use std::io::Read;
 
 // The bytes of the block from `at` to `end` are still to be read.
-#[derive(Drop)]
+#[derive(Clone, Copy)]
 pub(crate) struct Input {
     pub at: usize,
     pub end: usize,
 }
 
-#[derive(Drop)]
+#[derive(Clone, Copy)]
 pub(crate) struct Line {
     pub input: Input,
     pub length: usize,
@@ -18,8 +18,23 @@ pub(crate) struct Line {
     pub ended: bool,
 }
 
+// Reads until the block is full, the input ends or a read fails, and answers how many bytes came.
+fn read_full(source: &mut impl Read, block: &mut [u8]) -> usize
+    ensures { result ≤ length block.old }
+{
+    let mut done: usize = 0;
+    while done < block.len() {
+        let more = source.read(&mut block[done..]).unwrap_or(0);
+        if more == 0 {
+            return done;
+        }
+        done += more;
+    }
+    done
+}
+
 // One more block, if all of the last one has been read.
-fn refill(block: &mut [u8], input: Input) -> Input
+fn refill(source: &mut impl Read, block: &mut [u8], input: Input) -> Input
     requires { (input.at ≤ input.end) × (input.end ≤ length block.old) }
     ensures { (result.at ≤ result.end) × (result.end ≤ length block.old) }
 {
@@ -28,12 +43,17 @@ fn refill(block: &mut [u8], input: Input) -> Input
     }
     Input {
         at: 0,
-        end: io::read_full(STDIN_FILENO, block),
+        end: read_full(source, block),
     }
 }
 
 // Reads up to the next newline into the front of `line`, up to the input's end, or until `line` is full.
-pub(crate) fn read_line(block: &mut [u8], line: &mut [u8], input: Input) -> Line
+pub(crate) fn read_line(
+    source: &mut impl Read,
+    block: &mut [u8],
+    line: &mut [u8],
+    input: Input,
+) -> Line
     requires { (input.at ≤ input.end) × (input.end ≤ length block.old) }
     ensures place { (result.input.at ≤ result.input.end) × (result.input.end ≤ length block.old) }
     ensures most { result.length ≤ length line.old }
@@ -41,7 +61,7 @@ pub(crate) fn read_line(block: &mut [u8], line: &mut [u8], input: Input) -> Line
     let mut from = input;
     let mut n: usize = 0;
     while n < line.len() {
-        from = refill(block, from);
+        from = refill(source, block, from);
         let at = from.at;
         if at == from.end {
             return Line {

@@ -21,6 +21,8 @@
 //   f VALUE                 fills both parts past what the counts say is used
 //   k AT VALUE              sets one of the 70 numbers of the next board, so that it need not be one that a FEN can say
 // A call prints its number and its counts, and the next call is given these counts. A line that is not understood prints `bad line`.
+#![tactic(auto)]
+
 mod input;
 mod log;
 mod part;
@@ -34,6 +36,7 @@ use board_builder::BoardBuilder;
 use game_rules::{ACTIONS_LENGTH, POSITIONS_LENGTH};
 use input::Input;
 use run::Run;
+use std::io::Read;
 
 // Bytes behind each part that a call must not touch.
 const SPARE: usize = 100;
@@ -45,24 +48,31 @@ const BLOCK: usize = 65_536;
 
 const LONGEST_LINE: usize = 8_192;
 
-fn play(line: &[u8], acts: &mut [u8], ps: &mut [u8], list: &mut [u16], run: Run) -> Run {
+fn play(
+    rt: &impl Print,
+    line: &[u8],
+    acts: &mut [u8],
+    ps: &mut [u8],
+    list: &mut [u16],
+    run: Run,
+) -> Run {
     if text::is_heading(line) {
-        run::put(line);
-        run::put(b"\n");
+        run::put(rt, line);
+        run::put(rt, b"\n");
         return run;
     }
     if !text::has_its_words(line) {
-        return run::bad_line(run);
+        return run::bad_line(rt, run);
     }
     if text::is_text(line) {
-        return texts::ask(line, list, run);
+        return texts::ask(rt, line, list, run);
     }
     if !text::is_call(line) {
-        return log::set_up(line, acts, ps, run);
+        return log::set_up(rt, line, acts, ps, run);
     }
     let a = part::at_most(run.actions_lent, acts.len());
     let p = part::at_most(run.positions_lent, ps.len());
-    log::call(line, &mut acts[..a], &mut ps[..p], list, run)
+    log::call(rt, line, &mut acts[..a], &mut ps[..p], list, run)
 }
 
 fn first_run() -> Run {
@@ -79,7 +89,7 @@ fn first_run() -> Run {
 }
 
 // One line and what came of it. The run stops at the input's end, and at a line that has no newline or is longer than its room.
-#[derive(Drop)]
+#[derive(Clone, Copy)]
 struct Turn {
     goes_on: bool,
     input: Input,
@@ -87,6 +97,8 @@ struct Turn {
 }
 
 fn play_next(
+    rt: &impl Print,
+    source: &mut impl Read,
     block: &mut [u8],
     line: &mut [u8],
     acts: &mut [u8],
@@ -98,7 +110,7 @@ fn play_next(
     requires { (input.at ≤ input.end) × (input.end ≤ length block.old) }
     ensures { (result.input.at ≤ result.input.end) × (result.input.end ≤ length block.old) }
 {
-    let read = input::read_line(block, line, input);
+    let read = input::read_line(source, block, line, input);
     let left = read.input;
     if !read.ended {
         return Turn {
@@ -108,7 +120,7 @@ fn play_next(
         };
     }
     let n = read.length;
-    let next = play(&line[..n], acts, ps, list, run);
+    let next = play(rt, &line[..n], acts, ps, list, run);
     Turn {
         goes_on: true,
         input: left,
@@ -117,13 +129,21 @@ fn play_next(
 }
 
 // A proved loop ends, and nothing says that an input does: the lines are counted down from a number that no input uses up.
-fn play_all(block: &mut [u8], line: &mut [u8], acts: &mut [u8], ps: &mut [u8], list: &mut [u16]) {
+fn play_all(
+    rt: &impl Print,
+    source: &mut impl Read,
+    block: &mut [u8],
+    line: &mut [u8],
+    acts: &mut [u8],
+    ps: &mut [u8],
+    list: &mut [u16],
+) {
     let mut run = first_run();
     let mut from = Input { at: 0, end: 0 };
     let mut turns = u64::MAX;
     while 0 < turns {
         turns -= 1;
-        let turn = play_next(block, line, acts, ps, list, from, run);
+        let turn = play_next(rt, source, block, line, acts, ps, list, from, run);
         from = turn.input;
         run = turn.run;
         if !turn.goes_on {
@@ -135,22 +155,27 @@ fn play_all(block: &mut [u8], line: &mut [u8], acts: &mut [u8], ps: &mut [u8], l
 // A slice of a parameter's array has the length that its type says. For an array that is made where the slice is, the prover would count the zeros one by
 // one, and 2.4 million are more than it can (docs/DECISIONS.md).
 fn play_on(
+    rt: &impl Print,
+    source: &mut impl Read,
     block: &mut [u8; BLOCK],
     line: &mut [u8; LONGEST_LINE],
     actions: &mut [u8; ACTIONS_LENGTH + SPARE],
     positions: &mut [u8; POSITIONS_LENGTH + SPARE],
     moves: &mut [u16; LONGEST_LIST],
 ) {
-    play_all(block, line, actions, positions, moves);
+    play_all(rt, source, block, line, actions, positions, moves);
 }
 
-fn main() {
+fn main(rt: HostRuntime) {
+    let mut source = rt.stdin();
     let mut block = [0u8; BLOCK];
     let mut line = [0u8; LONGEST_LINE];
     let mut actions = [0u8; ACTIONS_LENGTH + SPARE];
     let mut positions = [0u8; POSITIONS_LENGTH + SPARE];
     let mut moves = [0u16; LONGEST_LIST];
     play_on(
+        &rt,
+        &mut source,
         &mut block,
         &mut line,
         &mut actions,

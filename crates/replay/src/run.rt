@@ -9,7 +9,6 @@ use board_builder::{
 };
 use fen_text::Fen;
 use game_rules::{Counts, MAX_MOVES};
-use libc::STDOUT_FILENO;
 use position::POSITION_SIZE;
 
 // Where the counters stand among the 70 numbers of a board, and a place behind all of them.
@@ -20,7 +19,7 @@ const FULL_MOVES_AT: usize = RECORD_SIZE + 1;
 pub(crate) const NOT_POKED: usize = RECORD_SIZE + 2;
 
 // What is carried from line to line.
-#[derive(Drop)]
+#[derive(Clone, Copy)]
 pub(crate) struct Run {
     // the counts that the next call is given
     pub actions: u64,
@@ -37,7 +36,7 @@ pub(crate) struct Run {
 }
 
 // The position that a line gives; its list stands in the front of the lent room.
-#[derive(Drop)]
+#[derive(Clone, Copy)]
 pub(crate) struct Given {
     pub is_read: bool,
     pub in_check: u8,
@@ -47,43 +46,44 @@ pub(crate) struct Given {
     pub board: BoardBuilder,
 }
 
-pub(crate) fn put(text: &[u8]) {
-    io::write_all(STDOUT_FILENO, text);
+// What cannot be written is passed over.
+pub(crate) fn put(rt: &impl Print, text: &[u8]) {
+    let _ = rt.write_all(text);
 }
 
-pub(crate) fn put_number(n: u64) {
-    io::print_decimal(STDOUT_FILENO, n);
+pub(crate) fn put_number(rt: &impl Print, n: u64) {
+    let _ = rt.print(n);
 }
 
-pub(crate) fn put_answer(a: Answer) {
-    put_number(a.number);
-    put(b" ");
-    put_number(a.value);
+pub(crate) fn put_answer(rt: &impl Print, a: Answer) {
+    put_number(rt, a.number);
+    put(rt, b" ");
+    put_number(rt, a.value);
 }
 
 // What a writer wrote, if it did, and the line's end.
-pub(crate) fn put_written(a: Answer, out: &[u8]) {
+pub(crate) fn put_written(rt: &impl Print, a: Answer, out: &[u8]) {
     if a.number == answer::ACCEPTED {
         let n = part::at_most(a.value, out.len());
-        put(b" ");
-        put(&out[..n]);
+        put(rt, b" ");
+        put(rt, &out[..n]);
     }
-    put(b"\n");
+    put(rt, b"\n");
 }
 
-pub(crate) fn bad_line(run: Run) -> Run {
-    put(b"bad line\n");
+pub(crate) fn bad_line(rt: &impl Print, run: Run) -> Run {
+    put(rt, b"bad line\n");
     run
 }
 
 // Prints what a call answered and takes over its counts.
-pub(crate) fn called(run: Run, c: Counts) -> Run {
-    put_number(c.number);
-    put(b" ");
-    put_number(c.actions);
-    put(b" ");
-    put_number(c.moves);
-    put(b"\n");
+pub(crate) fn called(rt: &impl Print, run: Run, c: Counts) -> Run {
+    put_number(rt, c.number);
+    put(rt, b" ");
+    put_number(rt, c.actions);
+    put(rt, b" ");
+    put_number(rt, c.moves);
+    put(rt, b"\n");
     let mut next = run;
     next.actions = c.actions;
     next.moves = c.moves;
