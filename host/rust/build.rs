@@ -54,7 +54,7 @@ fn named_directory(named: &Path) -> Result<PathBuf, String> {
 fn repository_directory() -> Result<PathBuf, String> {
     let apart = |_| format!("the package does not stand in its repository: set {DIRECTORY_VARIABLE} to a directory with {ARCHIVE}");
     let repository = fs::canonicalize(Path::new(&told("CARGO_MANIFEST_DIR")?).join("../..")).map_err(apart)?;
-    for owed in ["crates/menkhodur", "crates.txt", MAKER] {
+    for owed in ["crates/menkhodur_c", "crates.txt", MAKER] {
         fs::metadata(repository.join(owed)).map_err(apart)?;
     }
     for source in written(Command::new(repository.join(MAKER)).arg("--sources"))?.lines() {

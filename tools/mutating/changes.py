@@ -4,14 +4,12 @@ import sys
 
 from mutating.terms import TOKEN, Reader, Unreadable, argument_types
 
-LIKE_ARGUMENTS = {'getD': [(1, 2)], 'set': [(1, 2)], 'replicate': [(0, 1)], 'ltb': [(0, 1)], 'leb': [(0, 1)], 'max': [], 'min': []}
+LIKE_ARGUMENTS = {'get_or': [(1, 2)], 'set': [(1, 2)], 'replicate': [(0, 1)], 'ltb': [(0, 1)], 'leb': [(0, 1)], 'max': [], 'min': []}
 SYMMETRIC = {'eqb', 'same', 'cond'}  # what is exchanged in a `cond` are its cases
 OTHER_OPERATOR = {'&&': '||', '||': '&&', '+': '-', '-': '+', '/': '%', '%': '/', '*': '+'}
 WORDS = {'&&': 'and for or', '||': 'or for and'}
 IMPORTS = {
-    'leb': ('lib.Dec', 'leb'), 'ltb': ('lib.Dec', 'ltb'), 'true': ('mathlib.Core.Bool', 'true'), 'false': ('mathlib.Core.Bool', 'false'),
-    '-': ('Prim.Native.Nat', '_-_'), '+': ('Prim.Native.Nat', '_+_'), '/': ('Prim.Native.Nat', '_/_'), '%': ('Prim.Native.Nat', '_%_'),
-    '&&': ('mathlib.Core.Bool', '_&&_'), '||': ('mathlib.Core.Bool', '_||_'),
+    'leb': 'leb', 'ltb': 'ltb', 'true': 'true', 'false': 'false', '-': '◌-◌', '+': '◌+◌', '/': '◌/◌', '%': '◌%◌', '&&': '◌&&◌', '||': '◌||◌',
 }
 
 
@@ -30,9 +28,9 @@ class Mutant:
         """The module's text with the change, and with what the change needs imported."""
         text = self.module.text[:self.start] + self.new + self.module.text[self.end:]
         have = {name for _, names in self.module.uses for name in names or []}
-        for word, (path, name) in IMPORTS.items():
+        for word, name in IMPORTS.items():
             if name not in have and word in TOKEN.findall(self.new):
-                text = re.sub(r'(?m)^use ', f'use {path}.{{{name}}}\nuse ', text, count=1)
+                text = re.sub(r'(?m)^use ', f'use Rattle.std.specs.Prelude.{{{name}}}\nuse ', text, count=1)
         return text
 
     def change(self):
@@ -194,9 +192,13 @@ class Changes:
         if len(like) > 1:
             self.replace(part, like[(like.index(part.sign) + 1) % len(like)], 'like variable')
 
-    def change_projection(self, part, _):
-        """The next field of the same type, of each record that has such a field; where the record has no such field, it does not type-check."""
+    def change_projection(self, part, scope):
+        """The next field of the same type, of each record that has such a field; where the record has no such field, it does not type-check. What stands
+        behind the name of a module is no field."""
         name, start, end = part.sign
+        whole = part.parts[0]
+        if whole.kind == 'name' and self.is_variable(whole.sign) and whole.sign not in scope:
+            return
         for fields in self.project.records:
             like = [field for field in fields if fields[field] == fields.get(name[1:])]
             if len(like) > 1:

@@ -5,7 +5,7 @@ import subprocess
 
 from mutating.terms import TOKEN, argument_types, without_comments
 
-PATH = re.compile(r'^Rattle·([A-Za-z0-9_]+?)(?:·(?:specs|proofs))?\.(specs|proofs)\.(.+)$')
+PATH = re.compile(r'^Rattle\.([A-Za-z0-9_]+)\.(specs|proofs)\.(.+)$')
 A_TACTIC = re.compile(r'\b(simp|rw|cc|search|ap|sym|absurd)\b|∙')
 
 
@@ -111,7 +111,7 @@ class Project:
         for line in contents(self.root + '/crates.txt').split('\n'):
             if ':' in line.split('#')[0]:
                 name, below = line.split(':')
-                self.below_crate[name.strip()] = below.split()
+                self.below_crate[name.split()[0]] = below.split()
         for crate in self.below_crate:
             for library in ('specs', 'proofs'):
                 self.load_library(crate, library)
@@ -169,7 +169,7 @@ class Project:
             text = re.sub(r'//.*', '', text)
             for fields in re.findall(r'struct \w+[^{;]*\{([^}]*)\}', text):
                 named = re.findall(r'(?m)^\s*(?:pub )?(\w+): ([^,\n]+),?', fields)
-                self.records.append({f'«{name}»' if '_' in name else name: kind for name, kind in named})
+                self.records.append(dict(named))
             for cases in re.findall(r'enum \w+\s*\{(.*?)\n\}', text, re.S):
                 for name, kinds in re.findall(r'(?m)^\s*(\w+)\(([^)]*)\)', cases):
                     self.variants[name] = [kind.strip() for kind in kinds.split(',') if kind.strip()]
@@ -249,7 +249,7 @@ class Project:
                 if module_of(path) in self.modules:
                     names.update({name.strip(): (module_of(path), name.strip()) for name in listed.split(',')})
             for head in re.findall(r'pub (?:extern "C" )?fn .*?\n\{', text, re.S):
-                found |= {names[token] for token in TOKEN.findall(head.replace('⌜', ' ').replace('⌝', ' ')) if token in names}
+                found |= {names[token] for token in TOKEN.findall(head.replace('.', ' ')) if token in names}
         return found
 
     def proved_statements(self):

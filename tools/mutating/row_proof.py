@@ -57,14 +57,13 @@ class RowProof:
         return self.shape(body[body.index('=') + 1:], module) if len(declared.clauses) == 1 else '?'
 
     def use_lines(self, key, names):
-        own = '·specs' if key[0] == self.key[0] else ''
         lines = []
         for name in names:
             longer = lines[-1][:-1] + f', {name}}}' if lines else ''
             if lines and len(longer) <= 160:
                 lines[-1] = longer
             else:
-                lines.append(f'use Rattle·{key[0]}{own}.specs.{key[2]}.{{{name}}}')
+                lines.append(f'use Rattle.{key[0]}.specs.{key[2]}.{{{name}}}')
         return lines
 
     def unfolding_lines(self, words):
@@ -87,7 +86,7 @@ class RowProof:
             lines += self.use_lines(key, sorted(needed[key]))
         lines += self.use_lines(self.key, [one.name for one in self.records])
         for one in self.records:
-            name = re.sub(r'(?<!^)(?=[A-Z])', '-', one.name).lower()
+            name = re.sub(r'(?<!^)(?=[A-Z])', '_', one.name).lower()
             lines += ['', f'pub {name} : {one.name}', *self.unfolding_lines(words), f'{name} = record {{']
             lines += [f'  {field} = {self.shape(TOKEN.findall(kind), self.module)};' for field, kind in record_fields(one).items()] + ['}']
         return '\n'.join(lines) + '\n'

@@ -73,12 +73,11 @@ class Reader:
         return left
 
     def applied(self):
-        """A function with its arguments, or one atom, with the projections behind it."""
+        """A function with its arguments, or one atom, each with the projections behind it."""
         parts = []
         while self.peek() is not None and self.peek() not in STRENGTH and self.peek() not in ENDS:
             if parts and re.match(r'\..', self.peek()):
-                field = self.next()
-                parts = [Part('projection', parts[0].start, field[2], [self.joined(parts)], field)]
+                parts.append(self.projected(parts.pop(), *self.next()))
             else:
                 parts.append(self.atom())
         if not parts:
@@ -101,8 +100,20 @@ class Reader:
             return self.record(start)
         if sign == '{':
             return Part('implicit', start, self.closing())
+        if re.match(r'[A-Za-z]\w*\'?(\.[a-z0-9_]+)+$', sign):
+            name = sign.split('.')[0]
+            return self.projected(Part('name', start, start + len(name), sign=name), sign[len(name):], start + len(name), end)
         kind = 'number' if sign.isdigit() else 'text' if sign.startswith('"') else 'name'
         return Part(kind, start, end, sign=sign)
+
+    @staticmethod
+    def projected(part, fields, start, end):
+        """`part.field`, or `part.field.field`: each field is of what stands before it, tight."""
+        for field in fields[1:].split('.'):
+            sign = ('.' + field, start, start + 1 + len(field))
+            part, start = Part('projection', part.start, sign[2], [part], sign), sign[2]
+        assert start == end
+        return part
 
     def bracket(self, start):
         inner = self.term()

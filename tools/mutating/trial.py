@@ -1,7 +1,7 @@
 """Mutants tried on rows: modules copied into one made crate, and what the prover says of them.
 
 For each mutant, the modules between the changed one and the rows (those that import it, directly or not, and that a row imports) are copied under a name of
-their own (M17fentextRead); everything else is taken from the proved libraries under target/rlib. So many mutants are tried in one run of the prover, each by
+their own (M17fentextRead); everything else is taken from the proved libraries in the crates' out/. So many mutants are tried in one run of the prover, each by
 itself, across crates, without code.
 """
 import os
@@ -12,7 +12,7 @@ import sys
 
 from mutating.project import PATH, module_of
 
-IN_TEXT = re.compile(r'Rattle·[A-Za-z0-9_]+(?:·(?:specs|proofs))?\.(?:specs|proofs)\.[A-Za-z0-9_.·-]*[A-Za-z0-9_]')
+IN_TEXT = re.compile(r'Rattle\.[A-Za-z0-9_]+\.(?:specs|proofs)\.[A-Za-z0-9_.-]*[A-Za-z0-9_]')
 
 
 class Try:
@@ -25,9 +25,9 @@ class Try:
 
 
 def kit():
-    """The folder of the proof kit, and the one with what is built for this machine."""
-    home = os.environ.get('RATTLE_HOME') or os.path.dirname(os.path.dirname(os.path.realpath(shutil.which('rt') or sys.exit('mutants: no rt here'))))
-    return home, f'{home}/on/{os.uname().machine}'
+    """The folder of the proof kit."""
+    shutil.which('rt') or sys.exit('mutants: no rt here')
+    return os.path.dirname(subprocess.run(['rt', 'doc'], stdout=subprocess.PIPE, check=True).stdout.decode('utf8').strip())
 
 
 def label(number, key):
@@ -56,7 +56,11 @@ class Prover:
         return {key for key in needed if key in one.rows or one.key in project.below(key) or not self.proved(key[0])}
 
     def proved(self, crate):
-        return os.path.isdir(f'{self.project.root}/target/rlib/{crate}.rlib')
+        return os.path.isdir(self.library(crate))
+
+    def library(self, crate):
+        """A proved library, as `rt check` of a crate above or `rt ci` leaves it."""
+        return f'{self.project.root}/crates/{crate}/out/rlib/{crate}.rlib'
 
     @staticmethod
     def led(text, number, copied):
@@ -65,8 +69,8 @@ class Prover:
             crate, library, rest = PATH.match(found.group()).groups()
             name = rest.split('.')[0]
             if (crate, library, name) in copied:
-                return f'Rattle·mutants·{library}.{library}.{label(number, (crate, library, name))}{rest[len(name):]}'
-            return f'Rattle·{crate}.{library}.{rest}'
+                return f'Rattle.mutants.{library}.{label(number, (crate, library, name))}{rest[len(name):]}'
+            return found.group()
         return IN_TEXT.sub(lead, text)
 
     def unfoldable_below(self, key):
@@ -95,7 +99,7 @@ class Prover:
     def rows_with_lines(self, module, rows):
         own, others = self.unfoldable_below(module.key)
         lines = [line for line in module.text.split('\n') if line.startswith('use ')]
-        lines += [f'use Rattle·{where[0]}.specs.{where[2]}.{{{name}}}' for name, where in others.items()]
+        lines += [f'use Rattle.{where[0]}.specs.{where[2]}.{{{name}}}' for name, where in others.items()]
         names = {}
         for one in rows:
             lines += ['', *f'pub {one.name} : {one.type}'.split('\n')]
@@ -117,7 +121,7 @@ class Prover:
             for key in sorted(copied):
                 text = self.row_file(key, one.place)[0] if key in one.rows else one.mutant.text() if key == one.key else self.project.modules[key].text
                 text = self.led(text, one.number, copied)
-                used |= set(re.findall(r'Rattle·([A-Za-z0-9_]+)\.', text))
+                used |= set(re.findall(r'Rattle\.([A-Za-z0-9_]+)\.', text)) & set(self.project.below_crate)
                 write(f'{folder}/{key[1]}/{label(one.number, key)}.antt', text)
                 modules[key[1]].append(label(one.number, key))
         for library, names in modules.items():
@@ -127,13 +131,13 @@ class Prover:
     # ---- a run
 
     def command(self, folder, used):
-        home, own = kit()
-        built = f'{self.project.root}/target/rlib'
-        words = [f'{own}/bin/rattle', 'check', '--crate-name', 'mutants', f'{folder}/src/lib.rt', '--extern', f'std={own}/rlib/std.rlib']
+        home = kit()
+        words = [f'{home}/bin/rattle', 'check', '--crate-name', 'mutants', f'{folder}/src/lib.rt', '--extern', f'std={home}/rlibs/std.rlib']
         for crate in used:
-            words += ['--extern', f'{crate}={built}/{crate}.rlib']
-        return words + ['-L', f'dependency={built}', '-L', f'dependency={own}/rlib', '--antt-project', f'{home}/logic/antt-project.json',
-                        '--logic-built', f'{own}/logic-built']
+            words += ['--extern', f'{crate}={self.library(crate)}']
+        for crate in self.project.below_crate:
+            words += ['-L', f'dependency={os.path.dirname(self.library(crate))}']
+        return words + ['-L', f'dependency={home}/rlibs', '--antt-project', f'{home}/rattle/logic/antt-project.json', '--logic-built', f'{home}/logic_built']
 
     def verdicts(self, tries):
         """number -> (verdict, why), each by itself: void (a definition does not type-check or does not end), refused (with the rows), survived."""

@@ -72,7 +72,7 @@ fn against(ours: Run, texts: &[&str]) -> Result<(usize, f64, f64), String> {
 
 /// The proved program.
 pub fn times(texts: &[&str]) -> Result<(usize, f64, f64), String> {
-    against((&folder()?.join("../../bin/keys"), &[]), texts)
+    against((&folder()?.join("../../../crates/keys/out/keys"), &[]), texts)
 }
 
 /// The program over the archive, as `cli/build` leaves it.
