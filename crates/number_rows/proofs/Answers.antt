@@ -9,63 +9,63 @@ use Rattle.number_rows.specs.Answers.{AnswerNumbers, OrderNumbers, AnswersInNumb
 pub answer_numbers : AnswerNumbers
 unfolding write_answer write_bytes ascii all_at_most among largest same
 answer_numbers = record {
-  invalid-fen = refl;
-  invalid-square = refl;
-  invalid-uci-move = refl;
-  invalid-san-move = refl;
+  invalid_fen_fact = refl;
+  invalid_square_fact = refl;
+  invalid_uci_move_fact = refl;
+  invalid_san_move_fact = refl;
   out_of_range_fact = refl;
   bad_list_fact = refl;
-  output-too-short = refl;
-  no_name = refl;
+  output_too_short_fact = refl;
+  no_name_fact = refl;
   not_good_lem = refl;
-  game-over = refl;
+  game_over_fact = refl;
   not_listed_fact = refl;
-  wrong-side = refl;
-  log-full = refl;
-  no-offer = refl;
-  no_claim = refl;
-  part-too-short = refl;
+  wrong_side_fact = refl;
+  log_full_fact = refl;
+  no_offer_fact = refl;
+  no_claim_fact = refl;
+  part_too_short_fact = refl;
 }
 
 pub order_numbers : OrderNumbers
 unfolding write_answer write_bytes ascii all_at_most among largest same
 order_numbers = record {
-  bad-roll = refl;
-  too-few-tokens = refl;
+  bad_roll_fact = refl;
+  too_few_tokens_fact = refl;
   bad_placement_lem = refl;
-  bad_side = refl;
+  bad_side_fact = refl;
   left_open_fact = refl;
   too_deep_fact = refl;
   unknown_token_fact = refl;
-  wrong-record = refl;
-  bad-counter = refl;
-  of-the-archive = refl;
+  wrong_record_fact = refl;
+  bad_counter_fact = refl;
+  of_the_archive = refl;
 }
 
 pub answers_in_numbers : AnswersInNumbers
 unfolding write_answer write_bytes ascii all_at_most among largest same
 answers_in_numbers = record {
-  zero-and-a-value = refl;
-  a-refusal = refl;
-  a-text-read = refl;
-  a-text-refused = refl;
+  zero_and_a_value = refl;
+  a_refusal = refl;
+  a_text_read = refl;
+  a_text_refused = refl;
   too_short_fact = refl;
   in_range_lem = refl;
-  out-of-it = refl;
+  out_of_it = refl;
 }
 
 pub texts_written : TextsWritten
 unfolding write_answer write_bytes ascii all_at_most among largest same
 texts_written = record {
-  just-fits = refl;
+  just_fits = refl;
   fits = refl;
-  needs-three = refl;
+  needs_three = refl;
   refused_before = refl;
-  over-the-front = refl;
-  written-whole = refl;
-  written-exactly = refl;
-  not-in-two = refl;
-  not-refused = refl;
+  over_the_front = refl;
+  written_whole = refl;
+  written_exactly = refl;
+  not_in_two = refl;
+  not_refused = refl;
 }
 
 pub lists_of_numbers : ListsOfNumbers
@@ -73,12 +73,12 @@ unfolding write_answer write_bytes ascii all_at_most among largest same
 lists_of_numbers = record {
   bytes = refl;
   at_most = refl;
-  last-at-most = refl;
+  last_at_most = refl;
   first_over = refl;
-  last-over = refl;
-  largest-of-three = refl;
-  largest-of-none = refl;
-  at-a-place = refl;
+  last_over = refl;
+  largest_of_three = refl;
+  largest_of_none = refl;
+  at_a_place = refl;
   past_the_end = refl;
   under = refl;
   lowest = refl;
@@ -90,31 +90,31 @@ pub equal_lists : EqualLists
 unfolding write_answer write_bytes ascii all_at_most among largest same
 equal_lists = record {
   nothing = refl;
-  equal-texts = refl;
-  first-larger = refl;
-  first-smaller = refl;
-  last-other = refl;
-  second-longer = refl;
-  first-longer = refl;
+  equal_texts = refl;
+  first_larger = refl;
+  first_smaller = refl;
+  last_other = refl;
+  second_longer = refl;
+  first_longer = refl;
   among_none = refl;
   among_first = refl;
-  among-last = refl;
-  among-smaller = refl;
-  among-larger = refl;
-  left-holds = refl;
-  right-holds = refl;
+  among_last = refl;
+  among_smaller = refl;
+  among_larger = refl;
+  left_holds = refl;
+  right_holds = refl;
   neither = refl;
   both_hold = refl;
   left_alone = refl;
-  right-alone = refl;
+  right_alone = refl;
 }
 
 pub parts_of_bytes : PartsOfBytes
 unfolding write_answer write_bytes ascii all_at_most among largest same
 parts_of_bytes = record {
-  second-item = refl;
+  second_item = refl;
   cut_short = refl;
-  over-the-middle = refl;
+  over_the_middle = refl;
   front = refl;
   rest = refl;
 }

@@ -14,7 +14,7 @@ const LENGTHS: [usize; 4] = [512, 1_024, 2_048, REPORT_LINES];
 /// How many buckets the code puts records into.
 const BUCKETS: u64 = 4_093;
 
-/// Which of them: the code's own rule (`bucketOf` in crates/report/specs/CodeSets.antt). For each bit of a code the set of the squares whose codes have it, file
+/// Which of them: the code's own rule (`bucket_of` in crates/report/specs/CodeSets.antt). For each bit of a code the set of the squares whose codes have it, file
 /// by file, is mixed into the four other numbers.
 fn bucket(record: &Numbers) -> u64 {
     let mut planes = [0u64; 4];
