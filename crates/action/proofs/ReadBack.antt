@@ -1,5 +1,6 @@
 -- A written action reads back to itself, and no other bytes hold it.
 -- Assumes nothing.
+use Rattle.std.specs.Prelude.{Option, Some, None}
 use mathlib.Core.Path.{◌≡◌, refl, ap, sym, ◌∙◌}
 use mathlib.Core.Bool.{Bool, true, false, cond, ◌&&◌, false≢true}
 use mathlib.Core.List.{[], ◌∷◌}
@@ -17,8 +18,6 @@ use Rattle.chess_move.specs.Number.{last_move, move_of, number_answer}
 use Rattle.chess_move.proofs.Numbers.{number_of_parts, parts_of_number}
 use Rattle.action.specs.declared.Action.{Action}
 use Rattle.action.specs.declared.Action.TheVariants.{MakeMove, OfferDraw, AcceptDraw, DeclareDraw, Resign}
-use Rattle.action.specs.declared.Stored.{Stored}
-use Rattle.action.specs.declared.Stored.TheVariants.{Holds, Nothing}
 use Rattle.action.specs.Layout.{action_size, fields, action_bytes, colour_check, action_check, moves_here, stands_alone, action_of_fields, action_of}
 use Rattle.action.proofs.Rules.{no_kind, not_four}
 use Rattle.action.specs.Promises.{ActionsReadBack, OneForm}
@@ -42,7 +41,7 @@ length_bytes DeclareDraw = refl
 length_bytes (Resign c) = refl
 
 -- the bytes of an action in range hold it
-pub held : (a : Action) → action_check a ≡ 0 → action_of (action_bytes a) ≡ Holds a
+pub held : (a : Action) → action_check a ≡ 0 → action_of (action_bytes a) ≡ Some a
 unfolding action_of action_bytes action_check
 held (MakeMove m) h =
     let p = parts_of_number m h in
@@ -57,16 +56,16 @@ actions_read_back a out h =
     let w = (accepted_writes_its_text (action_check a) (action_bytes a) out h).front in
     ap action_of (rw (length_bytes a) at w) ∙ held a (check_passed (action_check a) (action_bytes a) (length out) h)
 
-abbrev is_held : Stored → Bool
-is_held (Holds a) = true
-is_held Nothing = false
+abbrev is_held : Option Action → Bool
+is_held (Some a) = true
+is_held None = false
 
-abbrev kept : Action → Stored → Action
-kept other (Holds a) = a
-kept other Nothing = other
+abbrev kept : Action → Option Action → Action
+kept other (Some a) = a
+kept other None = other
 
 -- where an action is held, the test passed and it is that one
-held_if : (ok : Bool) (b a : Action) → cond ok (Holds b) Nothing ≡ Holds a → (ok ≡ true) × (b ≡ a)
+held_if : (ok : Bool) (b a : Action) → cond ok (Some b) None ≡ Some a → (ok ≡ true) × (b ≡ a)
 held_if true b a h = (refl, ap (kept b) h)
 held_if false b a h = absurd (false≢true (ap is_held h))
 
@@ -74,7 +73,7 @@ abbrev Form : ℕ → ℕ → ℕ → ℕ → Action → Type 0
 Form k c l u a = (action_check a ≡ 0) × (k ∷ c ∷ l ∷ u ∷ [] ≡ action_bytes a)
 
 -- an action without a move: two bytes of a number that is 0 are 0
-alone : (most k c l u : ℕ) (b a : Action) → stands_alone most c (l + 256 * u) b ≡ Holds a → (c ≤ most → Form k c 0 0 b) → Form k c l u a
+alone : (most k c l u : ℕ) (b a : Action) → stands_alone most c (l + 256 * u) b ≡ Some a → (c ≤ most → Form k c 0 0 b) → Form k c l u a
 alone most k c l u b a h form =
     let p = held_if (leb c most && eqb (l + 256 * u) 0) b a h in
     let z : l + 256 * u ≡ 0 = eqb-true _ _ (both_right (leb c most) _ p.0) in
@@ -88,7 +87,7 @@ move_fields l u h =
     let eu : (l + 256 * u) / 256 ≡ u = omega (arith, h) in
     rw (el, eu) refl
 
-moved : (c l u : ℕ) (a : Action) → l ≤ 255 → moves_here c (l + 256 * u) ≡ Holds a → Form 1 c l u a
+moved : (c l u : ℕ) (a : Action) → l ≤ 255 → moves_here c (l + 256 * u) ≡ Some a → Form 1 c l u a
 unfolding action_bytes action_check
 moved c l u a hl h =
     let p = held_if (eqb c 0 && leb (l + 256 * u) last_move) (MakeMove (move_of (l + 256 * u))) a h in
@@ -116,7 +115,7 @@ unfolding action_bytes action_check
 declares c h = let z : c ≡ 0 = omega (arith, h) in rw z (refl, refl)
 
 -- five kinds and no other
-of_fields : (k c l u : ℕ) (a : Action) → l ≤ 255 → action_of_fields k c (l + 256 * u) ≡ Holds a → Form k c l u a
+of_fields : (k c l u : ℕ) (a : Action) → l ≤ 255 → action_of_fields k c (l + 256 * u) ≡ Some a → Form k c l u a
 of_fields (suc zero) c l u a hl h = moved c l u a hl h
 of_fields (suc (suc zero)) c l u a hl h = alone 1 2 c l u (OfferDraw c) a h (offered c)
 of_fields (suc (suc (suc zero))) c l u a hl h = alone 0 3 c l u AcceptDraw a h (accepts c)

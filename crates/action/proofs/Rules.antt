@@ -1,5 +1,6 @@
 -- Laws of a move's number and of the four fields, for the contracts.
 -- Assumes nothing.
+use Rattle.std.specs.Prelude.{None}
 use mathlib.Core.Path.{◌≡◌, refl, ap, ◌∙◌}
 use mathlib.Core.Bool.{Bool, true, false, ◌&&◌}
 use mathlib.Core.List.{List}
@@ -14,7 +15,6 @@ use Rattle.answer.proofs.Writes.{write_refused}
 use Rattle.chess_move.specs.declared.ChessMove.{ChessMove}
 use Rattle.chess_move.specs.Number.{number_of, of_bytes, number_answer}
 use Rattle.action.specs.declared.Action.TheVariants.{OfferDraw, AcceptDraw, DeclareDraw, Resign}
-use Rattle.action.specs.declared.Stored.TheVariants.{Nothing}
 use Rattle.action.specs.Layout.{fields, colour_check, moves_here, stands_alone, action_of_fields, action_of}
 
 -- what is not accepted is answered 5
@@ -35,11 +35,11 @@ colour_refused kind colour out h e =
     let w = write_refused 5 (fields kind colour 0) out (λ z. omega arith) in
     rw k (e ∙ w.answer, w.bytes)
 
-pub not_four : (s : List ℕ) → (length s ≡ 4 → ⊥) → action_of s ≡ Nothing
+pub not_four : (s : List ℕ) → (length s ≡ 4 → ⊥) → action_of s ≡ None
 unfolding action_of
 not_four s h = rw (ne_eqb _ _ h) refl
 
-pub no_kind : (k c n : ℕ) → (k ≡ 1 → ⊥) → (k ≡ 2 → ⊥) → (k ≡ 3 → ⊥) → (k ≡ 4 → ⊥) → (k ≡ 5 → ⊥) → action_of_fields k c n ≡ Nothing
+pub no_kind : (k c n : ℕ) → (k ≡ 1 → ⊥) → (k ≡ 2 → ⊥) → (k ≡ 3 → ⊥) → (k ≡ 4 → ⊥) → (k ≡ 5 → ⊥) → action_of_fields k c n ≡ None
 no_kind k c n a b d e f = rw (ne_eqb _ _ a, ne_eqb _ _ b, ne_eqb _ _ d, ne_eqb _ _ e, ne_eqb _ _ f) refl
 
 -- four bytes, kind by kind
@@ -64,5 +64,5 @@ module _ (s : List ℕ) (four : length s ≡ 4) where
   of_resign e = of_four ∙ ap (λ (k : ℕ). action_of_fields k (get_or s 1 0) (of_bytes (get_or s 2 0) (get_or s 3 0))) e
 
   pub of_none : (get_or s 0 0 ≡ 1 → ⊥) → (get_or s 0 0 ≡ 2 → ⊥) → (get_or s 0 0 ≡ 3 → ⊥) → (get_or s 0 0 ≡ 4 → ⊥) → (get_or s 0 0 ≡ 5 → ⊥)
-      → action_of s ≡ Nothing
+      → action_of s ≡ None
   of_none a b d e f = of_four ∙ no_kind (get_or s 0 0) (get_or s 1 0) (of_bytes (get_or s 2 0) (get_or s 3 0)) a b d e f

@@ -22,13 +22,6 @@ pub enum Action {
     Resign(u8),
 }
 
-// What some bytes of a log hold.
-#[derive(Clone, Copy)]
-pub enum Stored {
-    Holds(Action),
-    Nothing,
-}
-
 fn write_move(m: ChessMove, out: &mut [u8]) -> Answer
     ensures answer { result ≡ write_answer (number_answer m).number (fields 1 0 (number_answer m).value) (length out.old) }
     ensures bytes { out.new ≡ write_bytes (number_answer m).number (fields 1 0 (number_answer m).value) out.old }
@@ -37,8 +30,8 @@ fn write_move(m: ChessMove, out: &mut [u8]) -> Answer
     if n.number != ACCEPTED {
         return answer::refused(OUT_OF_RANGE);
     }
-    let bytes = [1, 0, (n.value % 256) as u8, (n.value / 256) as u8];
-    answer::write_text(&bytes, out)
+    let [low, high] = (n.value as u16).to_le_bytes();
+    answer::write_text(&[1, 0, low, high], out)
 }
 
 fn write_colour(kind: u8, colour: u8, out: &mut [u8]) -> Answer
@@ -48,11 +41,11 @@ fn write_colour(kind: u8, colour: u8, out: &mut [u8]) -> Answer
     if BLACK < colour {
         return answer::refused(OUT_OF_RANGE);
     }
-    let bytes = [kind, colour, 0, 0];
-    answer::write_text(&bytes, out)
+    answer::write_text(&[kind, colour, 0, 0], out)
 }
 
 // Writes an action to the front of `out`. Checks 5, then 7.
+#[tactic(auto, unfolding(crate::specs::Layout::action_bytes, crate::specs::Layout::action_check))]
 pub fn to_bytes(action: Action, out: &mut [u8]) -> Answer
     ensures answer { result ≡ write_answer (action_check action) (action_bytes action) (length out.old) }
     ensures bytes { out.new ≡ write_bytes (action_check action) (action_bytes action) out.old }
@@ -66,46 +59,40 @@ pub fn to_bytes(action: Action, out: &mut [u8]) -> Answer
     }
 }
 
-fn move_here(colour: u8, number: u16) -> Stored
+fn move_here(colour: u8, number: u16) -> Option<Action>
     ensures { result ≡ moves_here colour number }
 {
-    if colour != 0 {
-        return Stored::Nothing;
+    if colour != 0 || LAST_MOVE < number as u64 {
+        return None;
     }
-    if LAST_MOVE < number as u64 {
-        return Stored::Nothing;
-    }
-    Stored::Holds(Action::MakeMove(ChessMove::from_number(number)))
+    Some(Action::MakeMove(ChessMove::from_number(number)))
 }
 
 // An action without a move, whose colour is at most `most`.
-fn stands_alone(most: u8, colour: u8, number: u16, action: Action) -> Stored
+fn stands_alone(most: u8, colour: u8, number: u16, action: Action) -> Option<Action>
     ensures { result ≡ stands_alone most colour number action }
 {
-    if most < colour {
-        return Stored::Nothing;
+    if most < colour || number != 0 {
+        return None;
     }
-    if number != 0 {
-        return Stored::Nothing;
-    }
-    Stored::Holds(action)
+    Some(action)
 }
 
 // The action whose bytes these are.
-pub fn from_bytes(bytes: &[u8]) -> Stored
+#[tactic(auto, unfolding(crate::specs::Layout::action_of))]
+pub fn from_bytes(bytes: &[u8]) -> Option<Action>
     ensures { result ≡ action_of bytes.now }
 {
-    if bytes.len() != ACTION_SIZE {
-        return Stored::Nothing;
-    }
-    let colour = bytes[1];
-    let number = bytes[2] as u16 + 256 * bytes[3] as u16;
-    match bytes[0] {
+    let &[kind, colour, low, high] = bytes else {
+        return None;
+    };
+    let number = u16::from_le_bytes([low, high]);
+    match kind {
         1 => move_here(colour, number),
         2 => stands_alone(BLACK, colour, number, Action::OfferDraw(colour)),
         3 => stands_alone(0, colour, number, Action::AcceptDraw),
         4 => stands_alone(0, colour, number, Action::DeclareDraw),
         5 => stands_alone(BLACK, colour, number, Action::Resign(colour)),
-        _ => Stored::Nothing,
+        _ => None,
     }
 }

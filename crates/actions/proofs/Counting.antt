@@ -1,5 +1,6 @@
 -- The moves among the first actions, action by action, and by the fields of each.
 -- Assumes nothing.
+use Rattle.std.specs.Prelude.{Option, Some, None}
 use mathlib.Core.Path.{◌≡◌, refl, ap, sym, ◌∙◌}
 use mathlib.Core.Bool.{Bool, true, false, cond, ◌&&◌}
 use mathlib.Core.List.{List}
@@ -18,8 +19,6 @@ use Rattle.chess_move.specs.Number.{last_move, of_bytes, move_of, number_of, num
 use Rattle.chess_move.proofs.Numbers.{parts_of_number}
 use Rattle.action.specs.declared.Action.{Action}
 use Rattle.action.specs.declared.Action.TheVariants.{MakeMove, OfferDraw, AcceptDraw, DeclareDraw, Resign}
-use Rattle.action.specs.declared.Stored.{Stored}
-use Rattle.action.specs.declared.Stored.TheVariants.{Holds, Nothing}
 use Rattle.action.specs.Layout.{action_size, action_of}
 use Rattle.action.proofs.Rules.{not_four, of_move, of_offer, of_accept, of_declare, of_resign, of_none}
 use Rattle.actions.specs.Part.{no_move, move_held, move_at, moves_in}
@@ -56,14 +55,14 @@ one_at_most kind colour number = go (eqb kind 1) (eqb colour 0 && leb number las
     go false u = omega arith
 
 -- what an action counts
-abbrev counts : Stored → ℕ
+abbrev counts : Option Action → ℕ
 counts a = cond (leb (move_held a) last_move) 1 0
 
-held_counts_none : (a : Action) → move_held (Holds a) ≡ no_move → (held : Bool) → counts (cond held (Holds a) Nothing) ≡ 0
+held_counts_none : (a : Action) → move_held (Some a) ≡ no_move → (held : Bool) → counts (cond held (Some a) None) ≡ 0
 held_counts_none a e true = rw e
 held_counts_none a e false = refl
 
-held_counts_one : (m : ChessMove) (held : Bool) → counts (cond held (Holds (MakeMove m)) Nothing) ≡ cond held 1 0
+held_counts_one : (m : ChessMove) (held : Bool) → counts (cond held (Some (MakeMove m)) None) ≡ cond held 1 0
 held_counts_one m true = rw (value_most m)
 held_counts_one m false = refl
 
@@ -124,7 +123,7 @@ not_stored : (acts : List ℕ) (i : ℕ) → length acts < action_size * i + act
 not_stored acts i h =
     let short : length (item action_size acts i) ≡ 4 → ⊥ = λ e. omega (arith, simp (length-take, length-drop) at e) in
     count_more acts i
-    ∙ ap (λ (a : Stored). moves_in acts i + counts a) (not_four (item action_size acts i) short)
+    ∙ ap (λ (a : Option Action). moves_in acts i + counts a) (not_four (item action_size acts i) short)
     ∙ omega arith
 
 past_stored : (acts : List ℕ) (i d : ℕ) → length acts < action_size * i + action_size → moves_in acts (i + d) ≡ moves_in acts i

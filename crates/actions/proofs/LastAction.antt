@@ -1,13 +1,13 @@
 -- Laws of the last action.
 -- Assumes nothing.
+use Rattle.std.specs.Prelude.{None}
 use mathlib.Core.Path.{◌≡◌, refl, ap}
 use mathlib.Core.List.{List}
 use Prim.Native.Nat.{ℕ, zero, suc, ◌-◌}
 use native.Mathlib.Omega.{arith}
-use Rattle.action.specs.declared.Stored.TheVariants.{Nothing}
 use Rattle.actions.specs.Part.{action_at, last_action}
 
-pub last_none : (acts : List ℕ) (n : ℕ) → n ≡ 0 → last_action acts n ≡ Nothing
+pub last_none : (acts : List ℕ) (n : ℕ) → n ≡ 0 → last_action acts n ≡ None
 unfolding last_action
 last_none acts n z = rw z
 

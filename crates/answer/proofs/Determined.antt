@@ -1,6 +1,8 @@
 -- Each public function's contract, as the toolchain reads it off the source, permits one answer, and one content of each slice that is lent to be written.
 -- Assumes nothing.
 use mathlib.Core.Path.{sym, ◌∙◌}
+use denote.RattleType.{RattleType}
+use denote.Param.Laws.{Laws, IsCopy}
 use Rattle.answer.specs.Determined.{OneAnswer, OnePart}
 use Rattle.answer.proofs.accepted.Reads as accepted
 use Rattle.answer.proofs.accepted.Kinds as accepted·k
@@ -12,6 +14,10 @@ use Rattle.answer.proofs.read_as.Reads as read_as
 use Rattle.answer.proofs.read_as.Kinds as read-as·k
 use Rattle.answer.proofs.fault_at.Reads as fault-at
 use Rattle.answer.proofs.fault_at.Kinds as fault-at·k
+use Rattle.answer.proofs.write_items.Reads as write-items
+use Rattle.answer.proofs.write_items.Kinds as write-items·k
+use Rattle.answer.proofs.any_over.Reads as any-over
+use Rattle.answer.proofs.any_over.Kinds as any-over·k
 use Rattle.answer.proofs.write_text.Reads as write-text
 use Rattle.answer.proofs.write_text.Kinds as write-text·k
 use Rattle.answer.proofs.front.Reads as front
@@ -43,6 +49,18 @@ read_as_answer κs a x y e f p q = p ∙ sym q
 
 pub fault_at_answer : OneAnswer fault-at·k.ps fault-at·k.r fault-at.Learnt
 fault_at_answer κs a x y e f p q = p ∙ sym q
+
+pub write_items_answer : (t : RattleType) (l : Laws t) (p : IsCopy t) (g : _) (d : _)
+    → OneAnswer (write-items·k.ps t l p) (write-items·k.r t l p) (write-items.Learnt t l p g d)
+write_items_answer t l p g d κs a x y e f u v = u.0 ∙ sym v.0
+
+pub write_items_out : (t : RattleType) (l : Laws t) (p : IsCopy t) (g : _) (d : _)
+    → OnePart (write-items·k.ps t l p) (write-items·k.r t l p) (λ κs x e. e.1.0.now) (write-items.Learnt t l p g d)
+write_items_out t l p g d κs a x y e f u v = u.1 ∙ sym v.1
+
+pub any_over_answer : (t : RattleType) (l : Laws t) (o : _) (d : _) (q : _) (h : _)
+    → OneAnswer (any-over·k.ps t l) (any-over·k.r t l) (any-over.Learnt t l o d q h)
+any_over_answer t l o d q h κs a x y e f u v = u ∙ sym v
 
 pub write_text_answer : OneAnswer write-text·k.ps write-text·k.r write-text.Learnt
 write_text_answer κs a x y e f p q = p.0 ∙ sym q.0

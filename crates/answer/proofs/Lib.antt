@@ -10,4 +10,5 @@ pub mod ItsText
 pub mod Written
 pub mod Puts
 pub mod Determined
+pub mod Over
 pub mod Overwrites

@@ -1,13 +1,12 @@
--- What any writer of texts answers and leaves in its room, in its three cases: refused before 7, too short, written. And the copy, byte by byte.
+-- What any writer of texts answers and leaves in its room, in its three cases: refused before 7, too short, written.
 -- Assumes nothing.
-use mathlib.Core.Path.{◌≡◌, refl, ap}
+use mathlib.Core.Path.{◌≡◌, refl}
 use mathlib.Core.Bool.{Bool, true, false}
-use mathlib.Core.List.{List, [], ◌∷◌, ◌++◌}
-use Prim.Native.Nat.{ℕ, zero, suc, ◌≤◌, ◌<◌}
-use native.Mathlib.Nat.{le_of_suc-le-suc, not-suc-le-zero}
+use mathlib.Core.List.{List, ◌++◌}
+use Prim.Native.Nat.{ℕ, ◌≤◌, ◌<◌}
 use native.Mathlib.Omega.{arith}
 use lib.Dec.{eqb, leb}
-use lib.ListN.{length, take, drop, get_or, set, length-append, length-drop}
+use lib.ListN.{length, take, drop, length-append, length-drop}
 use lib.Seq.{take_at, drop_at}
 use borrow.Author.Tests.{ne_eqb, le-leb, lt-leb, eqb-true, eqb-false, leb-true}
 use Rattle.answer.specs.declared.Answer.{Answer}
@@ -30,14 +29,6 @@ write_short text out h = record { answer = simp (lt-leb _ _ h); bytes = simp (lt
 pub write_fits : (text out : List ℕ) → length text ≤ length out → Written 0 text out (accepted (length text)) (overwrite text out)
 unfolding write_answer write_bytes
 write_fits text out h = record { answer = simp (le-leb _ _ h); bytes = simp (le-leb _ _ h) }
-
--- the store of one iteration takes the copy of i bytes to the copy of one more
-pub store : (src dst : List ℕ) (i : ℕ) → i < length src → i < length dst
-    → set (take i src ++ drop i dst) i (get_or src i 0) ≡ take (suc i) src ++ drop (suc i) dst
-store [] dst i h k = absurd (not-suc-le-zero h)
-store (x ∷ xs) [] i h k = absurd (not-suc-le-zero k)
-store (x ∷ xs) (y ∷ ys) zero h k = refl
-store (x ∷ xs) (y ∷ ys) (suc i) h k = ap (λ (l : List ℕ). x ∷ l) (store xs ys i (le_of_suc-le-suc h) (le_of_suc-le-suc k))
 
 pub refused_writes_nothing : RefusedWritesNothing
 unfolding write_answer write_bytes

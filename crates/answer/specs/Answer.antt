@@ -127,6 +127,13 @@ too_short n = record { number = output_too_short; value = n }
 abbrev pub in_range_or5 : Bool → ℕ → Answer
 in_range_or5 ok v = cond ok (accepted v) (refused out_of_range)
 
+-- a copy of any list to the front of a room: 7 with the list's length where the room is shorter, which is then left as it was; otherwise 0 with that length
+abbrev pub items_answer : ℕ → ℕ → Answer
+items_answer needed room = cond (leb needed room) (accepted needed) (too_short needed)
+
+abbrev pub items_written : {A : Type 0} → List A → List A → List A
+items_written items out = cond (leb (length items) (length out)) (items ++ drop (length items) out) out
+
 -- a writer whose checks before 7 gave `check` (0: all passed) and whose text is `text`: that refusal; 7 with the length of the text where the
 -- room is shorter; otherwise 0 with that length
 unfoldable pub write_answer : ℕ → List ℕ → ℕ → Answer

@@ -1,11 +1,18 @@
 -- Lists of numbers: a bound, equality, and what is in them.
 -- Assumes nothing.
-use Rattle.std.specs.Prelude.{ℕ, max, Bool, true, false, ◌&&◌, ◌||◌, List, [], ◌∷◌, eqb, leb, get_or}
+use Rattle.std.specs.List.{list_any}
+use Rattle.std.specs.declared.cmp.Ordering.{Ordering}
+use Rattle.std.specs.Ordering.{partial_gt}
+use Rattle.std.specs.Prelude.{ℕ, max, Option, Bool, true, false, ◌&&◌, ◌||◌, List, [], ◌∷◌, eqb, leb, get_or}
 
 -- each number of the list is at most n
 unfoldable pub all_at_most : ℕ → List ℕ → Bool
 all_at_most n [] = true
 all_at_most n (x ∷ xs) = leb x n && all_at_most n xs
+
+-- something in a list compares greater than a bound, by what its type compares with
+abbrev pub any_over : {A : Type 0} → (A → A → Option Ordering) → A → List A → Bool
+any_over compare most s = list_any (λ x. partial_gt compare x most) s
 
 -- the largest number of a list, 0 of none
 unfoldable pub largest : List ℕ → ℕ

@@ -1,12 +1,13 @@
 // Answers as document 01 numbers them, and bytes and texts for the crates above: written to a room, compared, taken apart.
 #![tactic(auto)]
 
-ghost use Rattle.std.specs.Prelude.{◌≡◌, ◌-◌, length};
-ghost use Rattle.answer.specs.Answer.{accepted, refused, read_as, fault_at, write_answer, write_bytes};
-ghost use Rattle.answer.specs.Numbers.{all_at_most, number_at, same, either, both};
+ghost use Rattle.std.specs.Prelude.{◌≡◌, length};
+ghost use Rattle.answer.specs.Answer.{accepted, refused, read_as, fault_at, items_answer, items_written, write_answer, write_bytes};
+ghost use Rattle.answer.specs.Numbers.{any_over, all_at_most, number_at, same, either, both};
 ghost use Rattle.answer.specs.Parts.{front_of, rest_of};
 
-// What a call answers: its number in document 01's table, and the value that comes with it.
+// What a call answers: its number in document 01's table, and the value that comes with it. A host's struct (C interface), and so is each struct of a crate
+// above that is `repr(C)`: a number, or a flag of 0 and 1, stands in them beside what it tells of.
 #[repr(C)]
 #[derive(Clone, Copy)]
 pub struct Answer {
@@ -22,6 +23,8 @@ pub struct Placed {
     pub value: u64,
     pub offset: u64,
 }
+
+// Document 01's answer numbers. They are no enum: a host is given them as they are, in the structs of docs/papers/HOST-ABI.md (C interface).
 
 pub const ACCEPTED: u64 = 0;
 
@@ -114,24 +117,28 @@ pub fn fault_at(number: u64, offset: u64) -> Placed
     }
 }
 
-// Copies a text to the front of `out`, or answers 7 with the text's length and writes nothing.
-pub fn write_text(text: &[u8], out: &mut [u8]) -> Answer
-    ensures answer { result ≡ write_answer 0 text.now (length out.old) }
-    ensures bytes { out.new ≡ write_bytes 0 text.now out.old }
+// Copies a list to the front of `out`, or answers 7 with the list's length and writes nothing.
+pub fn write_items<T: Copy>(items: &[T], out: &mut [T]) -> Answer
+    ensures answer { result ≡ items_answer (length items.now) (length out.old) }
+    ensures items { out.new ≡ items_written items.now out.old }
 {
-    let needed = text.len();
+    let needed = items.len();
     if out.len() < needed {
         return Answer {
             number: OUTPUT_TOO_SHORT,
             value: needed as u64,
         };
     }
-    let mut i: usize = 0;
-    while i < needed {
-        out[i] = text[i];
-        i += 1;
-    }
+    out[..needed].copy_from_slice(items);
     accepted(needed as u64)
+}
+
+// The same for a text.
+pub fn write_text(text: &[u8], out: &mut [u8]) -> Answer
+    ensures answer { result ≡ write_answer 0 text.now (length out.old) }
+    ensures bytes { out.new ≡ write_bytes 0 text.now out.old }
+{
+    write_items(text, out)
 }
 
 // The first `n` bytes, or all there are.
@@ -156,10 +163,8 @@ pub fn same_bytes(a: &[u8], b: &[u8]) -> bool
         return false;
     }
     let mut differ: u8 = 0;
-    let mut i: usize = 0;
-    while i < a.len() {
-        differ = differ | (a[i] ^ b[i]);
-        i += 1;
+    for (i, x) in a.iter().enumerate() {
+        differ |= *x ^ b[i];
     }
     differ == 0
 }
@@ -185,21 +190,20 @@ pub fn both(a: bool, b: bool) -> bool
     if a { b } else { false }
 }
 
-fn over(x: u8, most: u8) -> u8
-    ensures { result ≡ x - most }
+// Whether something in a list is over a bound, gathered without a branch, so that many are compared at a time.
+pub fn any_over<T: PartialOrd>(s: &[T], most: &T) -> bool
+    ensures { result ≡ any_over T.partial_cmp most.now s.now }
 {
-    if most < x { x - most } else { 0 }
+    let mut over = false;
+    for x in s {
+        over |= x > most;
+    }
+    over
 }
 
-// Whether no byte is over a bound: any excess is gathered without a branch, so that many bytes are compared at a time.
+// Whether no byte is over a bound.
 pub fn all_at_most(s: &[u8], most: u8) -> bool
     ensures { result ≡ all_at_most most s.now }
 {
-    let mut above: u8 = 0;
-    let mut i: usize = 0;
-    while i < s.len() {
-        above = above | over(s[i], most);
-        i += 1;
-    }
-    above == 0
+    !any_over(s, &most)
 }

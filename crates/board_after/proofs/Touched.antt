@@ -3,10 +3,11 @@
 use mathlib.Core.Path.{◌≡◌, refl, ap, sym, ◌∙◌}
 use mathlib.Core.Bool.{Bool, true, false, cond, not, ◌&&◌, ◌||◌, and-true, and-false}
 use mathlib.Core.List.{List}
-use Prim.Native.Nat.{ℕ, ◌+◌, ◌<◌}
+use Prim.Native.Nat.{ℕ, ◌+◌, ◌-◌, ◌<◌}
+use native.Mathlib.Omega.{arith}
 use lib.Dec.{T, eqb}
 use lib.ListN.{set}
-use borrow.Author.Tests.{eq-eqb, eqb-true, eqb-false}
+use borrow.Author.Tests.{eq-eqb, ne_eqb, eqb-true, eqb-false}
 use Rattle.square.specs.Piece.{kind_of, pawn, man_on}
 use Rattle.answer.proofs.Below.{holds, fails, belows}
 use Rattle.answer.proofs.Numbers.{or_left, or_right}
@@ -34,6 +35,15 @@ module _ (l : List ℕ) (source dest promotion : ℕ) (e : touches_more l (man_o
   pub only_two : squares_after l source dest promotion ≡ set (set l source 0) dest (set_down (man_on l source) promotion)
   unfolding squares_after rook_moved pawn_removed
   only_two = simp (not_castles, not_others.0)
+
+-- how far two numbers are apart, tested either way round
+pub apart_by : (n a b d : ℕ) → d ≡ (a - b) + (b - a) → eqb d n ≡ (eqb b (a + n) || eqb a (b + n))
+apart_by n a b d e = go (eqb b (a + n)) refl (eqb a (b + n)) refl
+  where
+    go : (x : Bool) → eqb b (a + n) ≡ x → (y : Bool) → eqb a (b + n) ≡ y → eqb d n ≡ (x || y)
+    go true p y q = let z = eqb-true b (a + n) p in eq-eqb d n (omega (arith, e, z))
+    go false p true q = let z = eqb-true a (b + n) q in eq-eqb d n (omega (arith, e, z))
+    go false p false q = let u = eqb-false b (a + n) p in let v = eqb-false a (b + n) q in ne_eqb d n (λ f. omega (arith, e, f, u, v))
 
 -- two ranks on one file are 16 squares, at each pair of squares
 far : ℕ → ℕ → Bool

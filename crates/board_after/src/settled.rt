@@ -1,5 +1,5 @@
 // The settled record, after board.rs: an en passant file that no pawn can use is cleared.
-ghost use Rattle.std.specs.Prelude.{◌≡◌, true, ◌≤◌, ◌<◌, length};
+ghost use Rattle.std.specs.Prelude.{◌≡◌, true, ◌≤◌, ◌<◌};
 ghost use Rattle.board_builder.specs.BoardBuilder.{in_range};
 ghost use Rattle.settled_rules.specs.Settled.{stepped_pawn, own_pawn, settled_file, settled, settled_answer};
 
@@ -26,9 +26,9 @@ fn own_pawn(side: u8) -> u8
     if side == 0 { 1 } else { 7 }
 }
 
-// The file, or 0 if no pawn of the side to move stands beside the one that moved. Most records have none, which is tested first.
-fn settled_file(squares: &[u8], side: u8, file: u8) -> u8
-    requires { (length squares.now ≡ 64) × (file ≤ 8) }
+// The file as a record has it: 0 if no pawn of the side to move stands beside the one that moved. Most records have none, which is tested first.
+fn settled_file(squares: &[u8; 64], side: u8, file: u8) -> u8
+    requires { file ≤ 8 }
     ensures { result ≡ settled_file squares.now side file }
 {
     if file == 0 {
@@ -44,10 +44,10 @@ fn settle(b: BoardBuilder) -> BoardBuilder
     requires { in_range b ≡ true }
     ensures { result ≡ settled b }
 {
-    let pieces = b.pieces;
-    let mut board = b;
-    board.en_passant = settled_file(&pieces, board.side_to_move, board.en_passant);
-    board
+    BoardBuilder {
+        en_passant: settled_file(&b.pieces, b.side_to_move, b.en_passant),
+        ..b
+    }
 }
 
 // The settled record. Checks 5, and then hands the record back.

@@ -12,6 +12,8 @@ use Rattle.board_builder.proofs.BoardBuilder.none.Reads as none
 use Rattle.board_builder.proofs.BoardBuilder.none.Kinds as none·k
 use Rattle.board_builder.proofs.BoardBuilder.default.Reads as default
 use Rattle.board_builder.proofs.BoardBuilder.default.Kinds as default·k
+use Rattle.board_builder.proofs.BoardBuilder.from_numbers.Reads as from-numbers
+use Rattle.board_builder.proofs.BoardBuilder.from_numbers.Kinds as from-numbers·k
 use Rattle.board_builder.proofs.BoardBuilder.in_range.Reads as in_range_lem
 use Rattle.board_builder.proofs.BoardBuilder.in_range.Kinds as in-range·k
 use Rattle.board_builder.proofs.BoardBuilder.get_piece.Reads as get-piece
@@ -53,6 +55,9 @@ none_answer κs a x y e f p q = p ∙ sym q
 
 pub default_answer : OneAnswer default·k.ps default·k.r default.Learnt
 default_answer κs a x y e f p q = p ∙ sym q
+
+pub from_numbers_answer : OneAnswer from-numbers·k.ps from-numbers·k.r from-numbers.Learnt
+from_numbers_answer κs a x y e f p q = p ∙ sym q
 
 pub in_range_answer : OneAnswer in-range·k.ps in-range·k.r in_range_lem.Learnt
 in_range_answer κs a x y e f p q = p ∙ sym q

@@ -6,8 +6,9 @@ use Prim.Native.Nat.{ℕ, ◌+◌, ◌≤◌}
 use native.Mathlib.Omega.{arith}
 use lib.ListN.{length, take, drop, get_or, length-append, take-append-drop, drop_of_length-le}
 use lib.Seq.{take_at, drop_at, drop-cons, get_or-append-add}
+use Rattle.std.proofs.lemmas.List.{take-take, get_or-take}
 use Rattle.board_builder.specs.declared.BoardBuilder.{BoardBuilder}
-use Rattle.board_builder.specs.BoardBuilder.{board, with_counters, numbers, squares, record_size, in_range}
+use Rattle.board_builder.specs.BoardBuilder.{board, board_of, with_counters, numbers, squares, record_size, in_range}
 use Rattle.board_builder.specs.Promises.{SixtyEightNumbers, SeventyNumbers, NumbersAreTheRecord, NumbersAreThePosition, RecordOfNumbers}
 use Rattle.board_builder.specs.Promises.{NumbersOfRecord, NoneIsOutOfRange}
 use Rattle.board_builder.proofs.Ranges.{in_range_lem}
@@ -26,6 +27,16 @@ seventy_numbers b r = length-append (numbers b) (counters b) ∙ ap (λ (n : ℕ
 pub none_is_out_of_range : NoneIsOutOfRange
 unfolding in_range
 none_is_out_of_range = refl
+
+-- a record is read off the numbers in front, whatever stands behind them
+pub board_of_front : (l : List ℕ) → board_of (take record_size l) ≡ board_of l
+board_of_front l = rw (
+  take-take 64 68 l (omega arith),
+  get_or-take 68 l 64 0 (omega arith),
+  get_or-take 68 l 65 0 (omega arith),
+  get_or-take 68 l 66 0 (omega arith),
+  get_or-take 68 l 67 0 (omega arith),
+) refl
 
 -- the four numbers after the squares
 abbrev rest : BoardBuilder → List ℕ

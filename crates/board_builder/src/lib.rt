@@ -5,10 +5,10 @@
 
 mod initial;
 
-ghost use Rattle.std.specs.Prelude.{◌≡◌, ◌*◌, ◌<◌, max, length, take, drop};
+ghost use Rattle.std.specs.Prelude.{◌≡◌, length};
 ghost use Rattle.answer.specs.Answer.{write_answer, write_bytes};
 ghost use Rattle.answer.specs.Numbers.{all_at_most, largest};
-ghost use Rattle.board_builder.specs.BoardBuilder.{numbers, counters_in_range, in_range, numbers_in_range, empty_board, no_board, initial_board};
+ghost use Rattle.board_builder.specs.BoardBuilder.{numbers, board_of, counters_in_range, in_range, numbers_in_range, empty_board, no_board, initial_board};
 ghost use Rattle.board_builder.specs.Steps.{stepped, set_piece, clear_square, set_side, set_rights, set_en_passant, set_half_moves, set_full_moves};
 ghost use Rattle.board_builder.specs.Getters.{piece_on, side_answer, rights_answer, en_passant_square};
 
@@ -53,23 +53,12 @@ pub struct Stepped {
     pub board: BoardBuilder,
 }
 
-fn larger(a: u8, b: u8) -> u8
-    ensures { result ≡ max a b }
+fn largest(s: &[u8]) -> u8
+    ensures { result ≡ largest s.now }
 {
-    if a < b { b } else { a }
-}
-
-fn largest_of_rank(pieces: &[u8; 64], rank: usize) -> u8
-    requires pieces_len { length pieces.now ≡ 64 }
-    requires rank_bound { rank < 8 }
-    ensures { result ≡ largest (take 8 (drop (rank * 8) pieces.now)) }
-{
-    let from = rank * 8;
     let mut most: u8 = 0;
-    let mut i: usize = 0;
-    while i < 8 {
-        most = larger(most, pieces[from + i]);
-        i += 1;
+    for x in s {
+        most = most.max(*x);
     }
     most
 }
@@ -79,10 +68,9 @@ fn codes_in_range(pieces: [u8; 64]) -> bool
     ensures { result ≡ all_at_most 12 pieces }
 {
     let mut most: u8 = 0;
-    let mut rank: usize = 0;
-    while rank < 8 {
-        most = larger(most, largest_of_rank(&pieces, rank));
-        rank += 1;
+    for rank in 0..8 {
+        let from = rank * 8;
+        most = most.max(largest(&pieces[from..from + 8]));
     }
     most <= 12
 }
@@ -144,13 +132,8 @@ impl BoardBuilder {
         ensures { result ≡ no_board }
     {
         BoardBuilder {
-            pieces: [0u8; 64],
-            side_to_move: 0,
-            white_castle_rights: 0,
-            black_castle_rights: 0,
-            en_passant: 0,
-            half_moves: 0,
             full_moves: 0,
+            ..BoardBuilder::new()
         }
     }
 
@@ -160,12 +143,23 @@ impl BoardBuilder {
     {
         BoardBuilder {
             pieces: INITIAL,
-            side_to_move: 0,
             white_castle_rights: 3,
             black_castle_rights: 3,
-            en_passant: 0,
-            half_moves: 0,
-            full_moves: 1,
+            ..BoardBuilder::new()
+        }
+    }
+
+    // The record that its numbers say, with the counters of an empty one.
+    pub fn from_numbers(numbers: &[u8; RECORD_SIZE]) -> Self
+        ensures { result ≡ board_of numbers.now }
+    {
+        BoardBuilder {
+            pieces: *numbers.first_chunk::<SQUARES>().unwrap(),
+            side_to_move: numbers[SIDE_AT],
+            white_castle_rights: numbers[WHITE_RIGHTS_AT],
+            black_castle_rights: numbers[BLACK_RIGHTS_AT],
+            en_passant: numbers[EN_PASSANT_AT],
+            ..BoardBuilder::new()
         }
     }
 
@@ -253,6 +247,7 @@ impl BoardBuilder {
         }
     }
 
+    // This and `en_passant` are alike but for the field and its bound: each is a name that a host calls (C interface).
     pub fn side_to_move(mut self, color: u8) -> Stepped
         ensures { result ≡ set_side self color }
     {
@@ -369,11 +364,7 @@ impl BoardBuilder {
     {
         let pieces = self.pieces;
         let mut text = [0u8; 68];
-        let mut i: usize = 0;
-        while i < SQUARES {
-            text[i] = pieces[i];
-            i += 1;
-        }
+        text[..SQUARES].copy_from_slice(&pieces);
         text[SIDE_AT] = self.side_to_move;
         text[WHITE_RIGHTS_AT] = self.white_castle_rights;
         text[BLACK_RIGHTS_AT] = self.black_castle_rights;

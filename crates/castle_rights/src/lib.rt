@@ -8,6 +8,7 @@ ghost use Rattle.castle_rights.specs.CastleRights.{letters_of, letters_text, let
 
 use answer::{Answer, OUT_OF_RANGE};
 
+// Alike but for the operator, as `remove` and `add` are: each is a name that a host calls (C interface).
 pub fn has_kingside(rights: u8) -> Answer
     ensures { result ≡ has_king rights }
 {

@@ -10,7 +10,7 @@ use lib.ListN.{length, drop}
 use lib.Seq.{take_at}
 use borrow.Author.Tests.{le-leb, eq-eqb, eqb-true, eqb-false}
 use Rattle.answer.specs.declared.Answer.{Answer}
-use Rattle.square.specs.declared.Pair.TheVariants.{Square}
+use Rattle.std.specs.Prelude.{Ok}
 use Rattle.answer.specs.Answer.{accepted, read_as, fault_at, invalid_uci_move, overwrite, write_answer, write_bytes}
 use Rattle.square.specs.Square.{square_named, read_square}
 use Rattle.square.specs.Piece.{letter_of}
@@ -24,7 +24,7 @@ use Rattle.chess_move.proofs.Numbers.{source_most, dest_most, promotion_most, nu
 use Rattle.chess_move.proofs.Ways.{four_bytes, read_squares, ended_squares, ended_letter, promoted_none, promoted_some, text_four, text_five}
 
 -- a square's two bytes name it
-pub pair_back : (square : ℕ) → square ≤ 63 → square_named (97 + square % 8) (49 + square / 8) ≡ Square square
+pub pair_back : (square : ℕ) → square ≤ 63 → square_named (97 + square % 8) (49 + square / 8) ≡ Ok square
 unfolding read_square
 pair_back square h = square_reads_back square (omega arith)
 

@@ -1,37 +1,38 @@
 -- The reader of coordinate texts behind two squares, case by case, each from what the code knows there, and the two lengths of a written text.
 -- Assumes nothing.
-use mathlib.Core.Path.{◌≡◌}
+use Rattle.std.specs.Prelude.{Ok, Err}
+use mathlib.Core.Path.{◌≡◌, refl}
 use mathlib.Core.List.{List, [], ◌∷◌}
 use Prim.Native.Nat.{ℕ, ◌+◌, ◌*◌, ◌/◌, ◌%◌}
 use native.Mathlib.Omega.{arith}
 use lib.ListN.{length, get_or, drop}
 use borrow.Author.Tests.{eq-eqb, ne_eqb}
-use Rattle.square.specs.declared.Pair.TheVariants.{Square, BadFile, BadRank, Missing}
+use Rattle.square.specs.declared.PairError.{PairError}
+use Rattle.square.specs.declared.PairError.TheVariants.{BadFile, BadRank, Missing}
 use Rattle.answer.specs.Answer.{read_as, fault_at, invalid_uci_move}
 use Rattle.square.specs.Square.{read_square, pair_told}
 use Rattle.square.specs.Piece.{letter_of}
 use Rattle.chess_move.specs.Number.{source_of, dest_of, promotion_of, number_of}
 use Rattle.chess_move.specs.Coordinate.{promotion_named, promoted, with_end, with_dest, with_source, read_move, move_text}
 
--- the first pair, by what it was read as
-module _ (s : List ℕ) where
-  pub with_source_fact : (x : ℕ) → read_square s ≡ Square x → read_move s ≡ with_dest s x (read_square (drop 2 s))
-  unfolding read_move with_source
-  with_source_fact x e = rw e
+-- what is wrong with the first pair, or with the second
+pub bad_source : (s : List ℕ) (e : PairError) → read_square s ≡ Err e → read_move s ≡ pair_told 0 (length s) (Err e)
+unfolding read_move with_source
+bad_source s BadFile h = rw h
+bad_source s BadRank h = rw h
+bad_source s Missing h = rw h
 
-  pub bad_file : read_square s ≡ BadFile → read_move s ≡ pair_told 0 (length s) BadFile
-  unfolding read_move with_source
-  bad_file e = rw e
+pub bad_dest : (s : List ℕ) (source : ℕ) (e : PairError) → with_dest s source (Err e) ≡ pair_told 2 (length s) (Err e)
+unfolding with_dest
+bad_dest s source BadFile = refl
+bad_dest s source BadRank = refl
+bad_dest s source Missing = refl
 
-  pub bad_rank : read_square s ≡ BadRank → read_move s ≡ pair_told 0 (length s) BadRank
-  unfolding read_move with_source
-  bad_rank e = rw e
+pub good_source : (s : List ℕ) (x : ℕ) → read_square s ≡ Ok x → read_move s ≡ with_dest s x (read_square (drop 2 s))
+unfolding read_move with_source
+good_source s x e = rw e
 
-  pub missing : read_square s ≡ Missing → read_move s ≡ pair_told 0 (length s) Missing
-  unfolding read_move with_source
-  missing e = rw e
-
-pub read_squares : (s : List ℕ) (x y : ℕ) → read_square s ≡ Square x → read_square (drop 2 s) ≡ Square y → read_move s ≡ with_end s x y
+pub read_squares : (s : List ℕ) (x y : ℕ) → read_square s ≡ Ok x → read_square (drop 2 s) ≡ Ok y → read_move s ≡ with_end s x y
 unfolding read_move with_source with_dest
 read_squares s x y e f = rw (e, f)
 

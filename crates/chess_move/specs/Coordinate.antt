@@ -2,10 +2,10 @@
 -- first. Exactly five bytes must end in q, r, n or b, else 3. Longer text drops its tail. A refusal has an offset (document 02, order 3): the faulty
 -- byte's, or the text's length where a pair is not there.
 -- Assumes nothing.
-use Rattle.std.specs.Prelude.{ℕ, ◌+◌, cond, List, [], ◌∷◌, ◌++◌, eqb, leb, length, get_or, drop}
+use Rattle.std.specs.Prelude.{ℕ, ◌+◌, cond, List, [], ◌∷◌, ◌++◌, eqb, leb, length, get_or, drop, Result, Ok, Err}
 use Rattle.answer.specs.declared.Placed.{Placed}
-use Rattle.square.specs.declared.Pair.{Pair}
-use Rattle.square.specs.declared.Pair.TheVariants.{Square, BadFile, BadRank, Missing}
+use Rattle.square.specs.declared.PairError.{PairError}
+use Rattle.square.specs.declared.PairError.TheVariants.{BadFile, BadRank, Missing}
 use Rattle.answer.specs.Answer.{read_as, fault_at, invalid_uci_move, bad_list}
 use Rattle.square.specs.Square.{read_square, pair_told, square_text}
 use Rattle.square.specs.Piece.{letter_of}
@@ -23,18 +23,18 @@ abbrev pub with_end : List ℕ → ℕ → ℕ → Placed
 with_end s source dest = cond (eqb (length s) 5) (promoted source dest (promotion_named (get_or s 4 0))) (read_as (number_of source dest 0))
 
 -- the second pair, bytes 2 and 3
-unfoldable pub with_dest : List ℕ → ℕ → Pair → Placed
-with_dest s source (Square dest) = with_end s source dest
-with_dest s source BadFile = pair_told 2 (length s) BadFile
-with_dest s source BadRank = pair_told 2 (length s) BadRank
-with_dest s source Missing = pair_told 2 (length s) Missing
+unfoldable pub with_dest : List ℕ → ℕ → Result ℕ PairError → Placed
+with_dest s source (Ok dest) = with_end s source dest
+with_dest s source (Err BadFile) = pair_told 2 (length s) (Err BadFile)
+with_dest s source (Err BadRank) = pair_told 2 (length s) (Err BadRank)
+with_dest s source (Err Missing) = pair_told 2 (length s) (Err Missing)
 
 -- the first pair, bytes 0 and 1
-unfoldable pub with_source : List ℕ → Pair → Placed
-with_source s (Square source) = with_dest s source (read_square (drop 2 s))
-with_source s BadFile = pair_told 0 (length s) BadFile
-with_source s BadRank = pair_told 0 (length s) BadRank
-with_source s Missing = pair_told 0 (length s) Missing
+unfoldable pub with_source : List ℕ → Result ℕ PairError → Placed
+with_source s (Ok source) = with_dest s source (read_square (drop 2 s))
+with_source s (Err BadFile) = pair_told 0 (length s) (Err BadFile)
+with_source s (Err BadRank) = pair_told 0 (length s) (Err BadRank)
+with_source s (Err Missing) = pair_told 0 (length s) (Err Missing)
 
 unfoldable pub read_move : List ℕ → Placed
 read_move s = with_source s (read_square s)

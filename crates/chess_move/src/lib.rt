@@ -1,13 +1,13 @@
 // The move and its coordinate text, after chess_move.rs: source, destination and promotion, as one number, as e2e4 or e7e8q.
 #![tactic(auto)]
 
-ghost use Rattle.std.specs.Prelude.{◌≡◌, length};
+ghost use Rattle.std.specs.Prelude.{◌≡◌, ◌<◌, SomeIff, length};
 ghost use Rattle.answer.specs.Answer.{write_answer, write_bytes};
 ghost use Rattle.chess_move.specs.Number.{source_of, dest_of, move_of, number_answer};
 ghost use Rattle.chess_move.specs.Coordinate.{promotion_named, with_end, with_dest, read_move, move_text, move_check};
 
 use answer::{Answer, BAD_LIST, INVALID_UCI_MOVE, OUT_OF_RANGE, Placed};
-use square::Pair;
+use square::PairError;
 
 // The largest number of a move: h8 to h8 with promotion 6.
 pub const LAST_MOVE: u64 = 28_671;
@@ -38,8 +38,8 @@ impl ChessMove {
         ensures { result ≡ move_of n }
     {
         ChessMove {
-            source: (n % 64) as u8,
-            dest: (n / 64 % 64) as u8,
+            source: source_of(n),
+            dest: dest_of(n),
             promotion: (n / 4096) as u8,
         }
     }
@@ -61,16 +61,16 @@ impl ChessMove {
     }
 }
 
-// q, r, n, b, and 0 for any other byte.
-fn promotion_named(b: u8) -> u64
-    ensures { result ≡ promotion_named b }
+// The promotion that q, r, n or b names.
+fn promotion_named(b: u8) -> Option<u64>
+    ensures { SomeIff result (0 < promotion_named b) (promotion_named b) }
 {
     match b {
-        b'q' => 5,
-        b'r' => 4,
-        b'n' => 2,
-        b'b' => 3,
-        _ => 0,
+        b'q' => Some(5),
+        b'r' => Some(4),
+        b'n' => Some(2),
+        b'b' => Some(3),
+        _ => None,
     }
 }
 
@@ -81,21 +81,18 @@ fn ended(text: &[u8], source: u8, dest: u8) -> Placed
     if text.len() != 5 {
         return answer::read_as(source as u64 + 64 * dest as u64);
     }
-    let promotion = promotion_named(text[4]);
-    if promotion == 0 {
+    let Some(promotion) = promotion_named(text[4]) else {
         return answer::fault_at(INVALID_UCI_MOVE, 4);
-    }
+    };
     answer::read_as(source as u64 + 64 * dest as u64 + 4096 * promotion)
 }
 
-fn with_dest(text: &[u8], source: u8, dest: Pair) -> Placed
+fn with_dest(text: &[u8], source: u8, dest: Result<u8, PairError>) -> Placed
     ensures { result ≡ with_dest text.now source dest }
 {
     match dest {
-        Pair::Square(s) => ended(text, source, s),
-        Pair::BadFile => square::told(2, text.len(), Pair::BadFile),
-        Pair::BadRank => square::told(2, text.len(), Pair::BadRank),
-        Pair::Missing => square::told(2, text.len(), Pair::Missing),
+        Ok(s) => ended(text, source, s),
+        Err(e) => square::told(2, text.len(), Err(e)),
     }
 }
 
@@ -103,12 +100,9 @@ fn with_dest(text: &[u8], source: u8, dest: Pair) -> Placed
 pub fn from_str(text: &[u8]) -> Placed
     ensures { result ≡ read_move text.now }
 {
-    let source = square::from_str(text);
-    match source {
-        Pair::Square(s) => with_dest(text, s, square::from_str(answer::rest(text, 2))),
-        Pair::BadFile => square::told(0, text.len(), Pair::BadFile),
-        Pair::BadRank => square::told(0, text.len(), Pair::BadRank),
-        Pair::Missing => square::told(0, text.len(), Pair::Missing),
+    match square::from_str(text) {
+        Ok(s) => with_dest(text, s, square::from_str(answer::rest(text, 2))),
+        Err(e) => square::told(0, text.len(), Err(e)),
     }
 }
 
@@ -120,17 +114,15 @@ pub fn to_string(n: u64, out: &mut [u8]) -> Answer
     if LAST_MOVE < n {
         return answer::refused(BAD_LIST);
     }
-    let source = (n % 64) as u8;
-    let dest = (n / 64 % 64) as u8;
-    let promotion = (n / 4096) as u8;
+    let m = ChessMove::from_number(n as u16);
     let text = [
-        b'a' + source % 8,
-        b'1' + source / 8,
-        b'a' + dest % 8,
-        b'1' + dest / 8,
-        square::letter_of_piece(promotion + 6),
+        b'a' + m.source % 8,
+        b'1' + m.source / 8,
+        b'a' + m.dest % 8,
+        b'1' + m.dest / 8,
+        square::letter_of_piece(m.promotion + 6),
     ];
-    if promotion == 0 {
+    if m.promotion == 0 {
         return answer::write_text(&text[..4], out);
     }
     answer::write_text(&text, out)

@@ -27,19 +27,14 @@ pub fn is_irreversible(p: &[u8], m: u64) -> bool
     ensures { result ≡ irreversible (position_of p.now) m }
 {
     let moved = answer::byte_at(p, (m % 64) as usize);
-    if square::kind_of(moved) == PAWN {
-        return true;
-    }
-    answer::byte_at(p, (m / 64 % 64) as usize) != 0
+    square::kind_of(moved) == PAWN || answer::byte_at(p, (m / 64 % 64) as usize) != 0
 }
 
 fn rights_differ(p: &[u8], q: &[u8]) -> bool
     ensures { result ≡ rights_differ (position_of p.now) (position_of q.now) }
 {
-    if answer::byte_at(p, WHITE_RIGHTS_AT) != answer::byte_at(q, WHITE_RIGHTS_AT) {
-        return true;
-    }
-    answer::byte_at(p, BLACK_RIGHTS_AT) != answer::byte_at(q, BLACK_RIGHTS_AT)
+    answer::byte_at(p, WHITE_RIGHTS_AT) != answer::byte_at(q, WHITE_RIGHTS_AT)
+        || answer::byte_at(p, BLACK_RIGHTS_AT) != answer::byte_at(q, BLACK_RIGHTS_AT)
 }
 
 // Whether move `m` from position `p` empties the run and the count, where the position after it has the rights of position `q`.
@@ -58,9 +53,7 @@ pub fn begun_by(acts: &[u8], ps: &[u8], n: usize) -> usize
 {
     let mut k = actions::moves_in(acts, n);
     let last = position::at(ps, k);
-    let mut i = n;
-    while 0 < i {
-        i -= 1;
+    for i in (0..n).rev() {
         let m = actions::move_at(acts, i);
         if m <= LAST_MOVE {
             if empties(position::at(ps, k - 1), m, last) {
@@ -84,16 +77,13 @@ pub fn run_begun(acts: &[u8], begun: usize) -> Run
 pub fn moves_since(since: usize, m: usize) -> usize
     ensures { result ≡ moves_since since m }
 {
-    if since <= m { m - since } else { 0 }
+    m.saturating_sub(since)
 }
 
 fn claim_in(ps: &[u8], m: usize, r: Run) -> bool
     ensures { result ≡ claim_in ps.now m r }
 {
-    if CLAIM_COUNT <= moves_since(r.since, m) {
-        return true;
-    }
-    position::equals_two_earlier(ps, r.first, m)
+    CLAIM_COUNT <= moves_since(r.since, m) || position::equals_two_earlier(ps, r.first, m)
 }
 
 // Whether a draw may be claimed after the first `n` actions, with position `m` on the board.

@@ -18,6 +18,7 @@ pub fn to_string(number: u64, out: &mut [u8]) -> Answer
     let mut text = [0u8; MOST_DIGITS];
     let mut at = MOST_DIGITS - 1;
     let mut left = number;
+    // It ends with the number, not at an index: a `for` over places would have to stop at the first digit.
     while 10 <= left {
         text[at] = b'0' + (left % 10) as u8;
         left /= 10;

@@ -1,6 +1,6 @@
 -- The search for the first action that differs, over two texts of actions.
 -- Assumes nothing.
-use mathlib.Core.Path.{◌≡◌, refl, sym, ap, ap₂, ◌∙◌}
+use mathlib.Core.Path.{◌≡◌, refl, subst, sym, ap, ap₂, ◌∙◌}
 use mathlib.Core.Bool.{Bool, true, false}
 use mathlib.Core.List.{List, [], ◌∷◌, append-nil}
 use Prim.Native.Nat.{ℕ, suc, ◌+◌, ◌*◌, ◌-◌, ◌≤◌, ◌<◌}
@@ -9,6 +9,7 @@ use lib.Dec.{eqb, ltb}
 use lib.ListN.{length, drop}
 use lib.Seq.{drop-drop}
 use borrow.Author.Tests.{eq-eqb, ne_eqb, eqb-true}
+use Rattle.std.specs.Prelude.{Option, Some, None}
 use Rattle.answer.specs.Numbers.{number_at}
 use Rattle.answer.specs.CodePushed.{Put}
 use Rattle.answer.proofs.Pushes.{put_none, put_as}
@@ -23,51 +24,57 @@ pub record SameHere (l m : List ℕ) (k : ℕ) : Type 0 where
   pub first : entry_size l ≡ k
   pub second : entry_size m ≡ k
 
-pub same_here : (l m : List ℕ) (k : ℕ) → k ≡ same_entry l m → (k ≡ 0 → ⊥) → SameHere l m k
+some_is : {k j : ℕ} → ◌≡◌ {A = Option ℕ} (Some k) (Some j) → k ≡ j
+some_is e = cc
+
+some_not_none : {k : ℕ} → ◌≡◌ {A = Option ℕ} (Some k) None → ⊥
+some_not_none e = let z : ◌≡◌ {A = ℕ} 0 1 = cc in omega arith
+
+pub same_here : (l m : List ℕ) (k : ℕ) → Some k ≡ same_entry l m → SameHere l m k
 unfolding same_entry entry_number entry_size
-same_here l m k e h = code (eqb (number_at l 0) (number_at m 0)) refl
+same_here l m k e = code (eqb (number_at l 0) (number_at m 0)) refl
   where
     four : (a : number_at l 0 ≡ number_at m 0) → eqb (number_at l 0) 2 ≡ true → (b : number_at l 1 ≡ number_at m 1) → ltb (number_at l 1) 128 ≡ false
         → (c : number_at l 2 ≡ number_at m 2) → ltb (number_at l 2) 128 ≡ false → (t : Bool) → eqb (number_at l 3) (number_at m 3) ≡ t → SameHere l m k
     four a p b q c s true f =
         let d : number_at l 3 ≡ number_at m 3 = eqb-true _ _ f in
-        let z : k ≡ 4 = e ∙ simp (eq-eqb _ _ a, p, eq-eqb _ _ b, q, eq-eqb _ _ c, s, f) in
+        let z : k ≡ 4 = some_is (e ∙ simp (eq-eqb _ _ a, p, eq-eqb _ _ b, q, eq-eqb _ _ c, s, f)) in
         record { numbers = simp (a, b, c, d); first = simp (p, q, s) (sym z); second = simp (← a, ← b, ← c) (simp (p, q, s) (sym z)) }
-    four a p b q c s false f = absurd (h (e ∙ simp (eq-eqb _ _ a, p, eq-eqb _ _ b, q, eq-eqb _ _ c, s, f)))
+    four a p b q c s false f = absurd (some_not_none (e ∙ simp (eq-eqb _ _ a, p, eq-eqb _ _ b, q, eq-eqb _ _ c, s, f)))
 
     three : (a : number_at l 0 ≡ number_at m 0) → eqb (number_at l 0) 2 ≡ true → (b : number_at l 1 ≡ number_at m 1) → ltb (number_at l 1) 128 ≡ false
         → (t : Bool) → eqb (number_at l 2) (number_at m 2) ≡ t → (u : Bool) → ltb (number_at l 2) 128 ≡ u → SameHere l m k
     three a p b q true f true s =
         let c : number_at l 2 ≡ number_at m 2 = eqb-true _ _ f in
-        let z : k ≡ 3 = e ∙ simp (eq-eqb _ _ a, p, eq-eqb _ _ b, q, f, s) in
+        let z : k ≡ 3 = some_is (e ∙ simp (eq-eqb _ _ a, p, eq-eqb _ _ b, q, f, s)) in
         let x : ltb (number_at m 2) 128 ≡ true = ap (λ (i : ℕ). ltb i 128) (sym c) ∙ s in
         let y : ltb (number_at m 1) 128 ≡ false = ap (λ (i : ℕ). ltb i 128) (sym b) ∙ q in
         let w : eqb (number_at m 0) 2 ≡ true = ap (λ (i : ℕ). eqb i 2) (sym a) ∙ p in
         record { numbers = simp (w, y, x, b, c, p); first = simp (p, q, s) (sym z); second = simp (w, y, x) (sym z) }
     three a p b q true f false s = four a p b q (eqb-true _ _ f) s (eqb (number_at l 3) (number_at m 3)) refl
-    three a p b q false f u s = absurd (h (e ∙ simp (eq-eqb _ _ a, p, eq-eqb _ _ b, q, f)))
+    three a p b q false f u s = absurd (some_not_none (e ∙ simp (eq-eqb _ _ a, p, eq-eqb _ _ b, q, f)))
 
     two : (a : number_at l 0 ≡ number_at m 0) → eqb (number_at l 0) 2 ≡ true → (t : Bool) → eqb (number_at l 1) (number_at m 1) ≡ t → (u : Bool)
         → ltb (number_at l 1) 128 ≡ u → SameHere l m k
     two a p true f true s =
         let b : number_at l 1 ≡ number_at m 1 = eqb-true _ _ f in
-        let z : k ≡ 2 = e ∙ simp (eq-eqb _ _ a, p, f, s) in
+        let z : k ≡ 2 = some_is (e ∙ simp (eq-eqb _ _ a, p, f, s)) in
         let y : ltb (number_at m 1) 128 ≡ true = ap (λ (i : ℕ). ltb i 128) (sym b) ∙ s in
         let w : eqb (number_at m 0) 2 ≡ true = ap (λ (i : ℕ). eqb i 2) (sym a) ∙ p in
         record { numbers = simp (p, w, y, b); first = simp (p, s) (sym z); second = simp (w, y) (sym z) }
     two a p true f false s = three a p (eqb-true _ _ f) s (eqb (number_at l 2) (number_at m 2)) refl (ltb (number_at l 2) 128) refl
-    two a p false f u s = absurd (h (e ∙ simp (eq-eqb _ _ a, p, f)))
+    two a p false f u s = absurd (some_not_none (e ∙ simp (eq-eqb _ _ a, p, f)))
 
     one : (a : number_at l 0 ≡ number_at m 0) → (t : Bool) → eqb (number_at l 0) 2 ≡ t → SameHere l m k
     one a true p = two a p (eqb (number_at l 1) (number_at m 1)) refl (ltb (number_at l 1) 128) refl
     one a false p =
-        let z : k ≡ 1 = e ∙ simp (eq-eqb _ _ a, p) in
+        let z : k ≡ 1 = some_is (e ∙ simp (eq-eqb _ _ a, p)) in
         let w : eqb (number_at m 0) 2 ≡ false = ap (λ (i : ℕ). eqb i 2) (sym a) ∙ p in
         record { numbers = simp (w, a); first = simp p (sym z); second = simp w (sym z) }
 
     code : (t : Bool) → eqb (number_at l 0) (number_at m 0) ≡ t → SameHere l m k
     code true f = one (eqb-true _ _ f) (eqb (number_at l 0) 2) refl
-    code false f = absurd (h (e ∙ simp f))
+    code false f = absurd (some_not_none (e ∙ simp f))
 
 -- ---- the actions from index i on
 
@@ -128,6 +135,12 @@ none_left_lem : (i : ℕ) → action_difference i [] [] ≡ []
 unfolding action_difference
 none_left_lem i = refl
 
+-- behind the last of n
+pub ended_at : (n : ℕ) (l : List ℕ) (m : ℕ) (k old bytes : List ℕ) (at to i : ℕ) → Searched n l m k old bytes at to i → n ≤ i
+    → Searched n l m k old bytes at to n
+ended_at n l m k old bytes at to i inv h =
+    let e : i ≡ n = omega (arith, inv.first) in subst (λ (j : ℕ). Searched n l m k old bytes at to j) e inv
+
 module _ (n : ℕ) (l : List ℕ) (m : ℕ) (k old bytes : List ℕ) (at to i : ℕ) (inv : Searched n l m k old bytes at to i) where
   pub searched_more : (size other : ℕ) → i < n → i < m → size ≡ entry_size (drop at l) → other ≡ entry_size (drop to k) → size ≤ 4 → other ≤ 4
       → entry_number (drop at l) ≡ entry_number (drop to k) → Searched n l m k old bytes (at + size) (to + other) (i + 1)
@@ -145,10 +158,10 @@ module _ (n : ℕ) (l : List ℕ) (m : ℕ) (k old bytes : List ℕ) (at to i : 
             (numbers_from m k (i + 1) (to + other)) z;
       }
 
-  pub searched_same : (r : ℕ) (x y : List ℕ) → i < n → i < m → x ≡ drop at l → y ≡ drop to k → r ≡ same_entry x y → r ≤ 4 → (r ≡ 0 → ⊥)
+  pub searched_same : (r : ℕ) (x y : List ℕ) → i < n → i < m → x ≡ drop at l → y ≡ drop to k → Some r ≡ same_entry x y → r ≤ 4
       → Searched n l m k old bytes (at + r) (to + r) (i + 1)
-  searched_same r x y h j ex ey e p z =
-      let s = same_here (drop at l) (drop to k) r (e ∙ ap₂ same_entry ex ey) z in
+  searched_same r x y h j ex ey e p =
+      let s = same_here (drop at l) (drop to k) r (e ∙ ap₂ same_entry ex ey) in
       searched_more r r h j (sym s.first) (sym s.second) p p s.numbers
 
   -- the text of the line that is left

@@ -4,6 +4,7 @@ use mathlib.Core.Path.{◌≡◌}
 use mathlib.Core.List.{List}
 use Prim.Native.Nat.{ℕ, ◌+◌, ◌*◌, ◌≤◌, ◌<◌}
 use borrow.Author.Tests.{lt-ltb, le-ltb, eq-eqb, ne_eqb}
+use Rattle.std.specs.Prelude.{Some, None}
 use Rattle.answer.specs.Numbers.{number_at}
 use Rattle.differences.specs.CodeEntries.{entry_size, entry_number, two_groups, three_groups, same_entry}
 
@@ -45,40 +46,40 @@ module _ (l : List ℕ) (a : ℕ) (ea : a ≡ number_at l 0) where
 -- ---- of two texts
 
 module _ (l m : List ℕ) (a : ℕ) (ea : a ≡ number_at l 0) (x : ℕ) (ex : x ≡ number_at m 0) where
-  pub other_code : (a ≡ x → ⊥) → 0 ≡ same_entry l m
+  pub other_code : (a ≡ x → ⊥) → None ≡ same_entry l m
   unfolding same_entry
   other_code h = rw (← ea, ← ex) (simp (ne_eqb _ _ h))
 
-  pub same_plain : a ≡ x → (a ≡ 2 → ⊥) → 1 ≡ same_entry l m
+  pub same_plain : a ≡ x → (a ≡ 2 → ⊥) → Some 1 ≡ same_entry l m
   unfolding same_entry
   same_plain h p = rw (← ea, ← ex) (simp (eq-eqb _ _ h, ne_eqb _ _ p))
 
   module _ (h : a ≡ x) (p : a ≡ 2) (b : ℕ) (eb : b ≡ number_at l 1) (y : ℕ) (ey : y ≡ number_at m 1) where
-    pub other_low : (b ≡ y → ⊥) → 0 ≡ same_entry l m
+    pub other_low : (b ≡ y → ⊥) → None ≡ same_entry l m
     unfolding same_entry
     other_low i = rw (← ea, ← ex, ← eb, ← ey) (simp (eq-eqb _ _ h, eq-eqb _ _ p, ne_eqb _ _ i))
 
-    pub same_one : b ≡ y → b < 128 → 2 ≡ same_entry l m
+    pub same_one : b ≡ y → b < 128 → Some 2 ≡ same_entry l m
     unfolding same_entry
     same_one i k = rw (← ea, ← ex, ← eb, ← ey) (simp (eq-eqb _ _ h, eq-eqb _ _ p, eq-eqb _ _ i, lt-ltb _ _ k))
 
     module _ (i : b ≡ y) (k : 128 ≤ b) (c : ℕ) (ec : c ≡ number_at l 2) (z : ℕ) (ez : z ≡ number_at m 2) where
-      pub other_middle : (c ≡ z → ⊥) → 0 ≡ same_entry l m
+      pub other_middle : (c ≡ z → ⊥) → None ≡ same_entry l m
       unfolding same_entry
       other_middle j = rw (← ea, ← ex, ← eb, ← ey, ← ec, ← ez) (simp (eq-eqb _ _ h, eq-eqb _ _ p, eq-eqb _ _ i, le-ltb _ _ k, ne_eqb _ _ j))
 
-      pub same_two : c ≡ z → c < 128 → 3 ≡ same_entry l m
+      pub same_two : c ≡ z → c < 128 → Some 3 ≡ same_entry l m
       unfolding same_entry
       same_two j n = rw (← ea, ← ex, ← eb, ← ey, ← ec, ← ez) (simp (eq-eqb _ _ h, eq-eqb _ _ p, eq-eqb _ _ i, le-ltb _ _ k, eq-eqb _ _ j, lt-ltb _ _ n))
 
       module _ (j : c ≡ z) (n : 128 ≤ c) (d : ℕ) (ed : d ≡ number_at l 3) (w : ℕ) (ew : w ≡ number_at m 3) where
-        pub other_high : (d ≡ w → ⊥) → 0 ≡ same_entry l m
+        pub other_high : (d ≡ w → ⊥) → None ≡ same_entry l m
         unfolding same_entry
         other_high q =
             rw (← ea, ← ex, ← eb, ← ey, ← ec, ← ez, ← ed, ← ew)
             (simp (eq-eqb _ _ h, eq-eqb _ _ p, eq-eqb _ _ i, le-ltb _ _ k, eq-eqb _ _ j, le-ltb _ _ n, ne_eqb _ _ q))
 
-        pub same_three : d ≡ w → 4 ≡ same_entry l m
+        pub same_three : d ≡ w → Some 4 ≡ same_entry l m
         unfolding same_entry
         same_three q =
             rw (← ea, ← ex, ← eb, ← ey, ← ec, ← ez, ← ed, ← ew)

@@ -31,7 +31,7 @@ use Rattle.differences_text.proofs.Games.{Read, read_roll_lem, numbers_within, c
 use Rattle.differences_text.proofs.Refusals.{first_told, second_told, both_pass, limits_have_four_digits}
 use Rattle.differences_text.proofs.NoLine.{no_own_text}
 use Rattle.differences.specs.CodeEntries.{text_numbers}
-use Rattle.differences.specs.CodeTexts.{start_of, start_lines, count_lines, action_line, actions_at}
+use Rattle.differences.specs.CodeTexts.{start_of, start_lines, counted_lines, action_line, actions_at}
 use Rattle.differences.proofs.Pushing.{put_size}
 use Rattle.differences.proofs.Written.{text_numbers_lem}
 
@@ -108,21 +108,17 @@ two_groups_lem s game a =
 
 -- ---- both
 
--- the lines of the counters of two games
-abbrev pub counted : Checked → Checked → List ℕ
-counted g h = count_lines g.half_moves g.full_moves h.half_moves h.full_moves
-
 module _ (s t : List ℕ) (g h : Checked) (a : Known s g) (b : Known t h) where
   start_fits_lem : length (start_lines s t) ≤ 602
   start_fits_lem =
       numbers_within limits s (start_in s g) g.actions a.bs t (start_in t h) h.actions b.bs limits_have_four_digits a.read b.read
 
-  counts_fit : length (counted g h) ≤ 30
+  counts_fit : length (counted_lines g h) ≤ 30
   counts_fit =
       counts_within limits s (start_in s g) g.actions a.bs t (start_in t h) h.actions b.bs limits_have_four_digits a.read b.read
 
-  start_within : length (start_lines s t ++ counted g h) ≤ 632
-  start_within = omega (arith, length-append (start_lines s t) (counted g h), start_fits_lem, counts_fit)
+  start_within : length (start_lines s t ++ counted_lines g h) ≤ 632
+  start_within = omega (arith, length-append (start_lines s t) (counted_lines g h), start_fits_lem, counts_fit)
 
   pub starts_asked : (text : List ℕ) → length text ≡ longest
       → ((record_size ≤ length s) × (record_size ≤ length t)) × (length (start_lines s t) ≤ length text)
@@ -132,12 +128,12 @@ module _ (s t : List ℕ) (g h : Checked) (a : Known s g) (b : Known t h) where
   few = (omega (arith, a.read.few, limits_have_four_digits), omega (arith, b.read.few, limits_have_four_digits))
 
   module _ (zeros text : List ℕ) (numbers : ℕ) (long : length zeros ≡ longest) (p : Put (length zeros) zeros 0 (start_lines s t) text numbers) where
-    pub counters_asked : numbers + length (counted g h) ≤ length text
+    pub counters_asked : numbers + length (counted_lines g h) ≤ length text
     counters_asked = omega (arith, p.pushed.count, p.long, start_fits_lem, counts_fit)
 
     -- the start's text
-    pub start_put : (more : List ℕ) (start : ℕ) → Put (length text) text numbers (counted g h) more start
-        → Put (length zeros) zeros 0 (start_lines s t ++ counted g h) more start
+    pub start_put : (more : List ℕ) (start : ℕ) → Put (length text) text numbers (counted_lines g h) more start
+        → Put (length zeros) zeros 0 (start_lines s t ++ counted_lines g h) more start
     start_put more start q = put_both p (put_size p.long q)
 
 -- with the two texts of actions, l and k
@@ -156,7 +152,7 @@ module _ (s t : List ℕ) (g h : Checked) (a : Known s g) (b : Known t h) (l k :
       rw (first_numbers, second_numbers)
       (action_within limits s (start_in s g) g.actions a.bs t (start_in t h) h.actions b.bs limits_have_four_digits a.read b.read)
 
-  whole_text : differences_text limits s t ≡ (start_lines s t ++ counted g h) ++ acted
+  whole_text : differences_text limits s t ≡ (start_lines s t ++ counted_lines g h) ++ acted
   unfolding differences_text differences
   whole_text =
       ap₂ (λ (x y : Rolled). lines_text (differences x y)) a.is b.is
@@ -166,7 +162,7 @@ module _ (s t : List ℕ) (g h : Checked) (a : Known s g) (b : Known t h) (l k :
       (start_text limits s (start_in s g) g.actions a.bs t (start_in t h) h.actions b.bs limits_have_four_digits a.read b.read))
 
   module _ (zeros text : List ℕ) (start : ℕ) (long : length zeros ≡ longest)
-      (p : Put (length zeros) zeros 0 (start_lines s t ++ counted g h) text start) where
+      (p : Put (length zeros) zeros 0 (start_lines s t ++ counted_lines g h) text start) where
     pub action_asked : ((g.actions ≤ 10000) × (h.actions ≤ 10000)) × (start + length acted ≤ length text)
     action_asked = (few s t g h a b, omega (arith, p.pushed.count, p.long, start_within s t g h a b, action_fits))
 

@@ -6,6 +6,7 @@ use Rattle.answer.specs.CodePushed.{Put}
 use Rattle.board_builder.specs.BoardBuilder.{record_size}
 use Rattle.roll_text.specs.Number.{number_text}
 use Rattle.differences_text.specs.Differences.{start_differences, action_difference, lines_text}
+use Rattle.roll_reader.specs.declared.Checked.{Checked}
 use Rattle.differences.specs.CodeEntries.{text_numbers}
 
 -- a text put behind the first n bytes of what is lent, whose length stays: r is where it ends
@@ -22,6 +23,9 @@ start_lines s t = lines_text (start_differences 0 (start_of s) (start_of t))
 -- for one start's half-move clock and move number, and the other's
 abbrev pub count_lines : ℕ → ℕ → ℕ → ℕ → List ℕ
 count_lines half full clock number = lines_text (start_differences record_size (half ∷ full ∷ []) (clock ∷ number ∷ []))
+
+abbrev pub counted_lines : Checked → Checked → List ℕ
+counted_lines g h = count_lines g.half_moves g.full_moves h.half_moves h.full_moves
 
 -- where a roll's actions begin: behind the 68 numbers, the counters and the count
 abbrev pub actions_at : ℕ → ℕ → ℕ → ℕ

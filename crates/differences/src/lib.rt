@@ -2,7 +2,7 @@
 // that differs.
 #![tactic(auto)]
 
-ghost use Rattle.std.specs.Prelude.{◌≡◌, ◌+◌, ◌*◌, ◌≤◌, ◌<◌, length, drop};
+ghost use Rattle.std.specs.Prelude.{◌≡◌, ◌+◌, ◌*◌, ◌≤◌, ◌<◌, length, drop, IfSome};
 ghost use Rattle.decimal.specs.Decimal.{decimal};
 ghost use Rattle.board_builder.specs.BoardBuilder.{record_size};
 ghost use Rattle.game_rules.specs.Limits.{limits};
@@ -10,11 +10,12 @@ ghost use Rattle.roll_text.specs.Number.{number_text};
 ghost use Rattle.differences_text.specs.Differences.{difference, start_key, if_differs, action_key, pair_text, line_text, lines_text};
 ghost use Rattle.differences_text.specs.Calls.{differences_answer, differences_room};
 ghost use Rattle.differences.specs.CodeEntries.{entry_size, entry_number, two_groups, three_groups, same_entry};
-ghost use Rattle.differences.specs.CodeTexts.{PutIn, start_lines, count_lines, action_line, actions_at};
+ghost use Rattle.differences.specs.CodeTexts.{PutIn, start_lines, counted_lines, action_line, actions_at};
 
 use answer::{ACCEPTED, Answer, byte_at, rest};
 use board_builder::RECORD_SIZE;
 use differences_text::MAX_DIFFERENCES;
+use roll_reader::Checked;
 
 // A move's code in a roll.
 const MOVE_CODE: u8 = 2;
@@ -28,7 +29,7 @@ fn push_word(bytes: &mut [u8], n: usize, word: &[u8]) -> usize
     n + written.value as usize
 }
 
-// A number in decimal.
+// A number in decimal. No one function with the one above: each is one call of another crate's writer, and a closure for it would be longer.
 fn push_number(bytes: &mut [u8], n: usize, number: u64) -> usize
     requires { n + length (decimal number) ≤ length bytes.old }
     ensures { PutIn bytes.old n (decimal number) bytes.new result }
@@ -55,25 +56,15 @@ fn push_key(bytes: &mut [u8], n: usize, i: usize) -> usize
     requires { n + length (start_key i) ≤ length bytes.old }
     ensures { PutIn bytes.old n (start_key i) bytes.new result }
 {
-    if i < 64 {
-        return push_number(bytes, n, i as u64);
+    match i {
+        0..64 => push_number(bytes, n, i as u64),
+        64 => push_word(bytes, n, b"side"),
+        65 => push_word(bytes, n, b"white"),
+        66 => push_word(bytes, n, b"black"),
+        67 => push_word(bytes, n, b"ep"),
+        68 => push_word(bytes, n, b"half"),
+        _ => push_word(bytes, n, b"full"),
     }
-    if i == 64 {
-        return push_word(bytes, n, b"side");
-    }
-    if i == 65 {
-        return push_word(bytes, n, b"white");
-    }
-    if i == 66 {
-        return push_word(bytes, n, b"black");
-    }
-    if i == 67 {
-        return push_word(bytes, n, b"ep");
-    }
-    if i == 68 {
-        return push_word(bytes, n, b"half");
-    }
-    push_word(bytes, n, b"full")
 }
 
 // The line of number `i` of two starts, or nothing if they are equal there.
@@ -95,21 +86,31 @@ fn push_starts(first: &[u8], second: &[u8], bytes: &mut [u8]) -> usize
     ensures { PutIn bytes.old 0 (start_lines first.now second.now) bytes.new result }
 {
     let mut n: usize = 0;
-    let mut i: usize = 0;
-    while i < RECORD_SIZE {
+    for i in 0..RECORD_SIZE {
         n = push_start(bytes, n, i, first[i] as u64, second[i] as u64);
-        i += 1;
     }
     n
 }
 
-// The lines of two starts' counters: `half` and `full` are the first's, `clock` and `number` the second's.
-fn push_counters(bytes: &mut [u8], n: usize, half: u16, full: u16, clock: u16, number: u16) -> usize
-    requires { n + length (count_lines half full clock number) ≤ length bytes.old }
-    ensures { PutIn bytes.old n (count_lines half full clock number) bytes.new result }
+// The lines of two starts' counters.
+fn push_counters(bytes: &mut [u8], n: usize, game: Checked, other: Checked) -> usize
+    requires { n + length (counted_lines game other) ≤ length bytes.old }
+    ensures { PutIn bytes.old n (counted_lines game other) bytes.new result }
 {
-    let behind = push_start(bytes, n, RECORD_SIZE, half as u64, clock as u64);
-    push_start(bytes, behind, RECORD_SIZE + 1, full as u64, number as u64)
+    let behind = push_start(
+        bytes,
+        n,
+        RECORD_SIZE,
+        game.half_moves as u64,
+        other.half_moves as u64,
+    );
+    push_start(
+        bytes,
+        behind,
+        RECORD_SIZE + 1,
+        game.full_moves as u64,
+        other.full_moves as u64,
+    )
 }
 
 // How many bytes the action at the front of a text takes.
@@ -166,35 +167,36 @@ fn entry_number(text: &[u8]) -> u64
     move_number(three_groups(low, middle, byte_at(text, 3)))
 }
 
-// How many bytes the actions at the front of two texts take if they are the same, as nearly all of two copies of a game are, or 0.
-fn same_entry(text: &[u8], other: &[u8]) -> usize
-    ensures { (result ≡ same_entry text.now other.now) × (result ≤ 4) }
+// How many bytes the actions at the front of two texts take if they are the same, as nearly all of two copies of a game are.
+fn same_entry(text: &[u8], other: &[u8]) -> Option<usize>
+    ensures size { result ≡ same_entry text.now other.now }
+    ensures most { IfSome result (λ k. k ≤ 4) }
 {
     let code = byte_at(text, 0);
     if code != byte_at(other, 0) {
-        return 0;
+        return None;
     }
     if code != MOVE_CODE {
-        return 1;
+        return Some(1);
     }
     let low = byte_at(text, 1);
     if low != byte_at(other, 1) {
-        return 0;
+        return None;
     }
     if low < 128 {
-        return 2;
+        return Some(2);
     }
     let middle = byte_at(text, 2);
     if middle != byte_at(other, 2) {
-        return 0;
+        return None;
     }
     if middle < 128 {
-        return 3;
+        return Some(3);
     }
     if byte_at(text, 3) != byte_at(other, 3) {
-        return 0;
+        return None;
     }
-    4
+    Some(4)
 }
 
 // The line of action `i`.
@@ -222,18 +224,15 @@ fn push_actions(
 {
     let mut at: usize = 0;
     let mut to: usize = 0;
-    let mut i: usize = 0;
-    while i < counted {
+    for i in 0..counted {
         let text = rest(first, at);
         if other <= i {
             return push_action(bytes, n, i, entry_number(text), 0);
         }
         let against = rest(second, to);
-        let same = same_entry(text, against);
-        if same != 0 {
+        if let Some(same) = same_entry(text, against) {
             at += same;
             to += same;
-            i += 1;
             continue;
         }
         let x = entry_number(text);
@@ -243,10 +242,9 @@ fn push_actions(
         }
         at += entry_size(text);
         to += entry_size(against);
-        i += 1;
     }
-    if i < other {
-        return push_action(bytes, n, i, 0, entry_number(rest(second, to)));
+    if counted < other {
+        return push_action(bytes, n, counted, 0, entry_number(rest(second, to)));
     }
     n
 }
@@ -262,13 +260,13 @@ fn number_size(number: u64) -> usize
     2
 }
 
-// What a roll has behind its start, of which the counters are told, and its count.
-fn actions_text(roll: &[u8], half: u16, full: u16, count: u64) -> &[u8]
-    requires { (half < 16384) × ((full < 16384) × (count < 16384)) }
-    ensures { result.now ≡ drop (actions_at half full count) roll.now }
+// What a roll that was looked at has behind its start and its count.
+fn actions_text(roll: &[u8], game: Checked) -> &[u8]
+    requires { (game.half_moves < 16384) × ((game.full_moves < 16384) × (game.actions < 16384)) }
+    ensures { result.now ≡ drop (actions_at game.half_moves game.full_moves game.actions) roll.now }
 {
-    let counters = number_size(half as u64) + number_size(full as u64);
-    rest(roll, RECORD_SIZE + counters + number_size(count))
+    let counters = number_size(game.half_moves as u64) + number_size(game.full_moves as u64);
+    rest(roll, RECORD_SIZE + counters + number_size(game.actions))
 }
 
 // Writes a line for each start number and for the first action that differs. Checks the roll reader's numbers, first roll first, then 7.
@@ -289,20 +287,13 @@ pub fn differences(first: &[u8], second: &[u8], out: &mut [u8]) -> Answer
     }
     let mut text = [0u8; MAX_DIFFERENCES];
     let numbers = push_starts(first, second, &mut text);
-    let start = push_counters(
-        &mut text,
-        numbers,
-        game.half_moves,
-        game.full_moves,
-        other.half_moves,
-        other.full_moves,
-    );
+    let start = push_counters(&mut text, numbers, game, other);
     let all = push_actions(
         &mut text,
         start,
-        actions_text(first, game.half_moves, game.full_moves, game.actions),
+        actions_text(first, game),
         game.actions as usize,
-        actions_text(second, other.half_moves, other.full_moves, other.actions),
+        actions_text(second, other),
         other.actions as usize,
     );
     answer::write_text(&text[..all], out)

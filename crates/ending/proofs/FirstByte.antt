@@ -1,5 +1,6 @@
 -- The last action's first byte: a move's and an offer's leave the game going, and so do bytes that hold no action.
 -- Assumes nothing.
+use Rattle.std.specs.Prelude.{Some, None}
 use mathlib.Core.Path.{◌≡◌, refl, ap, ◌∙◌}
 use mathlib.Core.Bool.{Bool, true, false, cond, ◌&&◌}
 use mathlib.Core.List.{List}
@@ -13,7 +14,6 @@ use Rattle.answer.specs.Parts.{item}
 use Rattle.chess_move.specs.Number.{last_move, of_bytes, move_of}
 use Rattle.action.specs.declared.Action.{Action}
 use Rattle.action.specs.declared.Action.TheVariants.{MakeMove, OfferDraw}
-use Rattle.action.specs.declared.Stored.TheVariants.{Holds, Nothing}
 use Rattle.action.specs.Layout.{action_size, action_of}
 use Rattle.action.proofs.Rules.{not_four, of_move, of_offer, of_none}
 use Rattle.actions.specs.Part.{last_action}
@@ -21,7 +21,7 @@ use Rattle.actions.proofs.LastAction.{last_none, last_some}
 use Rattle.ending.specs.Ending.{result_of_action}
 
 -- an action after which the game goes on, where its bytes hold it
-held_goes_on : (a : Action) → result_of_action (Holds a) ≡ 0 → (held : Bool) → result_of_action (cond held (Holds a) Nothing) ≡ 0
+held_goes_on : (a : Action) → result_of_action (Some a) ≡ 0 → (held : Bool) → result_of_action (cond held (Some a) None) ≡ 0
 held_goes_on a e true = e
 held_goes_on a e false = refl
 

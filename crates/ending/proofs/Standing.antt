@@ -1,15 +1,16 @@
 -- Laws of a standing offer.
 -- Assumes nothing.
+use Rattle.std.specs.Prelude.{Option}
 use mathlib.Core.Path.{◌≡◌}
 use mathlib.Core.Bool.{true, false}
 use mathlib.Core.List.{List}
 use Prim.Native.Nat.{ℕ, ◌-◌}
-use Rattle.action.specs.declared.Stored.{Stored}
+use Rattle.action.specs.declared.Action.{Action}
 use Rattle.actions.specs.Part.{last_action}
 use Rattle.position.specs.Layout.{Position, side}
 use Rattle.ending.specs.Ending.{is_offer, is_offer_by, offer_in}
 
-module _ (p : Position) (last before : Stored) where
+module _ (p : Position) (last before : Option Action) where
   pub stands_last : is_offer last ≡ true → offer_in p last before ≡ true
   unfolding offer_in
   stands_last e = rw e

@@ -1,16 +1,15 @@
 // How a game has ended, and whether an offer stands, after game.rs.
 #![tactic(auto)]
 
-ghost use Rattle.std.specs.Prelude.{◌≡◌, cond, ◌||◌, ◌-◌, eqb};
-ghost use Rattle.action.specs.declared.Stored.TheVariants.{Holds};
+ghost use Rattle.std.specs.Prelude.{◌≡◌};
 ghost use Rattle.actions.specs.Part.{last_action};
-ghost use Rattle.ending.specs.Ending.{white_resigns, black_resigns, result_without_moves, result_of_action, is_offer, is_offer_by, result_at, offer_at};
+ghost use Rattle.ending.specs.Ending.{result_without_moves, result_of_action, is_offer, is_offer_by, result_at, offer_at};
 
-use action::{ACTION_SIZE, Action, Stored};
+use action::{ACTION_SIZE, Action};
 use board_builder::SIDE_AT;
 use position::{CHECK_AT, LENGTH_AT};
 
-// The results, in the order of `GameResult`; 0 means none.
+// The results, in the order of `GameResult`; 0 means none. Numbers and no enum: a ruling of the C interface and the definition `result_at` say them so.
 
 pub const GOES_ON: u64 = 0;
 
@@ -43,35 +42,16 @@ fn without_moves(side: u8, check: u8) -> u64
     WHITE_CHECKMATES
 }
 
-fn by_resignation(colour: u8) -> u64
-    ensures { result ≡ cond (eqb colour 0) white_resigns black_resigns }
-{
-    if colour == 0 {
-        WHITE_RESIGNS
-    } else {
-        BLACK_RESIGNS
-    }
-}
-
-fn by_action(action: Action) -> u64
-    ensures { result ≡ result_of_action (Holds action) }
-{
-    match action {
-        Action::MakeMove(_) => GOES_ON,
-        Action::OfferDraw(_) => GOES_ON,
-        Action::AcceptDraw => DRAW_ACCEPTED,
-        Action::DeclareDraw => DRAW_DECLARED,
-        Action::Resign(colour) => by_resignation(colour),
-    }
-}
-
 // How an action has ended the game, or 0.
-fn by_last(last: Stored) -> u64
+fn by_last(last: Option<Action>) -> u64
     ensures { result ≡ result_of_action last }
 {
     match last {
-        Stored::Holds(action) => by_action(action),
-        Stored::Nothing => GOES_ON,
+        Some(Action::AcceptDraw) => DRAW_ACCEPTED,
+        Some(Action::DeclareDraw) => DRAW_DECLARED,
+        Some(Action::Resign(0)) => WHITE_RESIGNS,
+        Some(Action::Resign(_)) => BLACK_RESIGNS,
+        _ => GOES_ON,
     }
 }
 
@@ -102,52 +82,16 @@ pub fn result(acts: &[u8], ps: &[u8], n: usize, m: usize) -> u64
     by_last_action(acts, n)
 }
 
-fn offers(action: Action) -> bool
-    ensures { result ≡ is_offer (Holds action) }
-{
-    match action {
-        Action::MakeMove(_) => false,
-        Action::OfferDraw(_) => true,
-        Action::AcceptDraw => false,
-        Action::DeclareDraw => false,
-        Action::Resign(_) => false,
-    }
-}
-
-fn is_offer(last: Stored) -> bool
+fn is_offer(last: Option<Action>) -> bool
     ensures { result ≡ is_offer last }
 {
-    match last {
-        Stored::Holds(action) => offers(action),
-        Stored::Nothing => false,
-    }
+    matches!(last, Some(Action::OfferDraw(_)))
 }
 
-fn offers_by(colour: u8, action: Action) -> bool
-    ensures { result ≡ is_offer_by colour (Holds action) }
-{
-    match action {
-        Action::MakeMove(_) => false,
-        Action::OfferDraw(offerer) => offerer == colour,
-        Action::AcceptDraw => false,
-        Action::DeclareDraw => false,
-        Action::Resign(_) => false,
-    }
-}
-
-fn is_offer_by(colour: u8, earlier: Stored) -> bool
+fn is_offer_by(colour: u8, earlier: Option<Action>) -> bool
     ensures { result ≡ is_offer_by colour earlier }
 {
-    match earlier {
-        Stored::Holds(action) => offers_by(colour, action),
-        Stored::Nothing => false,
-    }
-}
-
-fn other_side(side: u8) -> u8
-    ensures { result ≡ 1 - side }
-{
-    if side == 0 { 1 } else { 0 }
+    matches!(earlier, Some(Action::OfferDraw(offerer)) if offerer == colour)
 }
 
 // Whether an offer stands after the first `n` actions, with position `m` on the board.
@@ -161,5 +105,6 @@ pub fn offer_stands(acts: &[u8], ps: &[u8], n: usize, m: usize) -> bool
         return false;
     }
     let side = answer::byte_at(position::at(ps, m), SIDE_AT);
-    is_offer_by(other_side(side), actions::last(acts, n - 1))
+    let other_side = u8::from(side == 0);
+    is_offer_by(other_side, actions::last(acts, n - 1))
 }

@@ -1,6 +1,7 @@
 -- A counter's token, byte by byte: digits are read on, any other byte ends it.
 -- Assumes nothing.
 use mathlib.Core.Path.{◌≡◌}
+use mathlib.Core.Bool.{true, false}
 use mathlib.Core.List.{List}
 use Prim.Native.Nat.{ℕ, ◌+◌, ◌*◌, ◌-◌, ◌^◌, ◌≤◌, ◌<◌}
 use native.Mathlib.Nat.{pow-suc}
@@ -9,27 +10,28 @@ use native.Mathlib.Omega.{arith}
 use lib.Dec.{leb, leb→le}
 use lib.ListN.{length, get_or, drop, drop_of_length-le}
 use lib.Seq.{drop-cons}
-use borrow.Author.Tests.{le-leb, lt-leb}
+use Rattle.std.proofs.lemmas.Bool.{and_parts}
+use Rattle.answer.specs.Numbers.{between}
+use borrow.Author.Tests.{le-leb, lt-leb, leb-true}
 use Rattle.answer.proofs.Below.{below}
 use Rattle.fen_text.specs.Full.{no_count, digits_from, counter_of}
 
 module _ (s : List ℕ) (i v : ℕ) where
-  pub digits_turn : i < length s → 48 ≤ get_or s i 0 → get_or s i 0 ≤ 57
+  pub digits_turn : i < length s → between 48 57 (get_or s i 0) ≡ true
       → digits_from v (drop i s) ≡ digits_from (v * 10 + (get_or s i 0 - 48)) (drop (i + 1) s)
   unfolding digits_from
-  digits_turn h low high = simp (add-one, drop-cons s i 0 h, le-leb _ _ low, le-leb _ _ high)
+  digits_turn h e = simp (add-one, drop-cons s i 0 h, e)
 
-  pub digits_low : i < length s → get_or s i 0 < 48 → digits_from v (drop i s) ≡ no_count
+  pub digits_other : i < length s → between 48 57 (get_or s i 0) ≡ false → digits_from v (drop i s) ≡ no_count
   unfolding digits_from
-  digits_low h low = simp (drop-cons s i 0 h, lt-leb _ _ low)
-
-  pub digits_high : i < length s → 48 ≤ get_or s i 0 → 57 < get_or s i 0 → digits_from v (drop i s) ≡ no_count
-  unfolding digits_from
-  digits_high h low high = simp (drop-cons s i 0 h, le-leb _ _ low, lt-leb _ _ high)
+  digits_other h e = simp (drop-cons s i 0 h, e)
 
   pub digits_end : length s ≤ i → digits_from v (drop i s) ≡ v
   unfolding digits_from
   digits_end h = simp (drop_of_length-le s h)
+
+pub digit_most : (b : ℕ) → between 48 57 b ≡ true → b - 48 ≤ 9
+digit_most b e = omega (arith, leb-true b 57 (and_parts (leb 48 b) (leb b 57) e).1)
 
 pub counter_fits : (s : List ℕ) → 1 ≤ length s → length s ≤ 4 → counter_of s ≡ digits_from 0 s
 unfolding counter_of

@@ -1,36 +1,32 @@
 -- The loops over the places, a turn each: the slashes, the files of a rank, and the ranks.
 -- Assumes nothing.
-use mathlib.Core.Path.{◌≡◌, refl, sym, ap, ◌∙◌}
-use mathlib.Core.Bool.{Bool, true, false}
+use mathlib.Core.Path.{◌≡◌, ◌∙◌}
+use mathlib.Core.Bool.{Bool, true, ◌&&◌}
 use mathlib.Core.List.{List}
-use Prim.Native.Nat.{ℕ, ◌+◌, ◌*◌, ◌/◌, ◌%◌, ◌≤◌, ◌<◌}
+use Prim.Native.Nat.{ℕ, ◌+◌, ◌*◌, ◌/◌, ◌≤◌, ◌<◌}
 use native.Mathlib.Decide.{dec_le}
 use native.Mathlib.Omega.{arith}
 use lib.Dec.{eqb}
 use lib.ListN.{length, get_or, set}
 use lib.Seq.{get_or-set_same, get_or-set_other}
 use borrow.Author.Tests.{eqb-true}
+use Rattle.std.proofs.lemmas.Bool.{and_parts}
 use Rattle.fen_reader.specs.CodeMarks.{slash_mark}
-use Rattle.fen_reader.specs.CodePlaces.{place_at, RankSet, missing_after}
+use Rattle.fen_reader.specs.CodePlaces.{place_at, RankSet}
 
--- no slash is missing so far
+-- a slash stands behind each of the first ranks
 abbrev pub SlashesTo : List ℕ → ℕ → Type 0
-SlashesTo places from = (r : ℕ) → r * 16 + 8 < from → get_or places (r * 16 + 8) 0 ≡ slash_mark
+SlashesTo places rank = (r : ℕ) → r < rank → get_or places (r * 16 + 8) 0 ≡ slash_mark
 
-pub slashes_next : (places : List ℕ) (from missing x : ℕ) → from % 16 ≡ 8 → x ≡ missing_after missing (get_or places from 0)
-    → (missing ≡ 0 → SlashesTo places from) → x ≡ 0 → SlashesTo places (from + 16)
-slashes_next places from missing x odd e old z r h = go (eqb (get_or places from 0) slash_mark) refl (dec_le from (r * 16 + 8))
+pub slashes_next : (places : List ℕ) (rank : ℕ) (all : Bool) → (all ≡ true → SlashesTo places rank)
+    → all && eqb (get_or places (rank * 16 + 8) 0) slash_mark ≡ true → SlashesTo places (rank + 1)
+slashes_next places rank all old e r h = go (dec_le rank r)
   where
-    go : (t : Bool) → eqb (get_or places from 0) slash_mark ≡ t → Dec (from ≤ r * 16 + 8) → get_or places (r * 16 + 8) 0 ≡ slash_mark
-    go true q (yes l) =
-        let here : r * 16 + 8 ≡ from = omega arith in
-        ap (λ (k : ℕ). get_or places k 0) here ∙ eqb-true _ _ q
-    go true q (no l) =
-        let none : missing ≡ 0 = sym (rw q at e) ∙ z in
-        old none r (omega arith)
-    go false q l =
-        let one : x ≡ 1 = rw q at e in
-        absurd (omega arith)
+    go : Dec (rank ≤ r) → get_or places (r * 16 + 8) 0 ≡ slash_mark
+    go (yes l) =
+        let here : r ≡ rank = omega arith in
+        rw here (eqb-true _ _ (and_parts all _ e).1)
+    go (no l) = old (and_parts all _ e).0 r (omega arith)
 
 -- the files of a rank so far
 abbrev pub FilesTo : List ℕ → List ℕ → ℕ → ℕ → Type 0

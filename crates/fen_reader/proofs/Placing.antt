@@ -1,15 +1,17 @@
 -- The placement in one pass: a byte's mark says what `place_byte` does, and whether it may stand in a placement.
 -- Assumes nothing.
 use mathlib.Core.Path.{◌≡◌, refl, sym, ap, ◌∙◌}
-use mathlib.Core.Bool.{Bool, true, false, ◌&&◌, not, cond, and-true, and-false}
+use mathlib.Core.Bool.{Bool, true, false, ◌&&◌, not, and-true, and-false}
 use mathlib.Core.List.{List, [], ◌∷◌}
 use Prim.Native.Nat.{ℕ, ◌+◌, ◌*◌, ◌-◌, ◌/◌, ◌%◌, ◌≤◌, ◌<◌}
 use native.Mathlib.Numerals.{add-one}
 use native.Mathlib.Omega.{arith}
-use lib.Dec.{eqb, ltb, lit<}
+use lib.Dec.{eqb, lit<}
 use borrow.Author.Tests.{eq-eqb, ne_eqb, eqb-false, lt-ltb, le-ltb, le-leb}
 use lib.ListN.{length, take, get_or, set, replicate}
 use lib.Seq.{set-get_or, take-suc, length-take-le}
+use lib.Seq.{take_all}
+use Rattle.std.specs.Bool.{then_some}
 use Rattle.answer.specs.Answer.{bad_placement, bad_side}
 use Rattle.answer.specs.Numbers.{between}
 use Rattle.square.specs.Square.{square_of}
@@ -24,7 +26,7 @@ use Rattle.fen_text.proofs.Faults.{four}
 use Rattle.fen_text.proofs.Placed.{place_append}
 use Rattle.fen_text.proofs.Keys.{piece_most}
 use Rattle.fen_reader.specs.CodeMarks.{slash_mark, no_mark, byte_mark}
-use Rattle.fen_reader.specs.CodeWalk.{NoPlacement, bad_seen, piece_after, step_of, file_next, rank_next, seen_after}
+use Rattle.fen_reader.specs.CodeWalk.{NoPlacement, PlacedBy, piece_after, step_of, file_next, rank_next}
 use Rattle.fen_reader.proofs.ByteMarks.{Kind, slash, digit, letter, other, kind, mark_slash, mark_digit, mark_letter, mark_other}
 use Rattle.fen_reader.proofs.Reading.{first_token}
 
@@ -98,19 +100,11 @@ next pieces rank file good b small = by (kind b)
         (is_same _ _ _ _ _ _ _ (ap (λ (c : ℕ). set pieces (square_of rank file) c) code) (ap (λ (m : ℕ). (file + m) % 8) one) (sym (and-true good))))
     by (other e f g) = rule_other p b e f g ∙ rw (mark_other b e f g) (is_same _ _ _ _ _ _ _ stays (omega arith) (sym (and-false good)))
 
--- no byte so far was refused exactly if nothing is seen
-seen_next : (seen m : ℕ) → ltb seen bad_seen && not (eqb m no_mark) ≡ ltb (seen_after seen m) bad_seen
-seen_next seen m = by (eqb m no_mark)
-  where
-    by : (t : Bool) → ltb seen bad_seen && not t ≡ ltb (cond t bad_seen seen) bad_seen
-    by true = and-false (ltb seen bad_seen)
-    by false = and-true (ltb seen bad_seen)
-
--- the same, as the code has it: the mark as it was looked up, and what the four functions gave
-pub stored : (pieces : List ℕ) (rank file seen m d x r f t : ℕ)
-    → m ≡ d → x ≡ piece_after m (get_or pieces (square_of rank file) 0) → r ≡ rank_next rank m → f ≡ file_next file m → t ≡ seen_after seen m
-    → after pieces rank file (ltb seen bad_seen) d ≡ placement (set pieces (square_of rank file) x) r f (ltb t bad_seen)
-stored pieces rank file seen m d x r f t e g h k l = rw (g, h, k, l, ← seen_next seen m, e)
+-- the same, as the code has it: the mark as it was looked up, and what the three functions gave
+pub stored : (pieces : List ℕ) (rank file : ℕ) (good : Bool) (m d x r f : ℕ)
+    → m ≡ d → x ≡ piece_after m (get_or pieces (square_of rank file) 0) → r ≡ rank_next rank m → f ≡ file_next file m
+    → after pieces rank file good d ≡ placement (set pieces (square_of rank file) x) r f (good && not (eqb m no_mark))
+stored pieces rank file good m d x r f e g h k = rw (g, h, k, e)
 
 -- one more byte
 pub turn : (s : List ℕ) (i : ℕ) {p q : Placement} → i < length s → place_all start (take i s) ≡ p → place_byte p (get_or s i 0) ≡ q
@@ -122,6 +116,15 @@ turn s i {p} {q} h e f =
 pub at_start_lem : place_all start [] ≡ placement (replicate 64 0) 7 0 true
 unfolding place_all
 at_start_lem = refl
+
+-- the end: the pieces, if each byte was good
+pub placed : (s : List ℕ) (i : ℕ) (pieces : List ℕ) (rank file : ℕ) (good : Bool) → length s ≤ i
+    → place_all start (take i s) ≡ placement pieces rank file good → PlacedBy s (then_some good pieces)
+placed s i pieces rank file good h e = by good (rw (take_all i s h) at e)
+  where
+    by : (t : Bool) → place_all start s ≡ placement pieces rank file t → PlacedBy s (then_some t pieces)
+    by true w = (ap (λ (p : Placement). p.good) w, ap (λ (p : Placement). p.pieces) w)
+    by false w = ap (λ (p : Placement). p.good) w
 
 -- a placement that was walked, and the side's start behind it
 pub bad_placement_lem : (s : List ℕ) (n : ℕ) (b c d : List ℕ) → (place_all start (take n s)).good ≡ false

@@ -2,6 +2,7 @@
 -- Assumes nothing.
 use mathlib.Core.Path.{◌≡◌, refl, sym, ap, subst, ◌∙◌}
 use mathlib.Core.Bool.{Bool, true, false}
+use Rattle.std.specs.Prelude.{Some}
 use mathlib.Core.List.{List}
 use Prim.Native.Nat.{ℕ, zero, suc, ◌+◌, ◌*◌, ◌-◌, ◌/◌, ◌%◌, ◌≤◌, ◌<◌}
 use native.Mathlib.Decide.{dec_le}
@@ -291,13 +292,12 @@ one_board places a b v w = ext_get_or 0 a b (v.long ∙ sym w.long) (λ k h. eac
 
 -- what the places tell is what the placement rule says
 pub quick : (s places pieces : List ℕ) (r : Stopped) → Laid s places r → Files places pieces → Tells s r.at r.end places pieces
-    → PlacementWalk s (record { pieces = pieces; end = r.end; seen = 0 })
+    → PlacementWalk s (record { end = r.end; pieces = Some pieces })
 quick s places pieces r laid w t =
     let last : r.at ≡ 120 = t.last in
     let ok : Right places r.at = rw last (right_behind places pieces t.slashes w t.codes) in
     let there : Walks s r.end r.at places = laid.told (omega arith) ok in
     record {
       place = sym (there.spaceless ∙ t.ends);
-      pieces = one_board places _ pieces there.stands.pieces w;
-      good = there.stands.good;
+      pieces = (there.stands.good, one_board places _ pieces there.stands.pieces w);
     }

@@ -1,7 +1,7 @@
 -- How the quick walk of the reader sets the marks of a placement down: sixteen places a rank, from the eighth down, its eight files and eight that a slash
 -- passes over. For its inner functions; the public contract does not speak of this.
 -- Assumes nothing.
-use Rattle.std.specs.Prelude.{ℕ, ◌+◌, ◌*◌, ◌-◌, ◌/◌, ◌%◌, ◌≤◌, ◌<◌, ◌≡◌, true, cond, List, eqb, length, take, drop, get_or}
+use Rattle.std.specs.Prelude.{ℕ, ◌+◌, ◌*◌, ◌-◌, ◌/◌, ◌%◌, ◌≤◌, ◌<◌, ◌≡◌, true, List, length, take, drop, get_or}
 use Rattle.answer.specs.Numbers.{all_at_most}
 use Rattle.fen_text.specs.Token.{place_of}
 use Rattle.fen_text.specs.Placement.{Placement, start, place_all}
@@ -49,10 +49,6 @@ pub record Walks (s : List ℕ) (i at : ℕ) (places : List ℕ) : Type 0 where
 pub record Laid (s places : List ℕ) (r : Stopped) : Type 0 where
   pub long : length places ≡ 128
   pub told : r.at ≤ 120 → Right places r.at → Walks s r.end r.at places
-
--- whether a slash is missing so far
-abbrev pub missing_after : ℕ → ℕ → ℕ
-missing_after old mark = cond (eqb mark slash_mark) old 1
 
 -- a slash stands behind each rank but the last
 abbrev pub Slashes : List ℕ → Type 0

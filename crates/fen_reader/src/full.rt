@@ -1,39 +1,37 @@
 // The full FEN reader (document 02, order 12): the crate's, and then the two counters.
 ghost use Rattle.std.specs.Prelude.{◌≡◌, ℕ, ◌+◌, ◌≤◌, length, drop};
-ghost use Rattle.board_builder.specs.BoardBuilder.{with_counters, last_count};
+ghost use Rattle.board_builder.specs.BoardBuilder.{with_counters};
 ghost use Rattle.fen_text.specs.Token.{place_of, tokens};
 ghost use Rattle.fen_text.specs.Read.{fen_of};
 ghost use Rattle.fen_text.specs.Full.{numbered, clocked, read_full};
 
 use crate::{lines, refused_at, token};
 use answer::{ACCEPTED, BAD_COUNTER};
-use board_builder::{BoardBuilder, LAST_COUNT};
+use board_builder::BoardBuilder;
 use fen_text::Fen;
 
-fn with_counters(b: BoardBuilder, half: u64, full: u64) -> Fen
-    requires { (half ≤ last_count) × (full ≤ last_count) }
+fn with_counters(b: BoardBuilder, half: u16, full: u16) -> Fen
     ensures { result ≡ fen_of (with_counters b half full) }
 {
-    let mut board = b;
-    board.half_moves = half as u16;
-    board.full_moves = full as u16;
     Fen {
         number: ACCEPTED,
         offset: 0,
-        board,
+        board: BoardBuilder {
+            half_moves: half,
+            full_moves: full,
+            ..b
+        },
     }
 }
 
 // The sixth token, at the front of `s`, which starts at `at`.
-fn full_moves(b: BoardBuilder, half: u64, at: usize, s: &[u8]) -> Fen
-    requires { half ≤ last_count }
+fn full_moves(b: BoardBuilder, half: u16, at: usize, s: &[u8]) -> Fen
     ensures { (long : ℕ) → result ≡ numbered b half long at (tokens s.now) }
 {
-    let full = token::counter(token::first(s));
-    if full == 0 {
+    let Some(full) = token::counter(token::first(s)) else {
         return refused_at(BAD_COUNTER, at);
-    }
-    if LAST_COUNT < full {
+    };
+    if full == 0 {
         return refused_at(BAD_COUNTER, at);
     }
     with_counters(b, half, full)
@@ -45,10 +43,9 @@ fn half_moves(b: BoardBuilder, long: usize, at: usize, s: &[u8]) -> Fen
     ensures { result ≡ clocked b long at (tokens s.now) }
 {
     let end = token::find(s, b' ');
-    let half = token::counter(token::up_to(s, end));
-    if LAST_COUNT < half {
+    let Some(half) = token::counter(answer::front(s, end)) else {
         return refused_at(BAD_COUNTER, at);
-    }
+    };
     if s.len() <= end {
         return refused_at(BAD_COUNTER, long);
     }

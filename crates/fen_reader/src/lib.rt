@@ -16,7 +16,6 @@ ghost use Rattle.fen_reader.specs.CodeWalk.{NoPlacement};
 use answer::{ACCEPTED, BAD_PLACEMENT, BAD_SIDE, TOO_FEW_TOKENS};
 use board_builder::BoardBuilder;
 use fen_text::Fen;
-use placement::REFUSED;
 
 fn refused_at(number: u64, offset: usize) -> Fen
     ensures { result ≡ refused_at number offset }
@@ -32,10 +31,9 @@ fn refused_at(number: u64, offset: usize) -> Fen
 fn assemble(at: usize, pieces: [u8; 64], side: &[u8], castling: &[u8], ep: &[u8]) -> Fen
     ensures { result ≡ sided at pieces (side_of side.now) castling.now ep.now }
 {
-    let side_to_move = token::side(side);
-    if 1 < side_to_move {
+    let Some(side_to_move) = token::side(side) else {
         return refused_at(BAD_SIDE, at);
-    }
+    };
     let rights = token::rights(castling);
     let en_passant = token::en_passant(ep);
     let board = BoardBuilder {
@@ -63,7 +61,10 @@ fn no_placement(text: &[u8], end: usize) -> Fen
     if token::spaces(text) < 3 {
         return refused_at(TOO_FEW_TOKENS, text.len());
     }
-    refused_at(BAD_PLACEMENT, placement::first_bad(token::up_to(text, end)))
+    refused_at(
+        BAD_PLACEMENT,
+        placement::first_bad(answer::front(text, end)),
+    )
 }
 
 // Each byte of the first token must be one of a placement, and three more tokens must follow; what stands behind them is not looked at.
@@ -72,9 +73,9 @@ pub fn read_fen(text: &[u8]) -> Fen
 {
     let walked = placement::place(text);
     let end = walked.end;
-    if REFUSED <= walked.seen {
+    let Some(pieces) = walked.pieces else {
         return no_placement(text, end);
-    }
+    };
     if text.len() <= end {
         return refused_at(TOO_FEW_TOKENS, text.len());
     }
@@ -90,12 +91,11 @@ pub fn read_fen(text: &[u8]) -> Fen
     }
     let from_ep = token::after(from_rights, rights_end);
     let ep_end = token::find(from_ep, b' ');
-    let pieces = walked.pieces;
     assemble(
         end + 1,
         pieces,
-        token::up_to(from_side, side_end),
-        token::up_to(from_rights, rights_end),
-        token::up_to(from_ep, ep_end),
+        answer::front(from_side, side_end),
+        answer::front(from_rights, rights_end),
+        answer::front(from_ep, ep_end),
     )
 }

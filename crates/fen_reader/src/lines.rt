@@ -1,7 +1,8 @@
 // Lines: how many a text has, and where they end. No branch depends on a single byte until a block has a newline: many bytes are taken at a time.
-ghost use Rattle.std.specs.Prelude.{◌≡◌, cond, ◌<◌, length};
+ghost use Rattle.std.specs.Prelude.{◌≡◌, ◌+◌, ◌<◌, ◌≤◌, length, drop};
 ghost use Rattle.answer.specs.Numbers.{among};
-ghost use Rattle.fen_text.specs.Lines.{line_feed, line_end, ended_lines};
+ghost use Rattle.fen_text.specs.Token.{place_of};
+ghost use Rattle.fen_text.specs.Lines.{line_end, ended_lines};
 ghost use Rattle.fen_text.specs.Page.{line_count};
 ghost use Rattle.fen_reader.specs.CodeWalk.{found_from};
 
@@ -15,21 +16,14 @@ const BLOCK: usize = 16;
 // The bytes of a block whose newlines are counted in a byte.
 const COUNTED: usize = 128;
 
-fn flag(here: bool) -> u8
-    ensures { result ≡ cond here 1 0 }
-{
-    if here { 1 } else { 0 }
-}
-
+// The sum is a byte, so that many are taken at a time.
 fn newlines_in(block: &[u8]) -> u8
     requires { length block.now < 256 }
     ensures { result ≡ length (ended_lines block.now) }
 {
-    let mut n: u8 = 0;
-    let mut i: usize = 0;
-    while i < block.len() {
-        n += flag(block[i] == LINE_FEED);
-        i += 1;
+    let mut n = 0;
+    for b in block {
+        n += u8::from(*b == LINE_FEED);
     }
     n
 }
@@ -37,14 +31,12 @@ fn newlines_in(block: &[u8]) -> u8
 fn newlines(text: &[u8]) -> usize
     ensures { result ≡ length (ended_lines text.now) }
 {
-    let mut n: usize = 0;
-    let mut at: usize = 0;
-    while COUNTED <= text.len() - at {
-        let next = at + COUNTED;
-        n += newlines_in(&text[at..next]) as usize;
-        at = next;
+    let (blocks, rest) = text.as_chunks::<COUNTED>();
+    let mut n = 0;
+    for block in blocks {
+        n += usize::from(newlines_in(block));
     }
-    n + newlines_in(&text[at..]) as usize
+    n + usize::from(newlines_in(rest))
 }
 
 // How many lines a text has: an unended last line counts if it has a byte in it.
@@ -64,13 +56,25 @@ pub fn line_count(text: &[u8]) -> usize
 fn has(block: &[u8], b: u8) -> bool
     ensures { result ≡ among b block.now }
 {
-    let mut hit: u8 = 0;
-    let mut i: usize = 0;
-    while i < block.len() {
-        hit = hit | flag(block[i] == b);
-        i += 1;
+    let mut hit = 0;
+    for x in block {
+        hit |= u8::from(*x == b);
     }
     hit != 0
+}
+
+// How many bytes the blocks have that stand before the first one with a `b`.
+fn passed_over(text: &[u8], b: u8) -> usize
+    ensures within { result ≤ length text.now }
+    ensures none { place_of b text.now ≡ result + place_of b (drop result text.now) }
+{
+    let (blocks, _) = text.as_chunks::<BLOCK>();
+    for (k, block) in blocks.iter().enumerate() {
+        if has(block, b) {
+            return k * BLOCK;
+        }
+    }
+    blocks.len() * BLOCK
 }
 
 // The place of the first `b` from `from` on, or the text's end.
@@ -80,15 +84,9 @@ pub(crate) fn find_from(text: &[u8], from: usize, b: u8) -> usize
     if text.len() <= from {
         return from;
     }
-    let mut at = from;
-    while BLOCK <= text.len() - at {
-        let next = at + BLOCK;
-        if has(&text[at..next], b) {
-            return at + token::find(&text[at..], b);
-        }
-        at = next;
-    }
-    at + token::find(&text[at..], b)
+    let rest = &text[from..];
+    let at = passed_over(rest, b);
+    from + at + token::find(&rest[at..], b)
 }
 
 // Where the line that starts at `from` ends: at its newline, or with the text.

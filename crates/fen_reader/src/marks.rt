@@ -62,9 +62,3 @@ pub(crate) fn mark_all(marks: &mut [u8; 256])
     mark(marks, b'q');
     mark(marks, b'k');
 }
-
-pub(crate) fn wide(x: u8) -> usize
-    ensures { result ≡ x }
-{
-    x as usize
-}

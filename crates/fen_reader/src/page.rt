@@ -50,8 +50,9 @@ fn read_lines(text: &[u8], records: &mut [u8], told: &mut [u64])
     ensures records { records.new ≡ overwrite (page_records text.now) records.old }
     ensures told { told.new ≡ overwrite (page_told text.now) told.old }
 {
-    let mut at: usize = 0;
-    let mut line: usize = 0;
+    // A line is as long as it is: the place of the next one is known behind it, and no `for` counts it.
+    let mut at = 0;
+    let mut line = 0;
     while at < text.len() {
         let end = line_end(text, at);
         let fen = read_fen(&text[at..end]);

@@ -2,13 +2,10 @@
 ghost use Rattle.std.specs.Prelude.{◌≡◌, ◌<◌};
 ghost use Rattle.fen_text.specs.Placement.{first_bad};
 ghost use Rattle.fen_reader.specs.CodeMarks.{marked};
-ghost use Rattle.fen_reader.specs.CodeWalk.{piece_after, step_of, file_next, rank_next, seen_after, PlacementWalk};
+ghost use Rattle.fen_reader.specs.CodeWalk.{piece_after, step_of, file_next, rank_next, PlacedBy, PlacementWalk};
 
-use crate::marks::{NO_MARK, SLASH_MARK, wide};
-use crate::{marks, places};
-
-// What was seen in a token once one of its bytes may not stand in a placement.
-pub(crate) const REFUSED: u8 = 64;
+use crate::marks::{NO_MARK, SLASH_MARK};
+use crate::{marks, places, token};
 
 // The marks of men lie between a digit's and a slash's.
 const LEAST_MAN: u8 = 16;
@@ -34,7 +31,7 @@ fn file_after(file: usize, mark: u8) -> usize
     requires { file < 8 }
     ensures { result ≡ file_next file mark }
 {
-    let next = (file + wide(step_of(mark))) % 8;
+    let next = (file + usize::from(step_of(mark))) % 8;
     if mark == SLASH_MARK { 0 } else { next }
 }
 
@@ -49,52 +46,31 @@ fn rank_after(rank: usize, mark: u8) -> usize
     }
 }
 
-fn seen_after(seen: u8, mark: u8) -> u8
-    ensures { result ≡ seen_after seen mark }
-{
-    if mark == NO_MARK { REFUSED } else { seen }
-}
-
-// The pieces that a text's first token places, where the token ends, and REFUSED if one of its bytes may not stand in a placement, else less.
+// Where a text's first token ends, and the pieces that it places, if each of its bytes may stand in a placement.
 #[derive(Clone, Copy)]
 pub struct Walked {
-    pub pieces: [u8; 64],
     pub end: usize,
-    pub seen: u8,
+    pub pieces: Option<[u8; 64]>,
 }
 
-// The walk for any text. No branch depends on a byte except at the token's end.
-fn walk(text: &[u8], marks: &[u8; 256]) -> Walked
+// The walk for any token. No branch depends on a byte.
+fn walk(token: &[u8], marks: &[u8; 256]) -> Option<[u8; 64]>
     requires { marks.now ≡ marked }
-    ensures { PlacementWalk text.now result }
+    ensures { PlacedBy token.now result }
 {
     let mut pieces = [0u8; 64];
-    let mut rank: usize = 7;
-    let mut file: usize = 0;
-    let mut seen: u8 = 0;
-    let mut i: usize = 0;
-    while i < text.len() {
-        let b = text[i];
-        if b == b' ' {
-            return Walked {
-                pieces,
-                end: i,
-                seen,
-            };
-        }
-        let mark = marks[wide(b)];
+    let mut rank = 7;
+    let mut file = 0;
+    let mut good = true;
+    for b in token {
+        let mark = marks[usize::from(*b)];
         let at = rank * 8 + file;
         pieces[at] = piece_after(mark, pieces[at]);
         file = file_after(file, mark);
         rank = rank_after(rank, mark);
-        seen = seen_after(seen, mark);
-        i += 1;
+        good &= mark != NO_MARK;
     }
-    Walked {
-        pieces,
-        end: i,
-        seen,
-    }
+    good.then_some(pieces)
 }
 
 // By the quick walk if it can tell, else byte by byte.
@@ -107,27 +83,27 @@ pub(crate) fn place(text: &[u8]) -> Walked
     let stopped = places::lay(text, &marks, &mut laid);
     let mut pieces = [0u8; 64];
     places::files(&mut pieces, &laid);
-    let end = stopped.end;
-    if places::tell(text, stopped.at, end, &laid, &pieces) {
+    if places::tell(text, stopped.at, stopped.end, &laid, &pieces) {
         return Walked {
-            pieces,
-            end,
-            seen: 0,
+            end: stopped.end,
+            pieces: Some(pieces),
         };
     }
-    walk(text, &marks)
+    let end = token::find(text, b' ');
+    Walked {
+        end,
+        pieces: walk(answer::front(text, end), &marks),
+    }
 }
 
 // The place of the first byte that may not stand in a placement, or the length if there is none.
 pub(crate) fn first_bad(token: &[u8]) -> usize
     ensures { result ≡ first_bad token.now }
 {
-    let mut i: usize = 0;
-    while i < token.len() {
-        if marks::mark_of(token[i]) == NO_MARK {
+    for (i, b) in token.iter().enumerate() {
+        if marks::mark_of(*b) == NO_MARK {
             return i;
         }
-        i += 1;
     }
-    i
+    token.len()
 }

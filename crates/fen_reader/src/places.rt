@@ -1,11 +1,11 @@
 // The quick walk, for a text in which each rank has eight files. Sixteen places a rank, from the eighth down: its eight files, and eight that a slash
 // passes over. The walk only sets marks down. A place is set down at most once, so that whatever is wrong with a text can still be seen behind the walk.
-ghost use Rattle.std.specs.Prelude.{◌≡◌, true, ◌<◌, length, replicate};
+ghost use Rattle.std.specs.Prelude.{◌≡◌, true, ◌<◌, replicate};
 ghost use Rattle.fen_reader.specs.CodeMarks.{marked};
 ghost use Rattle.fen_reader.specs.CodeWalk.{found_from};
-ghost use Rattle.fen_reader.specs.CodePlaces.{Laid, missing_after, Slashes, RankSet, Files, Tells};
+ghost use Rattle.fen_reader.specs.CodePlaces.{Laid, Slashes, RankSet, Files, Tells};
 
-use crate::marks::{SLASH_MARK, wide};
+use crate::marks::SLASH_MARK;
 
 // The place behind the last rank's files.
 const LAST: usize = 120;
@@ -21,60 +21,47 @@ pub(crate) fn lay(text: &[u8], marks: &[u8; 256], places: &mut [u8; 128]) -> Sto
     requires { (marks.now ≡ marked) × (places.old ≡ replicate 128 0) }
     ensures { Laid text.now places.new result }
 {
-    let mut at: usize = 0;
-    let mut i: usize = 0;
-    while i < text.len() {
+    let mut at = 0;
+    for (i, b) in text.iter().enumerate() {
         if LAST <= at {
             return Stopped { at, end: i };
         }
-        let mark = marks[wide(text[i])];
+        let mark = marks[usize::from(*b)];
         places[at] = mark;
-        at += wide(mark % 16);
-        i += 1;
+        at += usize::from(mark % 16);
     }
-    Stopped { at, end: i }
-}
-
-fn missing_after(old: u8, mark: u8) -> u8
-    ensures { result ≡ missing_after old mark }
-{
-    if mark == SLASH_MARK { old } else { 1 }
+    Stopped {
+        at,
+        end: text.len(),
+    }
 }
 
 // Whether a slash stands behind each rank but the last.
 fn slashes(places: &[u8; 128]) -> bool
-    requires { length places.now ≡ 128 }
     ensures { result ≡ true → Slashes places.now }
 {
-    let mut missing: u8 = 0;
-    let mut from: usize = 8;
-    while from < LAST {
-        missing = missing_after(missing, places[from]);
-        from += 16;
+    let mut all = true;
+    for rank in 0..7 {
+        all &= places[rank * 16 + 8] == SLASH_MARK;
     }
-    missing == 0
+    all
 }
 
 fn rank_of(pieces: &mut [u8; 64], rank: usize, places: &[u8; 128])
-    requires { (rank < 8) × (length pieces.old ≡ 64) × (length places.now ≡ 128) }
+    requires { rank < 8 }
     ensures { RankSet places.now pieces.old pieces.new rank }
 {
-    let mut file: usize = 0;
-    while file < 8 {
+    for file in 0..8 {
         pieces[rank * 8 + file] = places[(7 - rank) * 16 + file] / 16;
-        file += 1;
     }
 }
 
 // What stands in the files.
 pub(crate) fn files(pieces: &mut [u8; 64], places: &[u8; 128])
-    requires { (length pieces.old ≡ 64) × (length places.now ≡ 128) }
     ensures { Files places.now pieces.new }
 {
-    let mut rank: usize = 0;
-    while rank < 8 {
+    for rank in 0..8 {
         rank_of(pieces, rank, places);
-        rank += 1;
     }
 }
 
@@ -96,7 +83,6 @@ pub(crate) fn tell(
     places: &[u8; 128],
     pieces: &[u8; 64],
 ) -> bool
-    requires { length places.now ≡ 128 }
     ensures { result ≡ true → Tells text.now at end places.now pieces.now }
 {
     if at != LAST {

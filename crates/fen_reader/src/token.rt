@@ -1,50 +1,33 @@
 // The tokens of a FEN text: where they end, and what the second to the sixth say.
-ghost use Rattle.std.specs.Prelude.{◌≡◌, cond, ◌+◌, eqb, length, take, drop};
+ghost use Rattle.std.specs.Prelude.{◌≡◌, ◌==◌, ◌+◌, ◌<◌, ◌≤◌, SomeIff, position, length, take, drop};
+ghost use Rattle.board_builder.specs.BoardBuilder.{last_count};
 ghost use Rattle.fen_text.specs.Token.{place_of, tokens};
 ghost use Rattle.fen_text.specs.Read.{side_of, en_passant_of};
 ghost use Rattle.fen_text.specs.Full.{counter_of};
 ghost use Rattle.fen_reader.specs.CodeWalk.{sides_of};
 
-use square::Pair;
+fn position_of(s: &[u8], b: u8) -> Option<usize>
+    ensures { result ≡ position (λ x. x == b) s.now }
+{
+    s.iter().position(|x| *x == b)
+}
 
 // The place of the first `b`, or the length where there is none.
 pub(crate) fn find(s: &[u8], b: u8) -> usize
     ensures { result ≡ place_of b s.now }
 {
-    let mut i: usize = 0;
-    while i < s.len() {
-        if s[i] == b {
-            return i;
-        }
-        i += 1;
-    }
-    i
-}
-
-fn one_if(space: bool) -> usize
-    ensures { result ≡ cond space 1 0 }
-{
-    if space { 1 } else { 0 }
+    position_of(s, b).unwrap_or(s.len())
 }
 
 // How many spaces there are: one less than tokens.
 pub(crate) fn spaces(s: &[u8]) -> usize
     ensures { result + 1 ≡ length (tokens s.now) }
 {
-    let mut n: usize = 0;
-    let mut i: usize = 0;
-    while i < s.len() {
-        n += one_if(s[i] == b' ');
-        i += 1;
+    let mut n = 0;
+    for x in s {
+        n += usize::from(*x == b' ');
     }
     n
-}
-
-// What stands before the place `at`.
-pub(crate) fn up_to(s: &[u8], at: usize) -> &[u8]
-    ensures { result.now ≡ take at s.now }
-{
-    if at <= s.len() { &s[..at] } else { s }
 }
 
 // What stands after the place `at`.
@@ -59,18 +42,17 @@ pub(crate) fn after(s: &[u8], at: usize) -> &[u8]
     }
 }
 
-// 0 for white, 1 for black, 2 for no side.
-pub(crate) fn side(token: &[u8]) -> u8
-    ensures { result ≡ side_of token.now }
+// 0 for white, 1 for black.
+pub(crate) fn side(token: &[u8]) -> Option<u8>
+    ensures { SomeIff result (side_of token.now < 2) (side_of token.now) }
 {
     if token.len() != 1 {
-        return 2;
+        return None;
     }
-    let b = token[0];
-    match b {
-        b'w' | b'W' => 0,
-        b'b' | b'B' => 1,
-        _ => 2,
+    match token[0] {
+        b'w' | b'W' => Some(0),
+        b'b' | b'B' => Some(1),
+        _ => None,
     }
 }
 
@@ -81,33 +63,23 @@ pub struct Sides {
     pub black: u8,
 }
 
-// 1 if the letter was seen before or is this byte.
-fn seen(old: u8, b: u8, letter: u8) -> u8
-    ensures { result ≡ cond (eqb b letter) 1 old }
-{
-    if b == letter { 1 } else { old }
-}
-
 // Each right holds if its letter occurs anywhere in the token.
 pub(crate) fn rights(token: &[u8]) -> Sides
     ensures { result ≡ sides_of token.now }
 {
-    let mut white_king: u8 = 0;
-    let mut white_queen: u8 = 0;
-    let mut black_king: u8 = 0;
-    let mut black_queen: u8 = 0;
-    let mut i: usize = 0;
-    while i < token.len() {
-        let b = token[i];
-        white_king = seen(white_king, b, b'K');
-        white_queen = seen(white_queen, b, b'Q');
-        black_king = seen(black_king, b, b'k');
-        black_queen = seen(black_queen, b, b'q');
-        i += 1;
+    let mut white_king = false;
+    let mut white_queen = false;
+    let mut black_king = false;
+    let mut black_queen = false;
+    for b in token {
+        white_king |= *b == b'K';
+        white_queen |= *b == b'Q';
+        black_king |= *b == b'k';
+        black_queen |= *b == b'q';
     }
     Sides {
-        white: white_king + 2 * white_queen,
-        black: black_king + 2 * black_queen,
+        white: u8::from(white_king) + 2 * u8::from(white_queen),
+        black: u8::from(black_king) + 2 * u8::from(black_queen),
     }
 }
 
@@ -115,42 +87,30 @@ pub(crate) fn rights(token: &[u8]) -> Sides
 pub(crate) fn en_passant(token: &[u8]) -> u8
     ensures { result ≡ en_passant_of token.now }
 {
-    let pair = square::from_str(token);
-    match pair {
-        Pair::Square(s) => s % 8 + 1,
-        Pair::BadFile => 0,
-        Pair::BadRank => 0,
-        Pair::Missing => 0,
+    match square::from_str(token) {
+        Ok(s) => s % 8 + 1,
+        Err(_) => 0,
     }
 }
 
-// What is said for a token that is no counter.
-const NO_COUNT: u64 = 10000;
-
 // What one to four digits say.
-pub(crate) fn counter(token: &[u8]) -> u64
-    ensures { result ≡ counter_of token.now }
+pub(crate) fn counter(token: &[u8]) -> Option<u16>
+    ensures { SomeIff result (counter_of token.now ≤ last_count) (counter_of token.now) }
 {
-    if token.len() == 0 {
-        return NO_COUNT;
+    if token.is_empty() {
+        return None;
     }
     if 4 < token.len() {
-        return NO_COUNT;
+        return None;
     }
-    let mut value: u64 = 0;
-    let mut i: usize = 0;
-    while i < token.len() {
-        let b = token[i];
-        if b < b'0' {
-            return NO_COUNT;
+    let mut value = 0;
+    for b in token {
+        if !b.is_ascii_digit() {
+            return None;
         }
-        if b'9' < b {
-            return NO_COUNT;
-        }
-        value = value * 10 + (b - b'0') as u64;
-        i += 1;
+        value = value * 10 + u16::from(*b - b'0');
     }
-    value
+    Some(value)
 }
 
 // What stands after the first space; nothing where there is none.
@@ -164,5 +124,5 @@ pub(crate) fn behind(s: &[u8]) -> &[u8]
 pub(crate) fn first(s: &[u8]) -> &[u8]
     ensures { result.now ≡ take (place_of 32 s.now) s.now }
 {
-    up_to(s, find(s, b' '))
+    answer::front(s, find(s, b' '))
 }

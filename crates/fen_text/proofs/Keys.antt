@@ -9,8 +9,8 @@ use native.Mathlib.Omega.{arith}
 use lib.Dec.{eqb, ltb, lit≤}
 use lib.ListN.{length, length-set}
 use borrow.Author.Tests.{ltb-true}
-use Rattle.square.specs.declared.Pair.{Pair}
-use Rattle.square.specs.declared.Pair.TheVariants.{Square, BadFile, BadRank, Missing}
+use Rattle.std.specs.Prelude.{Result, Ok, Err}
+use Rattle.square.specs.declared.PairError.{PairError}
 use Rattle.answer.specs.Answer.{too_few_tokens, bad_placement, bad_side}
 use Rattle.answer.specs.Numbers.{between}
 use Rattle.square.specs.Square.{square_of, read_square}
@@ -110,11 +110,9 @@ rights_most k q t = go (among k t) (among q t)
     go false true = lit≤ tt
     go false false = lit≤ tt
 
-file_most : (a : Pair) → file_read a ≤ 8
-file_most (Square s) = omega arith
-file_most BadFile = omega arith
-file_most BadRank = omega arith
-file_most Missing = omega arith
+file_most : (a : Result ℕ PairError) → file_read a ≤ 8
+file_most (Ok s) = omega arith
+file_most (Err e) = omega arith
 
 -- an answer of 0 is a record in range with the counters 0 and 1, any other is a refusal with its number and offset
 record Told (f : Fen) : Type 0 where

@@ -2,9 +2,8 @@
 -- part is wrong, and where (document 02, order 2): too few tokens, a bad placement byte, a bad side token, tested in that order. It sets the counters to
 -- 0 and 1 (order 12), which `board` does.
 -- Assumes nothing.
-use Rattle.std.specs.Prelude.{ℕ, ◌+◌, ◌%◌, cond, ◌||◌, List, [], ◌∷◌, eqb, ltb, length}
-use Rattle.square.specs.declared.Pair.{Pair}
-use Rattle.square.specs.declared.Pair.TheVariants.{Square, BadFile, BadRank, Missing}
+use Rattle.std.specs.Prelude.{ℕ, ◌+◌, ◌%◌, cond, ◌||◌, List, [], ◌∷◌, eqb, ltb, length, Result, Ok, Err}
+use Rattle.square.specs.declared.PairError.{PairError}
 use Rattle.answer.specs.Answer.{too_few_tokens, bad_placement, bad_side}
 use Rattle.square.specs.Square.{read_square}
 use Rattle.answer.specs.Numbers.{among}
@@ -29,11 +28,9 @@ unfoldable pub rights_of : ℕ → ℕ → List ℕ → ℕ
 rights_of k q t = rights (cond (among k t) 1 0) (cond (among q t) 1 0)
 
 -- the file, from 1, of a square that was read; none if none was
-abbrev pub file_read : Pair → ℕ
-file_read (Square s) = s % 8 + 1
-file_read BadFile = 0
-file_read BadRank = 0
-file_read Missing = 0
+abbrev pub file_read : Result ℕ PairError → ℕ
+file_read (Ok s) = s % 8 + 1
+file_read (Err e) = 0
 
 -- the fourth token sets a file if its first two bytes are a to h and 1 to 8; the rank and the rest are dropped; otherwise none is set, and that is
 -- no refusal

@@ -11,7 +11,8 @@ use Rattle.board_builder.specs.declared.BoardBuilder.{BoardBuilder}
 use Rattle.board_builder.specs.BoardBuilder.{last_count}
 use Rattle.decimal.specs.Decimal.{decimal}
 use Rattle.decimal.proofs.Digits.{decimal_one, decimal_more}
-use Rattle.fen_text.specs.Write.{ranks_text, side_letter, rights_text, en_passant_text, tail_with}
+use Rattle.fen_text.specs.Write.{ranks_text, side_letter, rights_text, en_passant_text, tail_with, tail_text, fen_text}
+use Rattle.fen_writer.specs.CodeTexts.{text_with}
 use Rattle.fen_writer.proofs.Parts.{letter_if}
 
 -- the digits that hold, the last always
@@ -77,3 +78,8 @@ tail_ends b end =
 
 pub text_ends : (b : BoardBuilder) (end : List ℕ) → (ranks_text 8 b.pieces ++ tail_with b []) ++ end ≡ ranks_text 8 b.pieces ++ tail_with b end
 text_ends b end = append_assoc (ranks_text 8 b.pieces) (tail_with b []) end ∙ ap (λ (s : List ℕ). ranks_text 8 b.pieces ++ s) (tail_ends b end)
+
+-- the counters of a record's key
+pub fen_text_with : (b : BoardBuilder) → fen_text b ≡ text_with b 0 1
+unfolding fen_text tail_text
+fen_text_with b = rw (decimal_one 0 (omega arith), decimal_one 1 (omega arith))

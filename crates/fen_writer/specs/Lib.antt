@@ -1,1 +1,2 @@
 pub mod CodeSigns
+pub mod CodeTexts

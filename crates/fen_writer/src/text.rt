@@ -1,18 +1,19 @@
 // The FEN text of a record in range, put together in one array of 91 bytes, the longest full FEN. The inner loop has no branch: the digit of an empty run
-// stands from its first square on and is written over as the run grows.
-ghost use Rattle.std.specs.Prelude.{◌≡◌, true, cond, [], ◌∷◌, ◌++◌, ◌+◌, ◌%◌, ◌≤◌, ◌<◌, eqb, ltb, length, take, drop};
+// stands from its first square on and is written over as the run grows. The place of the next byte is a value beside the array, so that it stays in a register;
+// each part has its own bound on it, which a struct of the two could not say.
+ghost use Rattle.std.specs.Prelude.{◌≡◌, true, cond, [], ◌∷◌, ◌+◌, ◌%◌, ◌≤◌, ◌<◌, eqb, ltb, take, drop};
 ghost use Rattle.answer.specs.Numbers.{all_at_most};
 ghost use Rattle.decimal.specs.Decimal.{decimal};
 ghost use Rattle.board_builder.specs.BoardBuilder.{last_count, in_range};
-ghost use Rattle.fen_text.specs.Write.{side_letter, rights_text, en_passant_text, run_text, ranks_text, tail_with, fen_text, full_text};
+ghost use Rattle.fen_text.specs.Write.{side_letter, rights_text, en_passant_text, run_text, ranks_text, tail_with};
 ghost use Rattle.fen_writer.specs.CodeSigns.{sign_of};
+ghost use Rattle.fen_writer.specs.CodeTexts.{text_with};
 ghost use Rattle.answer.specs.CodePushed.{Put};
 
 use board_builder::BoardBuilder;
 
 fn push(bytes: &mut [u8; 91], n: usize, b: u8) -> usize
-    requires bytes_len { length bytes.old ≡ 91 }
-    requires n_bound { n < 91 }
+    requires { n < 91 }
     ensures { Put 91 bytes.old n (b ∷ []) bytes.new result }
 {
     bytes[n] = b;
@@ -20,8 +21,7 @@ fn push(bytes: &mut [u8; 91], n: usize, b: u8) -> usize
 }
 
 fn push_if(bytes: &mut [u8; 91], n: usize, there: bool, b: u8) -> usize
-    requires bytes_len { length bytes.old ≡ 91 }
-    requires n_bound { n < 91 }
+    requires { n < 91 }
     ensures { Put 91 bytes.old n (cond there (b ∷ []) []) bytes.new result }
 {
     if there {
@@ -72,37 +72,29 @@ fn length_after(n: usize, run: u8) -> usize
 
 // One rank: the eight squares from `from` on.
 fn rank(bytes: &mut [u8; 91], at: usize, pieces: &[u8; 64], from: usize) -> usize
-    requires bytes_len { length bytes.old ≡ 91 }
     requires at_bound { at < 77 }
-    requires pieces_len { length pieces.now ≡ 64 }
     requires pieces_value { all_at_most 12 pieces.now ≡ true }
     requires from_bound { from < 57 }
     ensures { Put 91 bytes.old at (run_text 0 (take 8 (drop from pieces.now))) bytes.new result }
 {
     let mut n = at;
-    let mut run: u8 = 0;
-    let mut i: usize = 0;
-    while i < 8 {
+    let mut run = 0;
+    for i in 0..8 {
         let piece = pieces[from + i];
         run = run_after(run, piece);
         n = length_after(n, run);
         bytes[n - 1] = sign_of(piece) + run;
-        i += 1;
     }
     n
 }
 
 // The ranks from the eighth down.
 fn ranks(bytes: &mut [u8; 91], pieces: &[u8; 64]) -> usize
-    requires bytes_len { length bytes.old ≡ 91 }
-    requires pieces_len { length pieces.now ≡ 64 }
-    requires pieces_value { all_at_most 12 pieces.now ≡ true }
+    requires { all_at_most 12 pieces.now ≡ true }
     ensures { Put 91 bytes.old 0 (ranks_text 8 pieces.now) bytes.new result }
 {
-    let mut n: usize = 0;
-    let mut left: usize = 8;
-    while 0 < left {
-        left -= 1;
+    let mut n = 0;
+    for left in (0..8).rev() {
         n = rank(bytes, n, pieces, left * 8);
         n = push_if(bytes, n, 0 < left, b'/');
     }
@@ -110,8 +102,7 @@ fn ranks(bytes: &mut [u8; 91], pieces: &[u8; 64]) -> usize
 }
 
 fn side(bytes: &mut [u8; 91], n: usize, side: u8) -> usize
-    requires bytes_len { length bytes.old ≡ 91 }
-    requires n_bound { n < 91 }
+    requires { n < 91 }
     ensures { Put 91 bytes.old n (side_letter side ∷ []) bytes.new result }
 {
     if side == 0 {
@@ -122,7 +113,6 @@ fn side(bytes: &mut [u8; 91], n: usize, side: u8) -> usize
 
 // White's letters then black's, or one `-` if none was pushed.
 fn rights(bytes: &mut [u8; 91], at: usize, white: u8, black: u8) -> usize
-    requires bytes_len { length bytes.old ≡ 91 }
     requires at_bound { at < 81 }
     requires white_bound { white < 4 }
     requires black_bound { black < 4 }
@@ -137,7 +127,6 @@ fn rights(bytes: &mut [u8; 91], at: usize, white: u8, black: u8) -> usize
 
 // The en passant square, on rank 6 with white to move and rank 3 with black, or `-`.
 fn en_passant(bytes: &mut [u8; 91], n: usize, side: u8, file: u8) -> usize
-    requires bytes_len { length bytes.old ≡ 91 }
     requires n_bound { n < 84 }
     requires file_bound { file < 9 }
     ensures { Put 91 bytes.old n (en_passant_text side file) bytes.new result }
@@ -154,7 +143,6 @@ fn en_passant(bytes: &mut [u8; 91], n: usize, side: u8, file: u8) -> usize
 
 // What follows the placement, up to the counters.
 fn tail(bytes: &mut [u8; 91], at: usize, board: BoardBuilder) -> usize
-    requires bytes_len { length bytes.old ≡ 91 }
     requires at_bound { at < 72 }
     requires board_value { in_range board ≡ true }
     ensures { Put 91 bytes.old at (tail_with board []) bytes.new result }
@@ -172,20 +160,8 @@ fn tail(bytes: &mut [u8; 91], at: usize, board: BoardBuilder) -> usize
     en_passant(bytes, e, board.side_to_move, board.en_passant)
 }
 
-// All but the counters. The pieces are the record's own, lent, since a copy of them made just before the loop is slow to read.
-fn place(bytes: &mut [u8; 91], pieces: &[u8; 64], board: BoardBuilder) -> usize
-    requires bytes_len { length bytes.old ≡ 91 }
-    requires pieces_value { pieces.now ≡ board.pieces }
-    requires board_value { in_range board ≡ true }
-    ensures { Put 91 bytes.old 0 (ranks_text 8 board.pieces ++ tail_with board []) bytes.new result × (result ≤ 81) }
-{
-    let n = ranks(bytes, pieces);
-    tail(bytes, n, board)
-}
-
 // A counter in decimal.
 fn counter(bytes: &mut [u8; 91], at: usize, n: u16) -> usize
-    requires bytes_len { length bytes.old ≡ 91 }
     requires at_bound { at < 88 }
     requires n_le_last_count { n ≤ last_count }
     ensures { Put 91 bytes.old at (decimal n) bytes.new result }
@@ -196,30 +172,25 @@ fn counter(bytes: &mut [u8; 91], at: usize, n: u16) -> usize
     push(bytes, c, b'0' + (n % 10) as u8)
 }
 
-// The record's text, at the start of the bytes.
-pub(crate) fn fen_text(bytes: &mut [u8; 91], pieces: &[u8; 64], board: BoardBuilder) -> usize
-    requires bytes_len { length bytes.old ≡ 91 }
+// The record's text with two counters, at the start of the bytes. The pieces are the record's own, lent, since a copy of them made just before the loop is
+// slow to read.
+pub(crate) fn text(
+    bytes: &mut [u8; 91],
+    pieces: &[u8; 64],
+    board: BoardBuilder,
+    half: u16,
+    full: u16,
+) -> usize
     requires pieces_value { pieces.now ≡ board.pieces }
     requires board_value { in_range board ≡ true }
-    ensures { Put 91 bytes.old 0 (fen_text board) bytes.new result }
+    requires half_le_last_count { half ≤ last_count }
+    requires full_le_last_count { full ≤ last_count }
+    ensures { Put 91 bytes.old 0 (text_with board half full) bytes.new result }
 {
-    let a = place(bytes, pieces, board);
+    let n = ranks(bytes, pieces);
+    let a = tail(bytes, n, board);
     let b = push(bytes, a, b' ');
-    let c = push(bytes, b, b'0');
+    let c = counter(bytes, b, half);
     let d = push(bytes, c, b' ');
-    push(bytes, d, b'1')
-}
-
-// The same with its own counters.
-pub(crate) fn full_text(bytes: &mut [u8; 91], pieces: &[u8; 64], board: BoardBuilder) -> usize
-    requires bytes_len { length bytes.old ≡ 91 }
-    requires pieces_value { pieces.now ≡ board.pieces }
-    requires board_value { in_range board ≡ true }
-    ensures { Put 91 bytes.old 0 (full_text board) bytes.new result }
-{
-    let a = place(bytes, pieces, board);
-    let b = push(bytes, a, b' ');
-    let c = counter(bytes, b, board.half_moves);
-    let d = push(bytes, c, b' ');
-    counter(bytes, d, board.full_moves)
+    counter(bytes, d, full)
 }

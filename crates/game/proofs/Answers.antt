@@ -49,9 +49,9 @@ pub record Ready (acts ps : List ℕ) (n m : ℕ) : Type 0 where
   pub place : positions_length limits ≤ length ps
 
 module _ (acts ps : List ℕ) (n m : ℕ) where
-  pub log-ready : log_check limits acts ps n m ≡ 0 → Ready acts ps n m
+  pub log_ready : log_check limits acts ps n m ≡ 0 → Ready acts ps n m
   unfolding log_check is_good
-  log-ready h =
+  log_ready h =
       let long = long_enough limits acts ps in
       let counts = leb n limits.most_actions && leb m limits.most_moves in
       let good = is_good limits acts ps n m in
@@ -95,12 +95,12 @@ nested : (a b : ℕ) (l : List ℕ) → first_refusal (first_refusal (a ∷ b �
 nested a b l = sym (refusals_joined (a ∷ b ∷ []) l)
 
 module _ (acts ps : List ℕ) (n m : ℕ) where
-  pub open-log : open_check acts ps n m ≡ 0 → log_check limits acts ps n m ≡ 0
+  pub open_log : open_check acts ps n m ≡ 0 → log_check limits acts ps n m ≡ 0
   unfolding open_check
-  open-log h = (none_refuses _ _ h).0
+  open_log h = (none_refuses _ _ h).0
 
-  pub open-ready : open_check acts ps n m ≡ 0 → Ready acts ps n m
-  open-ready h = log-ready acts ps n m (open-log h)
+  pub open_ready : open_check acts ps n m ≡ 0 → Ready acts ps n m
+  open_ready h = log_ready acts ps n m (open_log h)
 
   -- the calls' checks in order: 16, 9, 10, the call's own, 13
   in_a_row : (c : Call)
@@ -112,7 +112,7 @@ module _ (acts ps : List ℕ) (n m : ℕ) where
       (λ h. alone _
       ∙ ap (λ (t : Bool). first_refusal (unless t game_over ∷ rest))
       (not_twice (eqb (result (history_of acts ps n)) 0)
-      ∙ ap (λ (r : ℕ). eqb r 0) (sym (result_is limits acts ps n m (log-ready acts ps n m h).counted (log-ready acts ps n m h).ok))))
+      ∙ ap (λ (r : ℕ). eqb r 0) (sym (result_is limits acts ps n m (log_ready acts ps n m h).counted (log_ready acts ps n m h).ok))))
       ∙ sym (nested (log_check limits acts ps n m) (unless (eqb (result_at acts ps n m) 0) game_over) rest)
     where
       rest : List ℕ
@@ -132,11 +132,11 @@ module _ (acts ps : List ℕ) (n m : ℕ) where
     room_is : (c : Call) → room_for limits (history_of acts ps n) c ≡ ltb n limits.most_actions && (not (is_move c) || ltb m limits.most_moves)
     room_is c = rw (actions_at_lem acts ps n, moves_at_lem acts ps n, ← r.counted)
 
-  pub other-is : (c : Call) → is_move c ≡ false → other_answer acts ps n m (action_made c) ≡ call_answer limits acts ps n m c
+  pub other_is : (c : Call) → is_move c ≡ false → other_answer acts ps n m (action_made c) ≡ call_answer limits acts ps n m c
   unfolding other_answer
-  other-is c e =
+  other_is c e =
       by_first (open_check acts ps n m) (other_check acts ps n m (action_made c) ∷ unless (ltb n limits.most_actions) log_full ∷ []) _
-      (λ h. let r = open-ready h in
+      (λ h. let r = open_ready h in
       rw (own_is r c e, room_is r c, e)
       (ap (λ (t : Bool). first_refusal (other_check acts ps n m (action_made c) ∷ unless t log_full ∷ [])) (sym (and-true (ltb n limits.most_actions)))))
       ∙ sym (in_a_row c)
@@ -144,7 +144,7 @@ module _ (acts ps : List ℕ) (n m : ℕ) where
   -- the position on the board is in range, and so is a move that it lists
   here-in-range : open_check acts ps n m ≡ 0 → position_check (position_at ps m) ≡ 0
   here-in-range h =
-      let r = open-ready h in
+      let r = open_ready h in
       rw (current_is limits acts ps n m r.counted r.ok) at (current_in_range limits (history_of acts ps n) (sound_good limits acts ps n r.ok).0)
 
   record_in_range : open_check acts ps n m ≡ 0 → numbers_in_range (take record_size (item position_size ps m)) ≡ true
@@ -157,9 +157,9 @@ module _ (acts ps : List ℕ) (n m : ℕ) where
   record_there h = omega
       (arith, record_long (take record_size (item position_size ps m)) (record_in_range h), length-take record_size (item position_size ps m))
 
-  pub listed-number : (x : ℕ) → open_check acts ps n m ≡ 0 → lists_move (item position_size ps m) x ≡ true → x ≤ last_move
+  pub listed_number : (x : ℕ) → open_check acts ps n m ≡ 0 → lists_move (item position_size ps m) x ≡ true → x ≤ last_move
   unfolding lists_move
-  listed-number x h e =
+  listed_number x h e =
       listed_in_range x (position_at ps m).moves (position_fits (position_at ps m) (here-in-range h)).list
       (both_right (eqb (length (item position_size ps m)) position_size) (among x (position_at ps m).moves) e)
 
@@ -178,7 +178,7 @@ module _ (acts ps : List ℕ) (n m : ℕ) where
   move_is x q =
       in_a_row (make_move x q)
       ∙ by_first (open_check acts ps n m) _ (move_checks x q)
-      (λ h. let r = open-ready h in
+      (λ h. let r = open_ready h in
       rw (
         room_is r (make_move x q),
         current_is limits acts ps n m r.counted r.ok,
@@ -200,13 +200,13 @@ module _ (acts ps : List ℕ) (n m : ℕ) where
   own-check DeclareDraw e = refl
   own-check (Resign c) e = e
 
-  pub other-found : (a : Action) → other_answer acts ps n m a ≡ 0 → OtherFound a
+  pub other_found : (a : Action) → other_answer acts ps n m a ≡ 0 → OtherFound a
   unfolding other_answer
-  other-found a h =
+  other_found a h =
       let first : _ = none_refuses (open_check acts ps n m) _ h in
       let own : _ = none_refuses (other_check acts ps n m a) _ first.1 in
       let full : _ = none_refuses (unless (ltb n limits.most_actions) log_full) [] own.1 in
-      let r = open-ready acts ps n m first.0 in
+      let r = open_ready acts ps n m first.0 in
       let few : n < limits.most_actions = ltb-true _ _ (test_held (ltb n limits.most_actions) log_full (omega arith) full.0) in
       record { few = few; room = omega (arith, r.room, few); check = own-check a own.0 }
 
@@ -218,16 +218,16 @@ module _ (acts ps : List ℕ) (n m : ℕ) where
     pub place : position_size * suc m + position_size ≤ length ps
     pub check : position_check q ≡ 0
 
-  pub move-found : (x : ℕ) (q : Position) → call_answer limits acts ps n m (make_move x q) ≡ 0 → MoveFound x q
+  pub move_found : (x : ℕ) (q : Position) → call_answer limits acts ps n m (make_move x q) ≡ 0 → MoveFound x q
   unfolding call_answer
-  move-found x q h =
+  move_found x q h =
       let rows : _ = none_refuses (open_check acts ps n m) (move_checks acts ps n m x q) (sym (move_is acts ps n m x q) ∙ h) in
       let listed : _ = none_refuses (unless (lists_move (item position_size ps m) x) not_listed) _ rows.1 in
       let fits : _ = none_refuses (position_check q) _ listed.1 in
       let turned : _ = none_refuses (unless (not (eqb (side q) (side (position_at ps m)))) wrong_side) _ fits.1 in
       let after : _ = none_refuses (unless (comes_after (position_at ps m) x q) wrong_record) _ turned.1 in
       let full : _ = none_refuses (unless (ltb n limits.most_actions && ltb m limits.most_moves) log_full) [] after.1 in
-      let r = open-ready acts ps n m rows.0 in
+      let r = open_ready acts ps n m rows.0 in
       let roomy : ltb n limits.most_actions && ltb m limits.most_moves ≡ true = test_held _ log_full (omega arith) full.0 in
       let few : n < limits.most_actions = ltb-true _ _ (both_left (ltb n limits.most_actions) (ltb m limits.most_moves) roomy) in
       let some : m < limits.most_moves = ltb-true _ _ (both_right (ltb n limits.most_actions) (ltb m limits.most_moves) roomy) in

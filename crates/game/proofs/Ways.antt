@@ -36,7 +36,7 @@ use Rattle.good_log.specs.CodeSteps.{other_check}
 use Rattle.game_rules.proofs.Checks.{first_refuses, first_passes}
 use Rattle.game_rules.proofs.Log.{result_is}
 use Rattle.game_rules.proofs.Rulings.{claim_is}
-use Rattle.game.proofs.Answers.{Ready, log-ready, move_is}
+use Rattle.game.proofs.Answers.{Ready, log_ready, move_is}
 use Rattle.game.specs.CodeAnswers.{moves_on_to, open_check, other_answer, other_counts, other_actions}
 
 -- a check, found by its number
@@ -302,12 +302,12 @@ module _ (acts ps : List ℕ) (n m x v : ℕ) (r : Answer) (e : x ≡ log_check 
   pub result_told_lem : x ≡ 0 → r ≡ accepted v → r ≡ result_answer limits acts ps n m
   unfolding result_answer
   result_told_lem z given =
-      let w = log-ready acts ps n m (sym e ∙ z) in
+      let w = log_ready acts ps n m (sym e ∙ z) in
       told_value (log_check limits acts ps n m) x _ r e z (given ∙ ap accepted (f ∙ result_is limits acts ps n m w.counted w.ok))
 
   module _ (z : x ≡ 0) where
     ready : Ready acts ps n m
-    ready = log-ready acts ps n m (sym e ∙ z)
+    ready = log_ready acts ps n m (sym e ∙ z)
 
     abbrev ruled : Bool
     ruled = not (ended (history_of acts ps n)) && claim_stands (history_of acts ps n)

@@ -102,6 +102,8 @@ fn act(acts: &mut [u8], ps: &[u8], n: usize, m: usize, action: Action) -> Counts
     counts(ACCEPTED, n + 1, m)
 }
 
+// Four calls of `act`, since each is a name that a host calls (C interface).
+
 pub fn offer_draw(acts: &mut [u8], ps: &[u8], n: u64, m: u64, colour: u8) -> Counts
     ensures counts { result ≡ counts_after (call_answer limits acts.old ps.now n m (offer_draw colour)) n m (offer_draw colour) }
     ensures actions { acts.new ≡ actions_after (call_answer limits acts.old ps.now n m (offer_draw colour))

@@ -1,6 +1,7 @@
 -- What an answer of 0 says: each check of the call passed. And what follows for an accepted history: its position is in range, its counts are within the
 -- limits, the action of a call that it accepts is in range, and it accepts no call where no action stands.
 -- Assumes nothing.
+use Rattle.std.specs.Prelude.{Some, None}
 use mathlib.Core.Path.{◌≡◌, refl, ap, sym, ◌∙◌}
 use mathlib.Core.Bool.{Bool, true, false, cond, not, ◌&&◌, ◌||◌, false≢true}
 use mathlib.Core.List.{List, [], ◌∷◌, ◌++◌}
@@ -15,7 +16,6 @@ use Rattle.answer.proofs.Numbers.{both_left, both_right}
 use Rattle.chess_move.specs.Number.{last_move}
 use Rattle.chess_move.proofs.Numbers.{number_of_parts}
 use Rattle.move_list.proofs.Listed.{listed_in_range}
-use Rattle.action.specs.declared.Stored.TheVariants.{Holds, Nothing}
 use Rattle.action.specs.Layout.{colour_check, action_check}
 use Rattle.position.specs.Layout.{Position, side}
 use Rattle.stored_position.specs.Bytes.{position_check}
@@ -151,7 +151,7 @@ pub declare_says : (L : Limits) (h : History) → answer L h declare_draw ≡ 0 
 declare_says L h e = test_held (claim_stands h) no_claim (omega arith) (one_check _ (answer_says L h declare_draw e).own)
 
 -- where no action stands, no call was accepted
-pub nothing_refused : (L : Limits) (h : History) (p : Position) → answer L h (call_of Nothing p) ≡ 0 → ⊥
+pub nothing_refused : (L : Limits) (h : History) (p : Position) → answer L h (call_of None p) ≡ 0 → ⊥
 nothing_refused L h p e = let z : colour_check 2 ≡ 0 = offer_says L h 2 e in omega (arith, z)
 
 -- the log's own checks, those of a call on the bytes, and those of a start
@@ -228,7 +228,7 @@ no_bytes_here accept_draw s e = refl
 no_bytes_here declare_draw s e = refl
 no_bytes_here (resign c) s e = refl
 
-pub call_of_action : (c : Call) (p : Position) → is_move c ≡ false → call_of (Holds (action_made c)) p ≡ c
+pub call_of_action : (c : Call) (p : Position) → is_move c ≡ false → call_of (Some (action_made c)) p ≡ c
 call_of_action (make_move m q) p e = absurd (false≢true (sym e))
 call_of_action (offer_draw c) p e = refl
 call_of_action accept_draw p e = refl

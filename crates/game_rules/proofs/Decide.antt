@@ -1,6 +1,7 @@
 -- A log is good exactly when the one-pass test says so. One way: the history that sound bytes are read as is accepted and leaves them. The other: an accepted
 -- history that leaves the bytes is the one that they are read as.
 -- Assumes nothing.
+use Rattle.std.specs.Prelude.{Option, Some, None}
 use mathlib.Core.Path.{◌≡◌, refl, ap, ap₂, sym, ◌∙◌}
 use mathlib.Core.Bool.{Bool, true, cond, ◌&&◌}
 use mathlib.Core.List.{List, ◌++◌, append-nil}
@@ -17,9 +18,8 @@ use Rattle.answer.proofs.Same.{same_eq, same_refl}
 use Rattle.answer.proofs.Written.{used_grows, last_piece}
 use Rattle.chess_move.specs.Number.{last_move}
 use Rattle.chess_move.proofs.Numbers.{number_of_parts}
+use Rattle.action.specs.declared.Action.{Action}
 use Rattle.action.specs.declared.Action.TheVariants.{MakeMove, OfferDraw, AcceptDraw, DeclareDraw, Resign}
-use Rattle.action.specs.declared.Stored.{Stored}
-use Rattle.action.specs.declared.Stored.TheVariants.{Holds, Nothing}
 use Rattle.action.specs.Layout.{action_size, action_bytes, action_of}
 use Rattle.action.proofs.ReadBack.{held, length_bytes}
 use Rattle.actions.specs.Part.{action_at, move_held, moves_in}
@@ -35,13 +35,13 @@ use Rattle.game_rules.specs.Promises.{GoodIsDecided, OneHistory}
 use Rattle.game_rules.proofs.Checks.{move_says, by_kind, no_bytes_made, no_bytes_here, call_of_action, accepted_number, accepted_action}
 
 -- a stored action is counted as a move exactly if its call is one
-pub is_move_lem : (a : Stored) (p : Position) → is_move (call_of a p) ≡ leb (move_held a) last_move
-is_move_lem (Holds (MakeMove m)) p = sym (value_most m)
-is_move_lem (Holds (OfferDraw c)) p = refl
-is_move_lem (Holds AcceptDraw) p = refl
-is_move_lem (Holds DeclareDraw) p = refl
-is_move_lem (Holds (Resign c)) p = refl
-is_move_lem Nothing p = refl
+pub is_move_lem : (a : Option Action) (p : Position) → is_move (call_of a p) ≡ leb (move_held a) last_move
+is_move_lem (Some (MakeMove m)) p = sym (value_most m)
+is_move_lem (Some (OfferDraw c)) p = refl
+is_move_lem (Some AcceptDraw) p = refl
+is_move_lem (Some DeclareDraw) p = refl
+is_move_lem (Some (Resign c)) p = refl
+is_move_lem None p = refl
 
 -- Sound bytes are good.
 
@@ -138,11 +138,11 @@ pub record Reads (L : Limits) (acts ps : List ℕ) (n m : ℕ) (h : History) : T
 -- one more call, whose bytes stand behind what was read
 module _ (L : Limits) (acts ps : List ℕ) (n m : ℕ) (h : History) (c : Call) (a : Accepted L h) (e : answer L h c ≡ 0) where
   -- the position that stands behind is the call's
-  call_back : take (length (position_made c)) (drop (position_size * suc m) ps) ≡ position_made c → call_of (Holds (action_made c)) (position_at ps (suc m)) ≡ c
+  call_back : take (length (position_made c)) (drop (position_size * suc m) ps) ≡ position_made c → call_of (Some (action_made c)) (position_at ps (suc m)) ≡ c
   call_back =
       by_kind
       (λ d. answer L h d ≡ 0 → take (length (position_made d)) (drop (position_size * suc m) ps) ≡ position_made d
-      → call_of (Holds (action_made d)) (position_at ps (suc m)) ≡ d)
+      → call_of (Some (action_made d)) (position_at ps (suc m)) ≡ d)
       (λ k p f s.
       let check = (move_says L h k p f).check in
       ap₂ make_move (ap (λ (x : Answer). x.value) (number_of_parts k (accepted_number L h k p a f)))
@@ -165,13 +165,13 @@ module _ (L : Limits) (acts ps : List ℕ) (n m : ℕ) (h : History) (c : Call) 
       → Reads L acts ps (suc n) (cond (is_move c) (suc m) m) (after h c)
   unfolding history_of moves_in sound next_sound call_at
   reads_grow r f s =
-      let x : action_at acts n ≡ Holds (action_made c) = ap action_of f ∙ held (action_made c) (accepted_action L h c a e) in
-      let g : call_of (Holds (action_made c)) (position_at ps (suc m)) ≡ c = call_back s in
+      let x : action_at acts n ≡ Some (action_made c) = ap action_of f ∙ held (action_made c) (accepted_action L h c a e) in
+      let g : call_of (Some (action_made c)) (position_at ps (suc m)) ≡ c = call_back s in
       let y : same (position_here c (item position_size ps (suc m))) (position_made c) ≡ true =
       ap (λ (l : List ℕ). same l (position_made c)) (here_made s) ∙ same_refl (position_made c) in
       record {
         history = ap₂ after r.history (rw (x, r.count) g);
-        count = rw (x, r.count, ← is_move_lem (Holds (action_made c)) (position_at ps (suc m)), g) refl;
+        count = rw (x, r.count, ← is_move_lem (Some (action_made c)) (position_at ps (suc m)), g) refl;
         ok = rw (r.ok, x, r.count, g, r.history, e, f, same_refl (action_bytes (action_made c))) y;
       }
 

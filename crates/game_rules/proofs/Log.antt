@@ -1,5 +1,6 @@
 -- What the bytes of a log say about the history that they are read as: the position on the board, the last actions, the result, a standing offer.
 -- Assumes nothing.
+use Rattle.std.specs.Prelude.{Option, Some, None}
 use mathlib.Core.Path.{◌≡◌, refl, ap, ap₂, sym, ◌∙◌}
 use mathlib.Core.Bool.{Bool, true, false, cond, ◌&&◌}
 use mathlib.Core.List.{List}
@@ -15,8 +16,6 @@ use Rattle.chess_move.specs.Number.{last_move, move_of, of_bytes}
 use Rattle.chess_move.proofs.Numbers.{number_of_parts}
 use Rattle.action.specs.declared.Action.{Action}
 use Rattle.action.specs.declared.Action.TheVariants.{MakeMove, OfferDraw, AcceptDraw, DeclareDraw, Resign}
-use Rattle.action.specs.declared.Stored.{Stored}
-use Rattle.action.specs.declared.Stored.TheVariants.{Holds, Nothing}
 use Rattle.action.specs.Layout.{action_size, moves_here, stands_alone, action_of}
 use Rattle.actions.specs.Part.{action_at, move_held, moves_in, last_action}
 use Rattle.actions.proofs.Counting.{value_most}
@@ -29,16 +28,16 @@ use Rattle.game_rules.proofs.Checks.{nothing_refused}
 use Rattle.game_rules.proofs.Decide.{is_move_lem, next_made}
 
 -- whether an action is a move
-abbrev holds_move : Stored → Bool
+abbrev holds_move : Option Action → Bool
 holds_move s = leb (move_held s) last_move
 
-after_call : (s : Stored) (p q : Position) → position_after (call_of s p) q ≡ cond (holds_move s) p q
-after_call (Holds (MakeMove m)) p q = rw (value_most m)
-after_call (Holds (OfferDraw c)) p q = refl
-after_call (Holds AcceptDraw) p q = refl
-after_call (Holds DeclareDraw) p q = refl
-after_call (Holds (Resign c)) p q = refl
-after_call Nothing p q = refl
+after_call : (s : Option Action) (p q : Position) → position_after (call_of s p) q ≡ cond (holds_move s) p q
+after_call (Some (MakeMove m)) p q = rw (value_most m)
+after_call (Some (OfferDraw c)) p q = refl
+after_call (Some AcceptDraw) p q = refl
+after_call (Some DeclareDraw) p q = refl
+after_call (Some (Resign c)) p q = refl
+after_call None p q = refl
 
 -- the position on the board, and the counts
 pub current_at : (acts ps : List ℕ) (n : ℕ) → current (history_of acts ps n) ≡ position_at ps (moves_in acts n)
@@ -67,9 +66,9 @@ moves_at_lem acts ps (suc n) =
     ∙ ap (λ (k : ℕ). cond (holds_move (action_at acts n)) (suc k) k) (moves_at_lem acts ps n)
 
 -- an action that was read is the one that its call leaves
-abbrev pub Back : Stored → Position → Type 0
-Back (Holds a) p = action_made (call_of (Holds a) p) ≡ a
-Back Nothing p = Unit
+abbrev pub Back : Option Action → Position → Type 0
+Back (Some a) p = action_made (call_of (Some a) p) ≡ a
+Back None p = Unit
 
 pub made_back : (b : List ℕ) (p : Position) → Back (action_of b) p
 unfolding action_of
@@ -77,11 +76,11 @@ made_back b p =
     go (eqb (length b) action_size) (eqb (get_or b 0 0) 1) (eqb (get_or b 0 0) 2) (eqb (get_or b 0 0) 3) (eqb (get_or b 0 0) 4) (eqb (get_or b 0 0) 5)
     (get_or b 1 0) (of_bytes (get_or b 2 0) (get_or b 3 0))
   where
-    alone : (ok : Bool) (a : Action) → Back (Holds a) p → Back (cond ok (Holds a) Nothing) p
+    alone : (ok : Bool) (a : Action) → Back (Some a) p → Back (cond ok (Some a) None) p
     alone true a h = h
     alone false a h = tt
 
-    move : (c n : ℕ) (t u : Bool) → leb n last_move ≡ u → Back (cond (t && u) (Holds (MakeMove (move_of n))) Nothing) p
+    move : (c n : ℕ) (t u : Bool) → leb n last_move ≡ u → Back (cond (t && u) (Some (MakeMove (move_of n))) None) p
     move c n true true e = ap MakeMove (ap (λ (x : Answer). move_of x.value) (number_of_parts n (leb-true _ _ e)))
     move c n true false e = tt
     move c n false u e = tt
@@ -89,7 +88,7 @@ made_back b p =
     go : (w k₁ k₂ k₃ k₄ k₅ : Bool) (c n : ℕ)
         → Back (cond w (cond k₁ (moves_here c n)
         (cond k₂ (stands_alone 1 c n (OfferDraw c))
-        (cond k₃ (stands_alone 0 c n AcceptDraw) (cond k₄ (stands_alone 0 c n DeclareDraw) (cond k₅ (stands_alone 1 c n (Resign c)) Nothing))))) Nothing) p
+        (cond k₃ (stands_alone 0 c n AcceptDraw) (cond k₄ (stands_alone 0 c n DeclareDraw) (cond k₅ (stands_alone 1 c n (Resign c)) None))))) None) p
     go false k₁ k₂ k₃ k₄ k₅ c n = tt
     go true true k₂ k₃ k₄ k₅ c n = move c n (eqb c 0) (leb n last_move) refl
     go true false true k₃ k₄ k₅ c n = alone (leb c 1 && eqb n 0) (OfferDraw c) refl
@@ -109,16 +108,16 @@ module _ (L : Limits) (acts ps : List ℕ) (i : ℕ) where
   sound_next h = both_right (sound L acts ps i) (next_sound L acts ps i) h
 
   -- a sound action is held, and its call leaves it
-  pub sound_held : next_sound L acts ps i ≡ true → action_at acts i ≡ Holds (action_made (call_at acts ps i))
+  pub sound_held : next_sound L acts ps i ≡ true → action_at acts i ≡ Some (action_made (call_at acts ps i))
   unfolding call_at
   sound_held h = go (action_at acts i) (made_back (item action_size acts i) (position_at ps (suc (moves_in acts i)))) (next_made L acts ps i h).accepted
     where
       p : Position
       p = position_at ps (suc (moves_in acts i))
 
-      go : (s : Stored) → Back s p → answer L (history_of acts ps i) (call_of s p) ≡ 0 → s ≡ Holds (action_made (call_of s p))
-      go (Holds a) b e = ap Holds (sym b)
-      go Nothing b e = absurd (nothing_refused L (history_of acts ps i) p e)
+      go : (s : Option Action) → Back s p → answer L (history_of acts ps i) (call_of s p) ≡ 0 → s ≡ Some (action_made (call_of s p))
+      go (Some a) b e = ap Some (sym b)
+      go None b e = absurd (nothing_refused L (history_of acts ps i) p e)
 
 -- the last actions, the result, a standing offer
 pub last_at : (L : Limits) (acts ps : List ℕ) (n : ℕ) → sound L acts ps n ≡ true → last_made (history_of acts ps n) ≡ last_action acts n
@@ -145,5 +144,6 @@ pub offer_is : (L : Limits) (acts ps : List ℕ) (n m : ℕ) → m ≡ moves_in 
     → offer_at acts ps n m ≡ offer_stands (history_of acts ps n)
 unfolding offer_stands
 offer_is L acts ps n m counted ok =
-    sym (ap₂ (λ (p : Position) (s : Stored). offer_in p s (last_but_one (history_of acts ps n))) (current_is L acts ps n m counted ok) (last_at L acts ps n ok)
+    sym (ap₂ (λ (p : Position) (s : Option Action). offer_in p s (last_but_one (history_of acts ps n)))
+    (current_is L acts ps n m counted ok) (last_at L acts ps n ok)
     ∙ ap (offer_in (position_at ps m) (last_action acts n)) (before_at L acts ps n ok))

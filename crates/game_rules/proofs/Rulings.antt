@@ -1,5 +1,6 @@
 -- The count and the run, read off the bytes, are those of the history: the count is of the moves since a position, the run begins at one.
 -- Assumes nothing.
+use Rattle.std.specs.Prelude.{Option, Some, None}
 use mathlib.Core.Path.{◌≡◌, refl, ap, sym, ◌∙◌}
 use mathlib.Core.Bool.{Bool, true, false, cond}
 use mathlib.Core.List.{List, [], ◌∷◌}
@@ -9,9 +10,8 @@ use lib.Dec.{leb}
 use lib.ListN.{length}
 use borrow.Author.Tests.{le-leb}
 use Rattle.chess_move.specs.Number.{last_move, number_answer}
+use Rattle.action.specs.declared.Action.{Action}
 use Rattle.action.specs.declared.Action.TheVariants.{MakeMove, OfferDraw, AcceptDraw, DeclareDraw, Resign}
-use Rattle.action.specs.declared.Stored.{Stored}
-use Rattle.action.specs.declared.Stored.TheVariants.{Holds, Nothing}
 use Rattle.action.specs.Layout.{action_size}
 use Rattle.actions.specs.Part.{action_at, move_held, moves_in}
 use Rattle.actions.proofs.Counting.{value_most}
@@ -73,15 +73,15 @@ run_moves ps m R r k was =
     since_by false = omega (arith, was.since_most)
 
 -- any action
-run_steps : (ps : List ℕ) (m : ℕ) (R : Ruling) (r : Run) (s : Stored) → RunIs ps m R r
+run_steps : (ps : List ℕ) (m : ℕ) (R : Ruling) (r : Run) (s : Option Action) → RunIs ps m R r
     → RunIs ps (cond (leb (move_held s) last_move) (suc m) m) (ruled_call R (position_at ps m) (call_of s (position_at ps (suc m))))
     (cond (leb (move_held s) last_move) (run_after (position_at ps m) (move_held s) (position_at ps (suc m)) (suc m) r) r)
-run_steps ps m R r (Holds (MakeMove x)) was = rw (value_most x) (run_moves ps m R r (number_answer x).value was)
-run_steps ps m R r (Holds (OfferDraw c)) was = was
-run_steps ps m R r (Holds AcceptDraw) was = was
-run_steps ps m R r (Holds DeclareDraw) was = was
-run_steps ps m R r (Holds (Resign c)) was = was
-run_steps ps m R r Nothing was = was
+run_steps ps m R r (Some (MakeMove x)) was = rw (value_most x) (run_moves ps m R r (number_answer x).value was)
+run_steps ps m R r (Some (OfferDraw c)) was = was
+run_steps ps m R r (Some AcceptDraw) was = was
+run_steps ps m R r (Some DeclareDraw) was = was
+run_steps ps m R r (Some (Resign c)) was = was
+run_steps ps m R r None was = was
 
 pub run_is : (acts ps : List ℕ) (n : ℕ) → RunIs ps (moves_in acts n) (ruling (history_of acts ps n)) (run_at acts ps n)
 unfolding ruling history_of moves_in run_at call_at positions_from

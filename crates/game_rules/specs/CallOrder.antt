@@ -2,7 +2,7 @@
 -- after 12 and before 13), at its smallest: each call breaks the check of its row and all that come after it, so that any later check tested before it
 -- would give another number. Then the counters (document 02, order 12), of a start, of a stored position and of a next one.
 -- Assumes nothing.
-use Rattle.std.specs.Prelude.{◌≡◌, List, [], ◌∷◌, ◌++◌, ℕ, replicate, true, false}
+use Rattle.std.specs.Prelude.{◌≡◌, List, [], ◌∷◌, ◌++◌, ℕ, replicate, true, false, Some, None}
 use Rattle.answer.specs.Answer.{out_of_range, bad_list, not_good, game_over, not_listed, wrong_side, wrong_record, log_full, no_offer, no_claim, part_too_short}
 use Rattle.board_builder.specs.BoardBuilder.{record_size}
 use Rattle.position.specs.Layout.{Position, position_size}
@@ -13,7 +13,6 @@ use Rattle.game_rules.specs.Calls.{log_check, call_answer, start_answer}
 use Rattle.ending.specs.Ending.{result_of, offer_in}
 use Rattle.claim.specs.Claim.{claim_in}
 use Rattle.action.specs.declared.Action.TheVariants.{MakeMove, OfferDraw, AcceptDraw, DeclareDraw, Resign}
-use Rattle.action.specs.declared.Stored.TheVariants.{Holds, Nothing}
 
 -- limits of no action and no move: every call breaks 13
 abbrev pub no_room : Limits
@@ -73,16 +72,16 @@ pub record ChecksInOrder : Type 0 where
   pub start_5 : start_answer no_room [] start_bytes all_wrong ≡ out_of_range
   pub start_6 : start_answer no_room [] start_bytes (on_empty 0 0 (28672 ∷ [])) ≡ bad_list
   -- results
-  pub white_mated : result_of (on_empty 0 1 []) Nothing ≡ 3
-  pub black_mated : result_of (on_empty 1 1 []) Nothing ≡ 1
-  pub stale : result_of (on_empty 0 0 []) Nothing ≡ 5
-  pub white_resigned : result_of (on_empty 0 0 (0 ∷ [])) (Holds (Resign 0)) ≡ 2
-  pub black_resigned : result_of (on_empty 0 0 (0 ∷ [])) (Holds (Resign 1)) ≡ 4
-  pub accepted_draw : result_of (on_empty 0 0 (0 ∷ [])) (Holds AcceptDraw) ≡ 6
-  pub declared_draw : result_of (on_empty 0 0 (0 ∷ [])) (Holds DeclareDraw) ≡ 7
+  pub white_mated : result_of (on_empty 0 1 []) None ≡ 3
+  pub black_mated : result_of (on_empty 1 1 []) None ≡ 1
+  pub stale : result_of (on_empty 0 0 []) None ≡ 5
+  pub white_resigned : result_of (on_empty 0 0 (0 ∷ [])) (Some (Resign 0)) ≡ 2
+  pub black_resigned : result_of (on_empty 0 0 (0 ∷ [])) (Some (Resign 1)) ≡ 4
+  pub accepted_draw : result_of (on_empty 0 0 (0 ∷ [])) (Some AcceptDraw) ≡ 6
+  pub declared_draw : result_of (on_empty 0 0 (0 ∷ [])) (Some DeclareDraw) ≡ 7
   -- offers: the last but one by the side not to move
-  pub offer_before : offer_in (on_empty 0 0 (0 ∷ [])) (Holds AcceptDraw) (Holds (OfferDraw 1)) ≡ true
-  pub offer_own : offer_in (on_empty 0 0 (0 ∷ [])) (Holds AcceptDraw) (Holds (OfferDraw 0)) ≡ false
+  pub offer_before : offer_in (on_empty 0 0 (0 ∷ [])) (Some AcceptDraw) (Some (OfferDraw 1)) ≡ true
+  pub offer_own : offer_in (on_empty 0 0 (0 ∷ [])) (Some AcceptDraw) (Some (OfferDraw 0)) ≡ false
   -- 100
   pub hundred : claim_in [] 100 (record { first = 100; since = 0 }) ≡ true
   pub ninety_nine : claim_in [] 99 (record { first = 99; since = 0 }) ≡ false

@@ -1,12 +1,11 @@
 -- A log is good exactly when some sequence of accepted calls from a start makes it (document 01, "Numbers of the record, the move and the log").
 -- Assumes nothing.
-use Rattle.std.specs.Prelude.{◌≡◌, Bool, ◌&&◌, List, [], ◌++◌, ℕ, zero, suc, ◌*◌, eqb, take}
+use Rattle.std.specs.Prelude.{◌≡◌, Bool, ◌&&◌, List, [], ◌++◌, ℕ, zero, suc, ◌*◌, eqb, take, Option, Some, None}
 use Rattle.answer.specs.Numbers.{same}
 use Rattle.answer.specs.Parts.{item}
 use Rattle.chess_move.specs.Number.{number_answer}
+use Rattle.action.specs.declared.Action.{Action}
 use Rattle.action.specs.declared.Action.TheVariants.{MakeMove, OfferDraw, AcceptDraw, DeclareDraw, Resign}
-use Rattle.action.specs.declared.Stored.{Stored}
-use Rattle.action.specs.declared.Stored.TheVariants.{Holds, Nothing}
 use Rattle.action.specs.Layout.{action_size, action_bytes}
 use Rattle.actions.specs.Part.{action_at, moves_in}
 use Rattle.position.specs.Layout.{Position, position_size, position_at}
@@ -48,13 +47,13 @@ Good L acts ps n m = (h : History) × Accepted L h × Holding acts ps n m h
 -- The same as one pass over the bytes. What they say, read as a history:
 
 -- the call that leaves an action, and position p if it is a move; where no action stands, a call that is always refused
-abbrev pub call_of : Stored → Position → Call
-call_of (Holds (MakeMove m)) p = make_move (number_answer m).value p
-call_of (Holds (OfferDraw c)) p = offer_draw c
-call_of (Holds AcceptDraw) p = accept_draw
-call_of (Holds DeclareDraw) p = declare_draw
-call_of (Holds (Resign c)) p = resign c
-call_of Nothing p = offer_draw 2
+abbrev pub call_of : Option Action → Position → Call
+call_of (Some (MakeMove m)) p = make_move (number_answer m).value p
+call_of (Some (OfferDraw c)) p = offer_draw c
+call_of (Some AcceptDraw) p = accept_draw
+call_of (Some DeclareDraw) p = declare_draw
+call_of (Some (Resign c)) p = resign c
+call_of None p = offer_draw 2
 
 unfoldable pub call_at : List ℕ → List ℕ → ℕ → Call
 call_at acts ps i = call_of (action_at acts i) (position_at ps (suc (moves_in acts i)))

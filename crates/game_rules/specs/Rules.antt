@@ -1,6 +1,6 @@
 -- Games as histories, and the rules (document 01, "Answer numbers", "Draws and endings"): what a call is answered after what went before it.
 -- Assumes nothing.
-use Rattle.std.specs.Prelude.{Bool, true, false, cond, not, ◌&&◌, ◌||◌, List, [], ◌∷◌, ◌++◌, ℕ, suc, eqb, leb, ltb}
+use Rattle.std.specs.Prelude.{Bool, true, false, cond, not, ◌&&◌, ◌||◌, List, [], ◌∷◌, ◌++◌, ℕ, suc, eqb, leb, ltb, Option, Some, None}
 use Rattle.answer.specs.Answer.{not_listed, game_over, wrong_side, wrong_record, log_full, no_offer, no_claim}
 use Rattle.answer.specs.Numbers.{same, among}
 use Rattle.chess_move.specs.Number.{move_of}
@@ -8,8 +8,6 @@ use Rattle.move_rules.specs.After.{record_after}
 use Rattle.move_rules.specs.Leads.{counters_from}
 use Rattle.action.specs.declared.Action.{Action}
 use Rattle.action.specs.declared.Action.TheVariants.{MakeMove, OfferDraw, AcceptDraw, DeclareDraw, Resign}
-use Rattle.action.specs.declared.Stored.{Stored}
-use Rattle.action.specs.declared.Stored.TheVariants.{Holds, Nothing}
 use Rattle.action.specs.Layout.{colour_check}
 use Rattle.position.specs.Layout.{Position, side}
 use Rattle.position.specs.Repeats.{times}
@@ -68,12 +66,12 @@ moves (begun p) = 0
 moves (after h c) = cond (is_move c) (suc (moves h)) (moves h)
 
 -- the last action, and the last but one
-unfoldable pub last_made : History → Stored
-last_made (begun p) = Nothing
-last_made (after h c) = Holds (action_made c)
+unfoldable pub last_made : History → Option Action
+last_made (begun p) = None
+last_made (after h c) = Some (action_made c)
 
-unfoldable pub last_but_one : History → Stored
-last_but_one (begun p) = Nothing
+unfoldable pub last_but_one : History → Option Action
+last_but_one (begun p) = None
 last_but_one (after h c) = last_made h
 
 unfoldable pub result : History → ℕ

@@ -1,5 +1,6 @@
 -- A move in the pass: what the last action alone settles, why the list's length need not be tested, and that each accepted action leaves a position.
 -- Assumes nothing.
+use Rattle.std.specs.Prelude.{Option, Some, None}
 use mathlib.Core.Path.{◌≡◌, refl, ap, sym, ◌∙◌}
 use mathlib.Core.Bool.{Bool, true, false, cond, ◌&&◌, and-false}
 use mathlib.Core.List.{List, [], ◌∷◌}
@@ -12,9 +13,8 @@ use Rattle.answer.specs.Numbers.{among}
 use Rattle.answer.specs.Parts.{item}
 use Rattle.answer.proofs.Numbers.{both_left, both_right}
 use Rattle.chess_move.specs.Number.{last_move}
+use Rattle.action.specs.declared.Action.{Action}
 use Rattle.action.specs.declared.Action.TheVariants.{MakeMove, OfferDraw, AcceptDraw, DeclareDraw, Resign}
-use Rattle.action.specs.declared.Stored.{Stored}
-use Rattle.action.specs.declared.Stored.TheVariants.{Holds, Nothing}
 use Rattle.actions.specs.Part.{action_at, move_held, move_at, last_action}
 use Rattle.position.specs.Layout.{Position, position_size, side, position_of, position_at}
 use Rattle.stored_position.specs.Bytes.{is_position, lists_move}
@@ -32,7 +32,7 @@ ended_without mover check = go (eqb check 0) (eqb mover 0)
     go false true e = omega arith
     go false false e = omega arith
 
-module _ (p : Position) (last : Stored) where
+module _ (p : Position) (last : Option Action) where
   ended_empty : length p.moves ≡ 0 → result_of p last ≡ 0 → ⊥
   unfolding result_of
   ended_empty e = rw (eq-eqb _ _ e) (ended_without (side p) p.check)
@@ -53,13 +53,13 @@ pub move_goes_on : (acts : List ℕ) (i : ℕ) → move_at acts i ≤ last_move 
 unfolding last_action
 move_goes_on acts i = go (action_at acts i)
   where
-    go : (s : Stored) → move_held s ≤ last_move → result_of_action s ≡ 0
-    go (Holds (MakeMove x)) h = refl
-    go (Holds (OfferDraw c)) h = refl
-    go (Holds AcceptDraw) h = absurd (omega arith)
-    go (Holds DeclareDraw) h = absurd (omega arith)
-    go (Holds (Resign c)) h = absurd (omega arith)
-    go Nothing h = refl
+    go : (s : Option Action) → move_held s ≤ last_move → result_of_action s ≡ 0
+    go (Some (MakeMove x)) h = refl
+    go (Some (OfferDraw c)) h = refl
+    go (Some AcceptDraw) h = absurd (omega arith)
+    go (Some DeclareDraw) h = absurd (omega arith)
+    go (Some (Resign c)) h = absurd (omega arith)
+    go None h = refl
 
 -- an empty list has no move
 empty_lists : (s : List ℕ) (x : ℕ) → length (position_of s).moves ≡ 0 → lists_move s x ≡ false

@@ -1,5 +1,6 @@
 -- A step of the pass settles whether the next action is sound: the checks, read off the bytes, are those of the call after its history.
 -- Assumes nothing.
+use Rattle.std.specs.Prelude.{Option, Some, None}
 use mathlib.Core.Path.{◌≡◌, refl, ap, sym, ◌∙◌}
 use mathlib.Core.Bool.{Bool, true, false, cond, not, ◌&&◌, ◌||◌, and-true, and-false, false≢true}
 use mathlib.Core.List.{List, [], ◌∷◌}
@@ -18,8 +19,6 @@ use Rattle.chess_move.specs.declared.ChessMove.{ChessMove}
 use Rattle.chess_move.specs.Number.{last_move, number_answer}
 use Rattle.action.specs.declared.Action.{Action}
 use Rattle.action.specs.declared.Action.TheVariants.{MakeMove, OfferDraw, AcceptDraw, DeclareDraw, Resign}
-use Rattle.action.specs.declared.Stored.{Stored}
-use Rattle.action.specs.declared.Stored.TheVariants.{Holds, Nothing}
 use Rattle.action.specs.Layout.{action_size, action_bytes}
 use Rattle.action.proofs.ReadBack.{one_form}
 use Rattle.actions.specs.Part.{action_at, move_held, moves_in, last_action}
@@ -27,7 +26,7 @@ use Rattle.actions.proofs.Counting.{value_most}
 use Rattle.position.specs.Layout.{Position, position_size, side, position_at}
 use Rattle.stored_position.specs.Bytes.{position_bytes, position_check, is_position, lists_move}
 use Rattle.game_rules.specs.Limits.{Limits, limits}
-use Rattle.game_rules.specs.Rules.{Call, make_move, History, moves, is_move, action_made, result, ended, unless, first_refusal, comes_after, own_checks}
+use Rattle.game_rules.specs.Rules.{Call, make_move, History, is_move, action_made, result, ended, unless, first_refusal, comes_after, own_checks}
 use Rattle.game_rules.specs.Rules.{room_for}
 use Rattle.game_rules.specs.Rules.{answer}
 use Rattle.game_rules.specs.Good.{call_of, call_at, history_of, position_here, position_made, was_made, next_sound, sound}
@@ -90,32 +89,32 @@ module _
     here = ap (λ (x : ℕ). call_of (action_at acts i) (position_at ps (suc x))) (sym counted)
 
     -- a held action stands in exactly its bytes
-    own_bytes : (a : Action) → action_at acts i ≡ Holds a → same (item action_size acts i) (action_bytes (action_made (call_of (Holds a) q))) ≡ true
+    own_bytes : (a : Action) → action_at acts i ≡ Some a → same (item action_size acts i) (action_bytes (action_made (call_of (Some a) q))) ≡ true
     own_bytes a e =
         let s : all_at_most 255 (item action_size acts i) ≡ true =
         most_take action_size 255 (drop (action_size * i) acts) (most_drop (action_size * i) 255 acts bytes) in
         let f : item action_size acts i ≡ action_bytes a = (one_form (item action_size acts i) a s e).1 in
-        let b : Back (Holds a) q = rw e at (made_back (item action_size acts i) q) in
+        let b : Back (Some a) q = rw e at (made_back (item action_size acts i) q) in
         rw (b, f) (same_refl (action_bytes a))
 
-    abbrev sound_by : Stored → Bool
+    abbrev sound_by : Option Action → Bool
     sound_by s = was_made limits h (call_of s q) (item action_size acts i) (item position_size ps (suc k))
 
     sound_by_lem : next_sound limits acts ps i ≡ sound_by (action_at acts i)
     unfolding next_sound
     sound_by_lem = rw (here, ← counted)
 
-    abbrev count_by : Stored → ℕ
+    abbrev count_by : Option Action → ℕ
     count_by s = cond (leb (move_held s) last_move) (suc k) k
 
-    abbrev target : Stored → ℕ
+    abbrev target : Option Action → ℕ
     target s = cond (sound_by s && leb (count_by s) m) (count_by s) not_sound
 
     target_is : target (action_at acts i) ≡ step_to acts ps m i
     unfolding moves_in
     target_is = rw (sound_by_lem, ← counted)
 
-    abbrev body : Bool → Stored → ℕ
+    abbrev body : Bool → Option Action → ℕ
     body t s = cond t (cond (leb (move_held s) last_move) (move_step ps m k (move_held s)) (cond (other_fits acts ps i k s) k not_sound)) not_sound
 
     body_is : step acts ps m i k ≡ body (eqb (result h) 0) (action_at acts i)
@@ -130,14 +129,14 @@ module _
         go true f = lt-ltb k limits.most_moves (omega (arith, f refl))
         go false f = refl
 
-    by_own : (a : Action) → sound_by (Holds a) ≡ eqb (other_check acts ps i k a) 0
-        → cond (eqb (other_check acts ps i k a) 0) k not_sound ≡ cond (sound_by (Holds a) && leb k m) k not_sound
+    by_own : (a : Action) → sound_by (Some a) ≡ eqb (other_check acts ps i k a) 0
+        → cond (eqb (other_check acts ps i k a) 0) k not_sound ≡ cond (sound_by (Some a) && leb k m) k not_sound
     by_own a e = rw (e, le-leb k m within, and-true (eqb (other_check acts ps i k a) 0))
 
     -- in a game that goes on
     module _ (on : eqb (result h) 0 ≡ true) where
-      move_sound : (x : ChessMove) → action_at acts i ≡ Holds (MakeMove x) → k < m
-          → sound_by (Holds (MakeMove x)) ≡ move_fits (item position_size ps k) (number_answer x).value (item position_size ps (suc k))
+      move_sound : (x : ChessMove) → action_at acts i ≡ Some (MakeMove x) → k < m
+          → sound_by (Some (MakeMove x)) ≡ move_fits (item position_size ps k) (number_answer x).value (item position_size ps (suc k))
       unfolding answer is_position lists_move
       move_sound x e more =
           rw (
@@ -154,15 +153,15 @@ module _
           (comes_after (position_at ps k) (number_answer x).value q)
           (position_check q))
 
-      other_sound : (a : Action) → action_at acts i ≡ Holds a → is_move (call_of (Holds a) q) ≡ false
-          → own_checks h (call_of (Holds a) q) ≡ other_check acts ps i k a ∷ [] → position_here (call_of (Holds a) q) (item position_size ps (suc k)) ≡ []
-          → position_made (call_of (Holds a) q) ≡ [] → sound_by (Holds a) ≡ eqb (other_check acts ps i k a) 0
+      other_sound : (a : Action) → action_at acts i ≡ Some a → is_move (call_of (Some a) q) ≡ false
+          → own_checks h (call_of (Some a) q) ≡ other_check acts ps i k a ∷ [] → position_here (call_of (Some a) q) (item position_size ps (suc k)) ≡ []
+          → position_made (call_of (Some a) q) ≡ [] → sound_by (Some a) ≡ eqb (other_check acts ps i k a) 0
       unfolding answer same
       other_sound a e still own none made =
           rw (
             on,
             own,
-            room_for_fact (call_of (Holds a) q) (λ t. absurd (false≢true (sym still ∙ t))),
+            room_for_fact (call_of (Some a) q) (λ t. absurd (false≢true (sym still ∙ t))),
             own_bytes a e,
             none,
             made,
@@ -173,16 +172,16 @@ module _
     ended_is : (t : Bool) → eqb (result h) 0 ≡ t → ended h ≡ not t
     ended_is t e = ap not e
 
-    settled : (t : Bool) → eqb (result h) 0 ≡ t → (s : Stored) → action_at acts i ≡ s → body t s ≡ target s
+    settled : (t : Bool) → eqb (result h) 0 ≡ t → (s : Option Action) → action_at acts i ≡ s → body t s ≡ target s
     settled false e s f = rw (over limits h (call_of s q) (ended_is false e))
-    settled true e (Holds (MakeMove x)) f = rw (value_most x) (go (eqb k m) refl)
+    settled true e (Some (MakeMove x)) f = rw (value_most x) (go (eqb k m) refl)
       where
         go : (t : Bool) → eqb k m ≡ t
             → cond t not_sound (cond (move_fits (item position_size ps k) (number_answer x).value (item position_size ps (suc k))) (suc k) not_sound)
-            ≡ cond (sound_by (Holds (MakeMove x)) && leb (suc k) m) (suc k) not_sound
+            ≡ cond (sound_by (Some (MakeMove x)) && leb (suc k) m) (suc k) not_sound
         go true g =
             let full : k ≡ m = eqb-true k m g in
-            rw (lt-leb (suc k) m (omega arith), and-false (sound_by (Holds (MakeMove x))))
+            rw (lt-leb (suc k) m (omega arith), and-false (sound_by (Some (MakeMove x))))
         go false g =
             let other : k ≡ m → ⊥ = eqb-false k m g in
             let more : k < m = omega (arith, other) in
@@ -191,14 +190,14 @@ module _
               le-leb (suc k) m more,
               and-true (move_fits (item position_size ps k) (number_answer x).value (item position_size ps (suc k))),
             )
-    settled true e (Holds (OfferDraw c)) f = by_own (OfferDraw c) (other_sound e (OfferDraw c) f refl refl refl refl)
-    settled true e (Holds AcceptDraw) f =
+    settled true e (Some (OfferDraw c)) f = by_own (OfferDraw c) (other_sound e (OfferDraw c) f refl refl refl refl)
+    settled true e (Some AcceptDraw) f =
         by_own AcceptDraw (other_sound e AcceptDraw f refl (ap (λ (t : Bool). unless t no_offer ∷ []) (sym (offer_is limits acts ps i k counted ok))) refl refl)
-    settled true e (Holds DeclareDraw) f =
+    settled true e (Some DeclareDraw) f =
         by_own DeclareDraw
         (other_sound e DeclareDraw f refl (ap (λ (t : Bool). unless t no_claim ∷ []) (sym (claim_is acts ps i k counted room place))) refl refl)
-    settled true e (Holds (Resign c)) f = by_own (Resign c) (other_sound e (Resign c) f refl refl refl refl)
-    settled true e Nothing f = rw (ne_eqb _ 0 (nothing_refused limits h q))
+    settled true e (Some (Resign c)) f = by_own (Resign c) (other_sound e (Resign c) f refl refl refl refl)
+    settled true e None f = rw (ne_eqb _ 0 (nothing_refused limits h q))
 
     pub step_is : step acts ps m i k ≡ step_to acts ps m i
     step_is = body_is ∙ settled (eqb (result h) 0) refl (action_at acts i) refl ∙ target_is

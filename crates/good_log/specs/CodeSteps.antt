@@ -1,12 +1,10 @@
 -- One step of the pass that tests a log, read off its bytes: the checks of a call at a place in the log.
 -- Assumes nothing.
-use Rattle.std.specs.Prelude.{Bool, false, not, ◌&&◌, ◌||◌, List, ℕ, suc, eqb, ltb}
+use Rattle.std.specs.Prelude.{Bool, false, not, ◌&&◌, ◌||◌, List, ℕ, suc, eqb, ltb, Option, Some, None}
 use Rattle.answer.specs.Answer.{not_listed, no_offer, no_claim}
 use Rattle.answer.specs.Parts.{item}
 use Rattle.action.specs.declared.Action.{Action}
 use Rattle.action.specs.declared.Action.TheVariants.{MakeMove, OfferDraw, AcceptDraw, DeclareDraw, Resign}
-use Rattle.action.specs.declared.Stored.{Stored}
-use Rattle.action.specs.declared.Stored.TheVariants.{Holds, Nothing}
 use Rattle.action.specs.Layout.{colour_check}
 use Rattle.actions.specs.Part.{last_action}
 use Rattle.position.specs.Layout.{position_size, side, position_of}
@@ -23,9 +21,9 @@ other_check acts ps n m AcceptDraw = unless (offer_at acts ps n m) no_offer
 other_check acts ps n m DeclareDraw = unless (claim_at acts ps n m) no_claim
 other_check acts ps n m (Resign c) = colour_check c
 
-abbrev pub other_fits : List ℕ → List ℕ → ℕ → ℕ → Stored → Bool
-other_fits acts ps n m (Holds a) = eqb (other_check acts ps n m a) 0
-other_fits acts ps n m Nothing = false
+abbrev pub other_fits : List ℕ → List ℕ → ℕ → ℕ → Option Action → Bool
+other_fits acts ps n m (Some a) = eqb (other_check acts ps n m a) 0
+other_fits acts ps n m None = false
 
 -- action i, which is not a move, was accepted with k moves made before it
 abbrev pub other_sound : List ℕ → List ℕ → ℕ → ℕ → Bool

@@ -13,7 +13,7 @@ ghost use Rattle.game_rules.specs.Good.{is_good};
 ghost use Rattle.game_rules.specs.Calls.{log_check};
 ghost use Rattle.good_log.specs.CodeSteps.{other_check, other_fits, other_sound, other_may_stand, move_leads, move_may_stand};
 
-use action::{ACTION_SIZE, Action, Stored};
+use action::{ACTION_SIZE, Action};
 use answer::{ACCEPTED, NO_CLAIM, NO_OFFER, NOT_GOOD, NOT_LISTED, OUT_OF_RANGE, PART_TOO_SHORT};
 use chess_move::LAST_MOVE;
 use ending::GOES_ON;
@@ -44,13 +44,10 @@ pub fn other_check(acts: &[u8], ps: &[u8], n: usize, m: usize, action: Action) -
     }
 }
 
-fn other_fits(acts: &[u8], ps: &[u8], i: usize, k: usize, stored: Stored) -> bool
+fn other_fits(acts: &[u8], ps: &[u8], i: usize, k: usize, stored: Option<Action>) -> bool
     ensures { result ≡ other_fits acts.now ps.now i k stored }
 {
-    match stored {
-        Stored::Holds(action) => other_check(acts, ps, i, k, action) == ACCEPTED,
-        Stored::Nothing => false,
-    }
+    matches!(stored, Some(action) if other_check(acts, ps, i, k, action) == ACCEPTED)
 }
 
 // Whether a position whose record is in range lists a move, and what stands after it has the record after the move, whose side is the other one,
@@ -76,15 +73,12 @@ fn move_leads(p: &[u8], m: u64, q: &[u8]) -> bool
 }
 
 // Whether move `x` was accepted as the next one, with `k` made before it and `m` in all. Whether the list before it was empty is not tested: no such list
-// has it. By `<=` and not `==`, so that the compiler sees that the position after it lies in the part.
+// has it. By `<` and not `!=`, so that the compiler sees that the position after it lies in the part.
 fn move_may_stand(ps: &[u8], m: usize, k: usize, x: u64) -> bool
     requires { (m ≤ limits.most_moves) × (x ≤ last_move) × (record_fits (item position_size ps.now k) ≡ true) }
     ensures { result ≡ move_may_stand ps.now m k x }
 {
-    if m <= k {
-        return false;
-    }
-    move_leads(position::at(ps, k), x, position::at(ps, k + 1))
+    k < m && move_leads(position::at(ps, k), x, position::at(ps, k + 1))
 }
 
 // Whether action `i`, which is not a move, was accepted with `k` moves made before it.
@@ -92,10 +86,8 @@ fn other_is_sound(acts: &[u8], ps: &[u8], i: usize, k: usize) -> bool
     requires { i < limits.most_actions }
     ensures { result ≡ other_sound acts.now ps.now i k }
 {
-    if ending::result(acts, ps, i, k) != GOES_ON {
-        return false;
-    }
-    other_fits(acts, ps, i, k, actions::last(acts, i + 1))
+    ending::result(acts, ps, i, k) == GOES_ON
+        && other_fits(acts, ps, i, k, actions::last(acts, i + 1))
 }
 
 // The same for one of `n` actions: if it ends the game, it must be the last. Tested here, so that no move has to look back at the action before it.
@@ -124,8 +116,7 @@ fn is_good(acts: &[u8], ps: &[u8], n: usize, m: usize) -> bool
         return false;
     }
     let mut k: usize = 0;
-    let mut i: usize = 0;
-    while i < n {
+    for i in 0..n {
         if acts.len() / ACTION_SIZE <= i {
             return false;
         }
@@ -138,15 +129,12 @@ fn is_good(acts: &[u8], ps: &[u8], n: usize, m: usize) -> bool
         } else if !other_may_stand(acts, ps, n, i, k) {
             return false;
         }
-        i += 1;
     }
-    if k != m {
-        return false;
-    }
-    stored_position::is_position(position::at(ps, m))
+    k == m && stored_position::is_position(position::at(ps, m))
 }
 
-// The checks that stand before each call's and query's own: 16, then 9.
+// The checks that stand before each call's and query's own: 16, then 9. A number and no Result: it goes as it is into the answers of the C interface, and the
+// definition `log_check` says it.
 pub fn check(acts: &[u8], ps: &[u8], n: usize, m: usize) -> u64
     ensures { result ≡ log_check limits acts.now ps.now n m }
 {

@@ -1,7 +1,7 @@
 // A lent list of moves and a lent in-check byte, judged by the Laws: what is owed, and the first thing that is wrong.
 #![tactic(auto)]
 
-ghost use Rattle.std.specs.Prelude.{◌≡◌, ◌<◌, length, take, drop};
+ghost use Rattle.std.specs.Prelude.{◌≡◌, ◌+◌, MatchOption};
 ghost use Rattle.move_laws.specs.Judge.{judged_as, outside_at, twice_at, judgement, judged_answer};
 
 use answer::{BAD_LIST, OUT_OF_RANGE};
@@ -20,70 +20,45 @@ fn finding(number: u64, in_check: u64, entries: u64, wrong: u64, named: u64) -> 
     }
 }
 
-fn wide(x: u16) -> u64
-    ensures same { result ≡ x }
-    ensures small { result < 65536 }
+// The first entry of one list that is not in the other.
+fn outside(moves: &[u16], list: &[u16]) -> Option<u64>
+    ensures { MatchOption result (outside_at list.now moves.now ≡ 0) (λ x. outside_at list.now moves.now ≡ x + 1) }
 {
-    x as u64
-}
-
-fn rest(s: &[u16], n: usize) -> &[u16]
-    ensures { result.now ≡ drop n s.now }
-{
-    if n <= s.len() { &s[n..] } else { &s[..0] }
-}
-
-fn front(s: &[u16], n: usize) -> &[u16]
-    ensures { result.now ≡ take n s.now }
-{
-    if n <= s.len() { &s[..n] } else { s }
-}
-
-// One more than the first entry of one list that is not in the other, 0 if there is none.
-fn outside(moves: &[u16], list: &[u16]) -> u64
-    ensures { result ≡ outside_at list.now moves.now }
-{
-    let mut i: usize = 0;
-    while i < moves.len() {
-        let entry = wide(moves[i]);
+    for m in moves {
+        let entry = u64::from(*m);
         if !move_list::is_listed(list, entry) {
-            return entry + 1;
+            return Some(entry);
         }
-        i += 1;
     }
-    0
+    None
 }
 
-// One more than the first entry that comes again, 0 if there is none.
-fn twice(list: &[u16]) -> u64
-    ensures { result ≡ twice_at list.now }
+// The first entry that comes again.
+fn twice(list: &[u16]) -> Option<u64>
+    ensures { MatchOption result (twice_at list.now ≡ 0) (λ x. twice_at list.now ≡ x + 1) }
 {
-    let mut i: usize = 0;
-    while i < list.len() {
-        let entry = wide(list[i]);
-        if move_list::is_listed(rest(list, i + 1), entry) {
-            return entry + 1;
+    for (i, m) in list.iter().enumerate() {
+        let entry = u64::from(*m);
+        if move_list::is_listed(&list[i + 1..], entry) {
+            return Some(entry);
         }
-        i += 1;
     }
-    0
+    None
 }
 
+// What is wrong goes to C as a number.
 fn judge(owed: u64, given: u64, legal: &[u16], list: &[u16]) -> Judged
     ensures { result ≡ judgement owed given legal.now list.now }
 {
     let entries = legal.len() as u64;
-    let stray = outside(list, legal);
-    if stray != 0 {
-        return finding(0, owed, entries, 1, stray - 1);
+    if let Some(stray) = outside(list, legal) {
+        return finding(0, owed, entries, 1, stray);
     }
-    let again = twice(list);
-    if again != 0 {
-        return finding(0, owed, entries, 2, again - 1);
+    if let Some(again) = twice(list) {
+        return finding(0, owed, entries, 2, again);
     }
-    let missing = outside(legal, list);
-    if missing != 0 {
-        return finding(0, owed, entries, 3, missing - 1);
+    if let Some(missing) = outside(legal, list) {
+        return finding(0, owed, entries, 3, missing);
     }
     if given != owed {
         return finding(0, owed, entries, 4, 0);
@@ -112,8 +87,8 @@ pub fn list_judged(b: BoardBuilder, in_check: u8, list: &[u16]) -> Judged
     let owed = legal::in_check(b).value;
     judge(
         owed,
-        in_check as u64,
-        front(&room, written.value as usize),
+        u64::from(in_check),
+        &room[..written.value as usize],
         list,
     )
 }

@@ -1,10 +1,11 @@
 -- A page taken line by line: what has gone out, and the lines that are left. And laws of the lines that go out into a room.
 -- Assumes nothing.
 use mathlib.Core.Path.{◌≡◌, refl, sym, ap, ◌∙◌}
+use mathlib.Core.Bool.{Bool, true, false, not, cond}
+use Rattle.std.specs.Int.{from_bool}
 use mathlib.Core.List.{List, [], ◌∷◌, ◌++◌, append-nil, append_assoc}
 use Prim.Native.Nat.{ℕ, suc, ◌+◌, ◌-◌, ◌≤◌, ◌<◌}
 use native.Mathlib.Omega.{arith}
-use lib.Dec.{eqb}
 use lib.ListN.{length, take, drop, length-append, length-drop}
 use lib.Seq.{drop-drop, length-take-le}
 use borrow.Author.Tests.{le-leb, lt-leb}
@@ -13,7 +14,6 @@ use Rattle.answer.specs.Parts.{written}
 use Rattle.answer.proofs.Parts.{written_behind, length_written}
 use Rattle.answer.proofs.Overwrites.{from_front}
 use Rattle.fen_text.specs.Token.{place_of}
-use Rattle.fen_text.specs.Read.{read_fen}
 use Rattle.fen_text.specs.Lines.{line_feed, line_end, ended_lines, over_lines}
 use Rattle.fen_text.proofs.Cases.{cond_both}
 use Rattle.fen_text.proofs.Lines.{ended_next, ended_none, over_append}
@@ -34,8 +34,17 @@ unfolding keys_among
 keys_append [] ys = omega arith
 keys_append (x ∷ xs) ys = omega (arith, keys_append xs ys)
 
-pub one_at_most : (l : List ℕ) → is_key l ≤ 1
-one_at_most l = cond_both (λ (n : ℕ). n ≤ 1) (eqb (read_fen l).number 0) (omega arith) (omega arith)
+one_at_most : (l : List ℕ) → cond (is_key l) 1 0 ≤ 1
+one_at_most l = cond_both (λ (n : ℕ). n ≤ 1) (is_key l) (omega arith) (omega arith)
+
+pub at_most_one : (t : Bool) → from_bool t ≤ 1
+at_most_one true = omega arith
+at_most_one false = omega arith
+
+-- a line counts on one side or on the other
+counted : (t : Bool) → (from_bool t ≡ cond t 1 0) × (from_bool (not t) ≡ 1 - cond t 1 0)
+counted true = (refl, refl)
+counted false = (refl, refl)
 
 keys_within : (ls : List (List ℕ)) → keys_among ls ≤ length ls
 unfolding keys_among
@@ -147,9 +156,12 @@ module _ (text out₀ out : List ℕ) (taken ready accepted refused end : ℕ) (
       let b = lines_within g.gone in
       (omega (arith, g.keys, g.bytes_in), omega (arith, g.others, g.bytes_in))
 
-  pub one_more_lem : Gone text out₀ out' (end + 1) put.ready (accepted + put.accepted) (refused + (1 - put.accepted))
+  pub one_more_lem : (x y : ℕ) → x ≡ from_bool put.accepted → y ≡ from_bool (not put.accepted)
+      → Gone text out₀ out' (end + 1) put.ready (accepted + x) (refused + y)
   unfolding bytes_of keys_among over_lines
-  one_more_lem =
+  one_more_lem x y ex ey =
+      let yes : x ≡ cond (is_key (take (end - taken) (drop taken text))) 1 0 = ex ∙ (counted put.accepted).0 ∙ ap (λ (t : Bool). cond t 1 0) put_key in
+      let no : y ≡ 1 - cond (is_key (take (end - taken) (drop taken text))) 1 0 = ey ∙ (counted put.accepted).1 ∙ ap (λ (t : Bool). 1 - cond t 1 0) put_key in
       let l : List ℕ = take (end - taken) (drop taken text) in
       let place₀ : longest_line ≤ length out₀ - ready = omega (arith, g.long) in
       let goes = one_goes (length out₀ - ready) l (ended_lines (drop (end + 1) text)) place₀ in
@@ -177,8 +189,8 @@ module _ (text out₀ out : List ℕ) (taken ready accepted refused end : ℕ) (
         bytes_in = omega (arith, g.bytes_in, this_long);
         bytes_out = put_ready ∙ ap (λ (n : ℕ). n + length (key_line l)) g.bytes_out
             ∙ sym (ap length said ∙ length-append (over_lines key_line g.gone) (key_line l));
-        keys = omega (arith, g.keys, put_key);
-        others = omega (arith, g.others, put_key, one);
+        keys = omega (arith, g.keys, yes);
+        others = omega (arith, g.others, no, one);
         room = new ∙ from_front out₀ (over_lines key_line g.gone ++ key_line l) ∙ ap (λ (x : List ℕ). overwrite x out₀) (sym said);
         long = ap length o ∙ length_written out ready (key_line l) (omega (arith, g.long)) ∙ g.long;
         within = omega (arith, put_ready);

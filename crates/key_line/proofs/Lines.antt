@@ -1,7 +1,7 @@
 -- A line of the program keys, put behind what a room holds: the key and its newline, or the refusal, with 86 bytes at hand.
 -- Assumes nothing.
 use mathlib.Core.Path.{◌≡◌, refl, sym, ap, ◌∙◌}
-use mathlib.Core.Bool.{true, cond}
+use mathlib.Core.Bool.{Bool, true, false, cond}
 use mathlib.Core.List.{List, ◌++◌}
 use Prim.Native.Nat.{ℕ, ◌+◌, ◌-◌, ◌≤◌, ◌<◌}
 use native.Mathlib.Omega.{arith}
@@ -57,7 +57,7 @@ refusal_short number offset h k =
     let b = few_digits offset k in
     simp length-append (omega arith)
 
-lined : (ready more accepted known : ℕ) → ready ≡ more → accepted ≡ known
+lined : (ready more : ℕ) (accepted known : Bool) → ready ≡ more → accepted ≡ known
     → ◌≡◌ {A = Lined} (record { ready = ready; accepted = accepted }) (record { ready = more; accepted = known })
 lined ready more accepted known e f = rw (e, f)
 
@@ -74,10 +74,10 @@ module _ (s l w : List ℕ) (f : Fen) (at room : ℕ) (a : Answer) (e : f ≡ re
   pub refused_short : length (key_line s) ≤ longest_line
   refused_short = rw (line_refused s f e n) (omega (arith, refusal_short f.number f.offset small near))
 
-  pub refused_line : ◌≡◌ {A = Lined} (record { ready = at + a.value; accepted = 0 }) (lined_at at s)
+  pub refused_line : ◌≡◌ {A = Lined} (record { ready = at + a.value; accepted = false }) (lined_at at s)
   refused_line =
       let other : (read_fen s).number ≡ 0 → ⊥ = λ z. n (ap (λ (g : Fen). g.number) e ∙ z) in
-      lined (at + a.value) (at + length (key_line s)) 0 (is_key s)
+      lined (at + a.value) (at + length (key_line s)) false (is_key s)
       (ap (λ (k : ℕ). at + k) (refused_value ∙ ap length (sym (line_refused s f e n))))
       (sym (simp (ne_eqb _ _ other)))
 
@@ -131,8 +131,8 @@ module _ (s l w : List ℕ) (f : Fen) (at room : ℕ) (a : Answer) (e : f ≡ re
   pub key_short : length (key_line s) ≤ longest_line
   key_short = omega (arith, whole_long, key_within)
 
-  pub accepted_line : ◌≡◌ {A = Lined} (record { ready = at + a.value + 1; accepted = 1 }) (lined_at at s)
-  accepted_line = lined (at + a.value + 1) (at + length (key_line s)) 1 (is_key s) (omega (arith, whole_long)) (sym (simp (eq-eqb _ _ number)))
+  pub accepted_line : ◌≡◌ {A = Lined} (record { ready = at + a.value + 1; accepted = true }) (lined_at at s)
+  accepted_line = lined (at + a.value + 1) (at + length (key_line s)) true (is_key s) (omega (arith, whole_long)) (sym (simp (eq-eqb _ _ number)))
 
   pub accepted_bytes : set (take at l ++ (w ++ drop (length l - at) (drop at l))) (at + a.value) 10 ≡ written l at (key_line s)
   accepted_bytes =

@@ -1,12 +1,15 @@
 -- A refused line, put together in 44 bytes: `! `, the number, a space, the offset and a newline always fit.
 -- Assumes nothing.
-use mathlib.Core.Path.{refl}
-use mathlib.Core.List.{List, [], ◌∷◌}
-use Prim.Native.Nat.{ℕ, ◌+◌, ◌≤◌, ◌<◌}
+use mathlib.Core.Path.{◌≡◌, refl, subst}
+use mathlib.Core.List.{List, [], ◌∷◌, ◌++◌}
+use Prim.Native.Nat.{ℕ, ◌+◌, ◌-◌, ◌≤◌, ◌<◌}
 use native.Mathlib.Omega.{arith}
 use lib.Dec.{lit<}
-use lib.ListN.{length, set, replicate}
+use lib.ListN.{length, take, drop, set, replicate}
+use Rattle.answer.specs.declared.Answer.{Answer}
+use Rattle.answer.specs.Answer.{write_answer, write_bytes}
 use Rattle.answer.specs.CodePushed.{Put}
+use Rattle.answer.proofs.Puts.{put_text}
 use Rattle.answer.proofs.Pushes.{put_one, put_both}
 use Rattle.decimal.specs.Decimal.{decimal}
 use Rattle.decimal.proofs.Promises.{up_to_20}
@@ -14,6 +17,17 @@ use Rattle.key_line.specs.KeyLine.{refusal_line}
 
 pub few_digits : (n : ℕ) → n < 18446744073709551616 → length (decimal n) ≤ 20
 few_digits n h = up_to_20 n h
+
+-- a number put behind n bytes
+pub number_put : (l w : List ℕ) (n number room : ℕ) (a : Answer) → length l ≡ 44 → n + length (decimal number) ≤ 44
+    → a ≡ write_answer 0 (decimal number) room → w ≡ write_bytes 0 (decimal number) (take (44 - n) (drop n l))
+    → Put 44 l n (decimal number) (take n l ++ (w ++ drop (44 - n) (drop n l))) (n + a.value)
+number_put l w n number room a long fits ea =
+    let bytes = decimal number in
+    subst
+    (λ (m : ℕ). w ≡ write_bytes 0 bytes (take (m - n) (drop n l)) → Put 44 l n bytes (take n l ++ (w ++ drop (m - n) (drop n l))) (n + a.value))
+    long
+    (put_text l bytes w n room a long fits ea)
 
 -- the array with the two bytes that begin the line
 abbrev pub begun : List ℕ

@@ -1,7 +1,7 @@
 -- What the program keys writes for its input: the answers to its lines, joined. And what becomes of one room of bytes: the lines in it that are ended are
 -- answered, from the front, as long as a line of the longest kind fits in the room for the answers.
 -- Assumes nothing.
-use Rattle.std.specs.Prelude.{ℕ, ◌+◌, ◌-◌, cond, List, [], ◌∷◌, eqb, leb, length}
+use Rattle.std.specs.Prelude.{ℕ, ◌+◌, ◌-◌, Bool, cond, List, [], ◌∷◌, eqb, leb, length}
 use Rattle.answer.specs.Answer.{overwrite}
 use Rattle.fen_text.specs.Read.{read_fen}
 use Rattle.fen_text.specs.Lines.{lines, ended_lines, over_lines}
@@ -17,9 +17,9 @@ keys_text s = over_lines key_line (lines s)
 abbrev pub longest_line : ℕ
 longest_line = 86
 
--- 1 for a line that has a key, 0 for one that is refused
-abbrev pub is_key : List ℕ → ℕ
-is_key line = cond (eqb (read_fen line).number 0) 1 0
+-- a line has a key, or is refused
+abbrev pub is_key : List ℕ → Bool
+is_key line = eqb (read_fen line).number 0
 
 -- one line, put behind the first `at` bytes of a room
 abbrev pub lined_at : ℕ → List ℕ → Lined
@@ -37,7 +37,7 @@ bytes_of (l ∷ ls) = length l + 1 + bytes_of ls
 
 unfoldable pub keys_among : List (List ℕ) → ℕ
 keys_among [] = 0
-keys_among (l ∷ ls) = is_key l + keys_among ls
+keys_among (l ∷ ls) = cond (is_key l) 1 0 + keys_among ls
 
 -- the bytes taken from the front of the text, those put into the room, and how many of the lines were accepted and refused
 abbrev pub paged_of : List (List ℕ) → Paged

@@ -20,9 +20,8 @@ pub const LONGEST: usize = 86;
 const LONGEST_REFUSAL: usize = 44;
 
 // Puts a number behind the first `n` bytes.
-fn push_number(bytes: &mut [u8], n: usize, number: u64) -> usize
-    requires bytes_len { length bytes.old ≡ 44 }
-    requires n_bound { n ≤ 24 }
+fn push_number(bytes: &mut [u8; LONGEST_REFUSAL], n: usize, number: u64) -> usize
+    requires { n ≤ 24 }
     ensures { Put 44 bytes.old n (decimal number) bytes.new result }
 {
     let written = decimal::to_string(number, &mut bytes[n..]);
@@ -44,11 +43,11 @@ fn write_refusal(number: u64, offset: u64, out: &mut [u8]) -> Answer
     answer::write_text(&bytes[..b + 1], out)
 }
 
-// Where the answers end with one more line, and 1 if the line has a key.
+// Where the answers end with one more line, and whether the line has a key.
 #[derive(Clone, Copy)]
 pub struct Lined {
     pub ready: usize,
-    pub accepted: u64,
+    pub accepted: bool,
 }
 
 // Puts the line of a text behind the first `at` bytes of `out`, where there is room for the longest.
@@ -63,7 +62,7 @@ pub(crate) fn put_line(line: &[u8], out: &mut [u8], at: usize) -> Lined
         let refusal = write_refusal(fen.number, fen.offset, &mut out[at..]);
         return Lined {
             ready: at + refusal.value as usize,
-            accepted: 0,
+            accepted: false,
         };
     }
     let board = fen.board;
@@ -72,7 +71,7 @@ pub(crate) fn put_line(line: &[u8], out: &mut [u8], at: usize) -> Lined
     out[end] = b'\n';
     Lined {
         ready: end + 1,
-        accepted: 1,
+        accepted: true,
     }
 }
 

@@ -19,10 +19,11 @@ pub fn key_page(text: &[u8], out: &mut [u8]) -> Paged
     ensures bytes { out.new ≡ key_room text.now out.old }
     ensures within { (result.taken ≤ length text.now) × (result.ready ≤ length out.old) }
 {
-    let mut taken: usize = 0;
-    let mut ready: usize = 0;
-    let mut accepted: u64 = 0;
-    let mut refused: u64 = 0;
+    let mut taken = 0;
+    let mut ready = 0;
+    let mut accepted = 0;
+    let mut refused = 0;
+    // A line ends where it was found to, and what it puts out has a length of its own: two places that no `for` counts.
     while LONGEST <= out.len() - ready {
         let end = fen_reader::lines::line_end(text, taken);
         if text.len() <= end {
@@ -35,8 +36,8 @@ pub fn key_page(text: &[u8], out: &mut [u8]) -> Paged
         }
         let put = put_line(&text[taken..end], out, ready);
         ready = put.ready;
-        accepted += put.accepted;
-        refused += 1 - put.accepted;
+        accepted += u64::from(put.accepted);
+        refused += u64::from(!put.accepted);
         taken = end + 1;
     }
     Paged {

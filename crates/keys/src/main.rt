@@ -4,16 +4,13 @@
 
 mod help;
 mod input;
-mod line;
 mod options;
 mod output;
 mod tell;
 
-ghost use Rattle.std.specs.Prelude.{◌<◌, ◌≤◌, length};
-
-use input::put_input;
-use options::{Asked, LONGEST_WORD};
-use output::Run;
+use input::Pages;
+use options::{Asked, LONGEST_WORD, Words};
+use output::{Output, State};
 use std::process::ExitCode;
 use std::rt::{Env, Files};
 use std::{fs, io, str};
@@ -26,14 +23,6 @@ const NO_TEXT: i32 = 84;
 // The status of a program that ended since whoever reads its output has gone, as a shell gives it.
 const READER_GONE: u8 = 141;
 
-fn without_input(run: Run) -> Run
-    ensures { result.ready ≤ run.ready }
-{
-    let mut next = run;
-    next.input_failed = true;
-    next
-}
-
 // Opens a file for reading. The names that can be opened are text.
 fn open<R: Files>(rt: &R, path: &[u8]) -> io::Result<R::File> {
     match str::from_utf8(path) {
@@ -44,152 +33,76 @@ fn open<R: Files>(rt: &R, path: &[u8]) -> io::Result<R::File> {
 
 fn put_standard_input(
     rt: &(impl Input + Print),
-    err: &impl Print,
-    input: &mut [u8],
-    out: &mut [u8],
-    run: Run,
-) -> Run
-    requires input_nonzero { 0 < length input.old }
-    requires ready_in_bounds { run.ready ≤ length out.old }
-    ensures { result.ready ≤ length out.old }
-{
+    pages: &mut Pages,
+    out: &mut Output<impl Print, impl Print>,
+) {
     let mut source = rt.reader();
-    put_input(rt, err, &mut source, b"standard input", input, out, run)
+    pages.put_all(&mut source, b"standard input", out);
 }
 
 // The file that a word names. One that cannot be opened is named on standard error, and the run goes on.
 fn put_file(
     rt: &(impl Files + Input + Print),
-    err: &impl Print,
     path: &[u8],
-    input: &mut [u8],
-    out: &mut [u8],
-    run: Run,
-) -> Run
-    requires input_nonzero { 0 < length input.old }
-    requires ready_in_bounds { run.ready ≤ length out.old }
-    ensures { result.ready ≤ length out.old }
-{
+    pages: &mut Pages,
+    out: &mut Output<impl Print, impl Print>,
+) {
     if options::is_standard_input(path) {
-        return put_standard_input(rt, err, input, out, run);
+        return put_standard_input(rt, pages, out);
     }
     match open(rt, path) {
-        Ok(mut file) => put_input(rt, err, &mut file, path, input, out, run),
+        Ok(mut file) => pages.put_all(&mut file, path, out),
         Err(e) => {
-            tell::failed(err, path, e);
-            without_input(run)
+            tell::failed(out.err, path, e);
+            pages.fail();
         }
     }
 }
 
-// The file that argument `i` names; the one that ends the options names no file.
+// The file that argument `i` names.
 fn put_argument(
     rt: &(impl Env + Files + Input + Print),
-    err: &impl Print,
     i: usize,
-    end: usize,
-    input: &mut [u8],
-    out: &mut [u8],
-    run: Run,
-) -> Run
-    requires input_nonzero { 0 < length input.old }
-    requires ready_in_bounds { run.ready ≤ length out.old }
-    ensures { result.ready ≤ length out.old }
-{
-    if i == end {
-        return run;
-    }
+    pages: &mut Pages,
+    out: &mut Output<impl Print, impl Print>,
+) {
     let mut path = [0u8; LONGEST_WORD];
     match rt.arg(i, &mut path) {
-        Ok(n) => put_file(rt, err, &path[..n], input, out, run),
+        Ok(n) => put_file(rt, &path[..n], pages, out),
         Err(_) => {
-            tell::failed(err, b"argument", io::Error::from_raw_os_error(TOO_LONG));
-            without_input(run)
+            let error = io::Error::from_raw_os_error(TOO_LONG);
+            tell::failed(out.err, b"argument", error);
+            pages.fail();
         }
     }
 }
 
-fn put_files(
-    rt: &(impl Env + Files + Input + Print),
-    err: &impl Print,
-    count: usize,
-    end: usize,
-    input: &mut [u8],
-    out: &mut [u8],
-    run: Run,
-) -> Run
-    requires input_nonzero { 0 < length input.old }
-    requires ready_in_bounds { run.ready ≤ length out.old }
-    ensures { result.ready ≤ length out.old }
-{
-    let mut next = run;
-    let mut i: usize = 1;
-    while i < count {
-        if next.output_failed {
-            return next;
-        }
-        next = put_argument(rt, err, i, end, input, out, next);
-        i += 1;
-    }
-    next
-}
-
-// Whether no argument names a file.
-fn names_none(count: usize, end: usize) -> bool {
-    if end < count {
-        return count < 3;
-    }
-    count < 2
-}
-
-// The files that are named, or standard input if none is.
+// The files that are named, or standard input if none is; the word that ends the options names no file.
 fn put_all(
     rt: &(impl Env + Files + Input + Print),
-    err: &impl Print,
-    count: usize,
-    end: usize,
-    input: &mut [u8],
-    out: &mut [u8],
-    run: Run,
-) -> Run
-    requires input_nonzero { 0 < length input.old }
-    requires ready_in_bounds { run.ready ≤ length out.old }
-    ensures { result.ready ≤ length out.old }
-{
-    if names_none(count, end) {
-        return put_standard_input(rt, err, input, out, run);
+    words: Words,
+    pages: &mut Pages,
+    out: &mut Output<impl Print, impl Print>,
+) {
+    if words.names_none() {
+        return put_standard_input(rt, pages, out);
     }
-    put_files(rt, err, count, end, input, out, run)
+    for i in 1..words.count {
+        if out.is_open() && i != words.end {
+            put_argument(rt, i, pages, out);
+        }
+    }
 }
 
-fn put_keys(
-    rt: &(impl Env + Files + Input + Print),
-    err: &impl Print,
-    count: usize,
-    end: usize,
-) -> ExitCode {
-    let mut room = [0u8; 131_072];
-    let mut kept = [0u8; 65_536];
-    let input: &mut [u8] = &mut room;
-    let out: &mut [u8] = &mut kept;
-    let run = Run {
-        held: 0,
-        long: false,
-        ready: 0,
-        before: 0,
-        lines: 0,
-        accepted: 0,
-        refused: 0,
-        input_failed: false,
-        output_failed: false,
-        reader_gone: false,
-    };
-    let run = put_all(rt, err, count, end, input, out, run);
-    let run = output::flush(rt, err, out, run);
-    if run.reader_gone {
+fn put_keys(rt: &(impl Env + Files + Input + Print), err: &impl Print, words: Words) -> ExitCode {
+    let mut pages = Pages::new();
+    let mut out = Output::new(rt, err);
+    put_all(rt, words, &mut pages, &mut out);
+    out.flush();
+    if out.state() == State::ReaderGone {
         return ExitCode::from(READER_GONE);
     }
-    tell::end(err, run);
+    tell::end(err, out.counts(), pages.has_failed(), !out.is_open());
     ExitCode::SUCCESS
 }
 
@@ -201,13 +114,12 @@ fn refuse(rt: &impl Env, err: &impl Print, i: usize) {
 
 fn main(rt: HostRuntime) -> ExitCode {
     let err = rt.stderr();
-    let count = options::word_count(&rt);
-    let end = options::end_of_options(&rt, count);
-    match options::first_option(&rt, end) {
-        Asked::Keys => return put_keys(&rt, &err, count, end),
-        Asked::Help => help::tell(&rt),
-        Asked::Version => help::tell_version(&rt),
-        Asked::Unknown(i) => refuse(&rt, &err, i),
+    let words = Words::read(&rt);
+    match words.asked(&rt) {
+        None => return put_keys(&rt, &err, words),
+        Some(Asked::Help) => help::tell(&rt),
+        Some(Asked::Version) => help::tell_version(&rt),
+        Some(Asked::Unknown(i)) => refuse(&rt, &err, i),
     }
     ExitCode::SUCCESS
 }

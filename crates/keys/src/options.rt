@@ -1,7 +1,6 @@
 // What the arguments ask for: options stand before `--`, or anywhere if there is none; `-` is standard input.
 ghost use Rattle.std.specs.Prelude.{◌≤◌, length};
 
-use answer::same_bytes;
 use std::env::FillError;
 use std::rt::Env;
 
@@ -10,20 +9,43 @@ pub(crate) const LONGEST_WORD: usize = 4_096;
 
 #[derive(Clone, Copy)]
 pub(crate) enum Asked {
-    Keys,
     Help,
     Version,
     // the argument's index
     Unknown(usize),
 }
 
-// How many words the program was started with, its own name among them.
-pub(crate) fn word_count(rt: &impl Env) -> usize {
+// How many words the program was started with, its own name among them, and where `--` stands, or their number.
+#[derive(Clone, Copy)]
+pub(crate) struct Words {
+    pub(crate) count: usize,
+    pub(crate) end: usize,
+}
+
+impl Words {
+    pub(crate) fn read(rt: &impl Env) -> Words {
+        let count = word_count(rt);
+        let end = (1..count).find(|i| is_end(rt, *i)).unwrap_or(count);
+        Words { count, end }
+    }
+
+    // The first option decides.
+    pub(crate) fn asked(self, rt: &impl Env) -> Option<Asked> {
+        (1..self.end).find_map(|i| asked_at(rt, i))
+    }
+
+    // Whether no argument names a file: the program's name stands alone, or with the word that ends the options.
+    pub(crate) fn names_none(self) -> bool {
+        let others = if self.end < self.count { 2 } else { 1 };
+        self.count <= others
+    }
+}
+
+fn word_count(rt: &impl Env) -> usize {
     let mut word = [0u8; LONGEST_WORD];
     for i in 0..usize::MAX {
-        match rt.arg(i, &mut word) {
-            Err(FillError::NotPresent) => return i,
-            _ => {}
+        if let Err(FillError::NotPresent) = rt.arg(i, &mut word) {
+            return i;
         }
     }
     usize::MAX
@@ -36,71 +58,25 @@ pub(crate) fn read_word(rt: &impl Env, i: usize, word: &mut [u8]) -> usize
     rt.arg(i, word).unwrap_or(0)
 }
 
-// Where `--` stands, or the number of arguments.
-pub(crate) fn end_of_options(rt: &impl Env, count: usize) -> usize {
-    let mut i: usize = 1;
-    while i < count {
-        if is_end(rt, i) {
-            return i;
-        }
-        i += 1;
-    }
-    count
-}
-
 fn is_end(rt: &impl Env, i: usize) -> bool {
     let mut word = [0u8; LONGEST_WORD];
     let n = read_word(rt, i, &mut word);
-    same_bytes(&word[..n], b"--")
+    matches!(&word[..n], b"--")
 }
 
 pub(crate) fn is_standard_input(word: &[u8]) -> bool {
-    same_bytes(word, b"-")
+    matches!(word, b"-")
 }
 
-fn begins_with_dash(word: &[u8]) -> bool {
-    if 0 < word.len() {
-        return word[0] == b'-';
-    }
-    false
-}
-
-// What one argument before `--` asks for.
-fn asked_by(word: &[u8], i: usize) -> Asked {
-    if same_bytes(word, b"-h") {
-        return Asked::Help;
-    }
-    if same_bytes(word, b"--help") {
-        return Asked::Help;
-    }
-    if same_bytes(word, b"--version") {
-        return Asked::Version;
-    }
-    if is_standard_input(word) {
-        return Asked::Keys;
-    }
-    if begins_with_dash(word) {
-        return Asked::Unknown(i);
-    }
-    Asked::Keys
-}
-
-fn asked_at(rt: &impl Env, i: usize) -> Asked {
+// What argument `i`, before `--`, asks for, if it is an option.
+fn asked_at(rt: &impl Env, i: usize) -> Option<Asked> {
     let mut word = [0u8; LONGEST_WORD];
     let n = read_word(rt, i, &mut word);
-    asked_by(&word[..n], i)
-}
-
-// The first option decides.
-pub(crate) fn first_option(rt: &impl Env, end: usize) -> Asked {
-    let mut i: usize = 1;
-    while i < end {
-        let a = asked_at(rt, i);
-        match a {
-            Asked::Keys => {}
-            other => return other,
-        }
-        i += 1;
+    match &word[..n] {
+        b"-" => None,
+        b"-h" | b"--help" => Some(Asked::Help),
+        b"--version" => Some(Asked::Version),
+        [b'-', ..] => Some(Asked::Unknown(i)),
+        _ => None,
     }
-    Asked::Keys
 }

@@ -1,253 +1,239 @@
 // The lines that wait for standard output, and the counts of them.
-ghost use Rattle.std.specs.Prelude.{◌≡◌, ◌+◌, ◌≤◌, length};
+ghost use Rattle.std.specs.Prelude.{◌+◌, ◌≤◌, length};
 
-use crate::line::newline_at;
 use crate::tell;
 use key_line::LONGEST;
+use key_line::page::key_page;
 use std::io;
 use std::io::ErrorKind;
 
 // After how many lines their number is told on standard error.
 const TOLD: u64 = 1_000_000;
 
-// What is carried from page to page.
-#[derive(Clone, Copy)]
-pub(crate) struct Run {
-    // bytes of an unended line at the front of the input
-    pub(crate) held: usize,
-    // the line that continues did not fit the input's room
-    pub(crate) long: bool,
-    // bytes that wait in `out`, whole lines
-    pub(crate) ready: usize,
-    // `lines` when the input began
-    pub(crate) before: u64,
-    pub(crate) lines: u64,
+const ROOM: usize = 65_536;
+
+// How many texts became keys and how many were refused: a line for each.
+#[derive(Clone, Copy, Default)]
+pub(crate) struct Counts {
     pub(crate) accepted: u64,
     pub(crate) refused: u64,
-    // an input could not be opened or read to its end
-    pub(crate) input_failed: bool,
-    // `out` could not be written; nothing more is put or counted
-    pub(crate) output_failed: bool,
-    // .. since whoever reads standard output has gone: the run ends and says nothing
-    pub(crate) reader_gone: bool,
 }
 
-// How many bytes were taken, and why no more, if a write failed.
-#[derive(Clone, Copy)]
-struct Written {
-    done: usize,
-    failed: Option<io::Error>,
-}
-
-// Writes the first `ready` bytes: fewer are taken only if a write failed.
-fn write_ready(rt: &impl Print, out: &[u8], ready: usize) -> Written
-    requires { ready ≤ length out.now }
-    ensures { result.done ≤ ready }
-{
-    let mut done: usize = 0;
-    while done < ready {
-        match rt.write_some(&out[done..ready]) {
-            Ok(0) => {
-                return Written {
-                    done,
-                    failed: Some(io::Error::from(ErrorKind::WriteZero)),
-                };
-            }
-            Ok(put) => done += put,
-            Err(e) => {
-                return Written {
-                    done,
-                    failed: Some(e),
-                };
-            }
-        }
+impl Counts {
+    pub(crate) fn lines(self) -> u64 {
+        self.accepted.wrapping_add(self.refused)
     }
-    Written {
-        done: ready,
-        failed: None,
+
+    // The largest multiple of a million that is not over the number of lines.
+    fn told(self) -> u64 {
+        let lines = self.lines();
+        lines - lines % TOLD
+    }
+
+    fn add(&mut self, more: Counts) {
+        self.accepted = self.accepted.wrapping_add(more.accepted);
+        self.refused = self.refused.wrapping_add(more.refused);
+    }
+
+    fn take_back(&mut self, less: Counts) {
+        self.accepted = self.accepted.wrapping_sub(less.accepted);
+        self.refused = self.refused.wrapping_sub(less.refused);
     }
 }
 
-// The run without a line that was counted, unless the line was written whole.
-fn kept(run: Run, is_whole: bool, is_key: bool) -> Run {
-    if is_whole {
-        return run;
-    }
-    let mut next = run;
-    next.lines = std::num::wrapping_sub_u64(run.lines, 1);
-    if is_key {
-        next.accepted = std::num::wrapping_sub_u64(run.accepted, 1);
-    } else {
-        next.refused = std::num::wrapping_sub_u64(run.refused, 1);
-    }
-    next
+// A refusal begins with `!`.
+fn count_of_line(line: &[u8]) -> Counts {
+    if line.starts_with(b"!") { REFUSAL } else { KEY }
 }
 
-// The run without those lines of `out` whose newline is not among the `done` bytes that were taken.
-fn without_cut(out: &[u8], done: usize, ready: usize, run: Run) -> Run
-    requires { ready ≤ length out.now }
-{
-    let mut next = run;
-    let mut at: usize = 0;
-    while at < ready {
-        let stop = newline_at(out, at, ready);
-        if stop == ready {
-            return next;
-        }
-        next = kept(next, stop < done, is_key(out, at));
-        at = stop + 1;
-    }
-    next
-}
+const KEY: Counts = Counts {
+    accepted: 1,
+    refused: 0,
+};
 
-// Writes what waits in `out`.
-pub(crate) fn flush(rt: &impl Print, err: &impl Print, out: &[u8], run: Run) -> Run
-    requires { run.ready ≤ length out.now }
-    ensures ready { result.ready ≤ 0 }
-    ensures held { result.held ≡ run.held }
-{
-    let ready = run.ready;
-    let mut next = run;
-    next.ready = 0;
-    if run.output_failed {
-        return next;
-    }
-    let written = write_ready(rt, out, ready);
-    let Some(error) = written.failed else {
-        return next;
+const REFUSAL: Counts = Counts {
+    accepted: 0,
+    refused: 1,
+};
+
+// The lines whose newline is not among the first `done` bytes.
+fn not_whole(lines: &[u8], done: usize) -> Counts {
+    let whole = answer::front(lines, done).iter().rposition(|b| *b == b'\n');
+    let from = match whole {
+        Some(last) => last + 1,
+        None => 0,
     };
-    next.output_failed = true;
-    if error.kind() == ErrorKind::BrokenPipe {
-        next.reader_gone = true;
-        return next;
+    let mut counts = Counts::default();
+    for line in answer::rest(lines, from).split_inclusive(|b| *b == b'\n') {
+        counts.add(count_of_line(line));
     }
-    tell::failed(err, b"standard output", error);
-    let left = without_cut(out, written.done, ready, run);
-    next.lines = left.lines;
-    next.accepted = left.accepted;
-    next.refused = left.refused;
-    next
+    counts
 }
 
-// What waits goes out when a read brought less than its room: whoever feeds a slow pipe gets each answer at once.
-pub(crate) fn flush_if(
-    rt: &impl Print,
-    err: &impl Print,
-    is_short: bool,
-    out: &[u8],
-    run: Run,
-) -> Run
-    requires { run.ready ≤ length out.now }
-    ensures ready { result.ready ≤ length out.now }
-    ensures held { result.held ≡ run.held }
-{
-    if is_short {
-        return flush(rt, err, out, run);
-    }
-    run
+#[derive(Clone, Copy, PartialEq)]
+pub(crate) enum State {
+    Open,
+    // it could not be written; nothing more is put or counted
+    Failed,
+    // .. since whoever reads standard output has gone: the run ends and says nothing
+    ReaderGone,
 }
 
-// Makes room for one more line in `out`.
-pub(crate) fn with_room(rt: &impl Print, err: &impl Print, out: &[u8], run: Run) -> Run
-    requires { run.ready ≤ length out.now }
-    ensures { result.ready ≤ length out.now }
-{
-    if out.len() - run.ready < LONGEST {
-        return flush(rt, err, out, run);
+// A write that failed, and how many bytes were taken before.
+#[derive(Drop)]
+struct Cut {
+    done: usize,
+    error: io::Error,
+}
+
+#[derive(Drop)]
+pub(crate) struct Output<'a, R, E> {
+    rt: &'a R,
+    pub(crate) err: &'a E,
+    room: [u8; ROOM],
+    // bytes that wait at the front of the room, whole lines: fixed memory, where std's BufWriter would be on a heap
+    ready: usize,
+    counts: Counts,
+    state: State,
+    ghost fits: { ready ≤ 65536 },
+}
+
+impl<'a, R: Print, E: Print> Output<'a, R, E> {
+    pub(crate) fn new(rt: &'a R, err: &'a E) -> Output<'a, R, E> {
+        Output {
+            rt,
+            err,
+            room: [0; ROOM],
+            ready: 0,
+            counts: Counts::default(),
+            state: State::Open,
+        }
     }
-    run
+
+    pub(crate) fn counts(&self) -> Counts {
+        self.counts
+    }
+
+    pub(crate) fn state(&self) -> State {
+        self.state
+    }
+
+    pub(crate) fn is_open(&self) -> bool {
+        self.state == State::Open
+    }
+
+    // Writes what waits: not all of it is taken only if a write failed.
+    fn write_ready(&self) -> Result<(), Cut> {
+        let mut done: usize = 0;
+        // a cursor: each write takes as many bytes as it likes
+        while done < self.ready {
+            match self.rt.write_some(&self.room[done..self.ready]) {
+                Ok(0) => {
+                    let error = io::Error::from(ErrorKind::WriteZero);
+                    return Err(Cut { done, error });
+                }
+                Ok(n) => done += n,
+                Err(error) => return Err(Cut { done, error }),
+            }
+        }
+        Ok(())
+    }
+
+    // Writes what waits, and forgets it.
+    pub(crate) fn flush(&mut self) {
+        if self.is_open() {
+            if let Err(cut) = self.write_ready() {
+                self.fail(cut);
+            }
+        }
+        self.ready = 0;
+    }
+
+    fn fail(&mut self, cut: Cut) {
+        if cut.error.kind() == ErrorKind::BrokenPipe {
+            self.state = State::ReaderGone;
+            return;
+        }
+        self.state = State::Failed;
+        tell::failed(self.err, b"standard output", cut.error);
+        let left = not_whole(&self.room[..self.ready], cut.done);
+        self.counts.take_back(left);
+    }
+
+    // Makes room for one more line. False: the output cannot be written.
+    fn make_room(&mut self) -> bool {
+        if ROOM - self.ready < LONGEST {
+            self.flush();
+        }
+        self.is_open()
+    }
+
+    // `n` more bytes wait, the lines of that many texts accepted and refused.
+    fn count(&mut self, n: usize, more: Counts)
+        requires { self.old.ready + n ≤ 65536 }
+    {
+        let told = self.counts.told();
+        self.ready += n;
+        self.counts.add(more);
+        let reached = self.counts.told();
+        if reached != told {
+            tell::progress(self.err, reached);
+        }
+    }
+
+    // Puts every ended line of a text, and answers how many bytes they are.
+    pub(crate) fn put_lines(&mut self, text: &[u8]) -> usize
+        ensures { result ≤ length text.now }
+    {
+        let mut at: usize = 0;
+        // a cursor: each page takes as many bytes as it has lines for
+        while at < text.len() {
+            if !self.make_room() {
+                return at;
+            }
+            let page = key_page(&text[at..], &mut self.room[self.ready..]);
+            if page.taken == 0 {
+                return at;
+            }
+            let more = Counts {
+                accepted: page.accepted,
+                refused: page.refused,
+            };
+            self.count(page.ready, more);
+            at += page.taken;
+        }
+        at
+    }
+
+    // A last line that no newline ends.
+    pub(crate) fn put_line(&mut self, text: &[u8]) {
+        if !self.make_room() {
+            return;
+        }
+        let room = &mut self.room[self.ready..];
+        let n = taken(key_line::key_line(text, room), room.len());
+        let more = count_of_line(room);
+        self.count(n, more);
+    }
+
+    // A line that did not fit the input's room.
+    pub(crate) fn put_long(&mut self) {
+        if !self.make_room() {
+            return;
+        }
+        let room = &mut self.room[self.ready..];
+        let n = taken(answer::write_text(b"! long\n", room), room.len());
+        self.count(n, REFUSAL);
+    }
 }
 
 // How many bytes a line took: a writer answers no more than the room, or 7.
 fn taken(answer: answer::Answer, room: usize) -> usize
     ensures { result ≤ room }
 {
-    let value = answer.value;
-    if value <= room as u64 {
-        value as usize
+    if answer.value <= room as u64 {
+        answer.value as usize
     } else {
         0
     }
-}
-
-// The largest multiple of a million that is not over a number of lines.
-fn told(lines: u64) -> u64 {
-    lines - lines % TOLD
-}
-
-// The run with `n` more bytes in `out`, the lines of that many texts accepted and refused.
-pub(crate) fn counted(
-    err: &impl Print,
-    run: Run,
-    n: usize,
-    accepted: u64,
-    refused: u64,
-    out: &[u8],
-) -> Run
-    requires { run.ready + n ≤ length out.now }
-    ensures { result.ready ≤ length out.now }
-{
-    let mut next = run;
-    next.ready = run.ready + n;
-    next.accepted = std::num::wrapping_add_u64(run.accepted, accepted);
-    next.refused = std::num::wrapping_add_u64(run.refused, refused);
-    next.lines = std::num::wrapping_add_u64(
-        run.lines,
-        std::num::wrapping_add_u64(accepted, refused),
-    );
-    let reached = told(next.lines);
-    if reached != told(run.lines) {
-        tell::progress(err, reached);
-    }
-    next
-}
-
-// Whether what stands at `at` is a key: a refusal begins with `!`.
-fn is_key(out: &[u8], at: usize) -> bool {
-    if at < out.len() {
-        return out[at] != b'!';
-    }
-    false
-}
-
-// A last line that no newline ends.
-pub(crate) fn put_line(
-    rt: &impl Print,
-    err: &impl Print,
-    line: &[u8],
-    out: &mut [u8],
-    run: Run,
-) -> Run
-    requires { run.ready ≤ length out.old }
-    ensures { result.ready ≤ length out.old }
-{
-    let run = with_room(rt, err, out, run);
-    if run.output_failed {
-        return run;
-    }
-    let ready = run.ready;
-    let room = out.len() - ready;
-    let answer = key_line::key_line(line, &mut out[ready..]);
-    let n = taken(answer, room);
-    if is_key(out, ready) {
-        return counted(err, run, n, 1, 0, out);
-    }
-    counted(err, run, n, 0, 1, out)
-}
-
-// A line that did not fit the input's room.
-pub(crate) fn put_long(rt: &impl Print, err: &impl Print, out: &mut [u8], run: Run) -> Run
-    requires { run.ready ≤ length out.old }
-    ensures { result.ready ≤ length out.old }
-{
-    let run = with_room(rt, err, out, run);
-    if run.output_failed {
-        return run;
-    }
-    let ready = run.ready;
-    let room = out.len() - ready;
-    let answer = answer::write_text(b"! long\n", &mut out[ready..]);
-    let mut next = counted(err, run, taken(answer, room), 0, 1, out);
-    next.long = false;
-    next
 }

@@ -1,24 +1,17 @@
 // What is said on standard error, `err`. Every message begins with `keys: `, and the form of the last one is fixed: scripts read it.
-use crate::output::Run;
-use std::io::Write;
-use std::{io, str};
-
 // What cannot be written is passed over.
-fn say(err: &impl Print, text: &[u8]) {
-    let _ = err.write_all(text);
-}
-
-fn say_number(err: &impl Print, n: u64) {
-    let _ = err.print(n);
-}
+use crate::output::Counts;
+use std::io::Write;
+use std::{fmt, io, str};
 
 // "1 line", "2 lines"
-fn say_lines(err: &impl Print, lines: u64) {
-    say_number(err, lines);
-    if lines == 1 {
-        say(err, b" line");
-    } else {
-        say(err, b" lines");
+#[derive(Drop)]
+struct Lines(u64);
+
+impl fmt::Display for Lines {
+    fn fmt<W: fmt::Write>(&self, f: &mut fmt::Formatter<W>) -> fmt::Result {
+        let s = if self.0 == 1 { "" } else { "s" };
+        write!(f, "{} line{s}", self.0)
     }
 }
 
@@ -36,62 +29,60 @@ fn say_error(err: &impl Print, error: io::Error) {
     let mut left: &mut [u8] = &mut room;
     let _ = write!(left, "{error}");
     let n = all.saturating_sub(left.len());
-    match str::from_utf8(&room[..n]) {
-        Ok(text) => say(err, words(text).as_bytes()),
-        Err(_) => {}
+    if let Ok(text) = str::from_utf8(&room[..n]) {
+        let _ = err.print(words(text));
     }
+}
+
+// A file's name need not be text, and goes out as it is.
+fn say_name(err: &impl Print, name: &[u8]) {
+    let _ = err.print("keys: ");
+    let _ = err.write_all(name);
+    let _ = err.print(": ");
 }
 
 // What the system says about a call that has failed.
 pub(crate) fn failed(err: &impl Print, what: &[u8], error: io::Error) {
-    say(err, b"keys: ");
-    say(err, what);
-    say(err, b": ");
+    say_name(err, what);
     say_error(err, error);
-    say(err, b"\n");
+    let _ = err.print("\n");
 }
 
 pub(crate) fn progress(err: &impl Print, lines: u64) {
-    say(err, b"keys: ");
-    say_lines(err, lines);
-    say(err, b" so far\n");
+    let _ = print!(err; "keys: {} so far\n", Lines(lines));
 }
 
 pub(crate) fn unknown(err: &impl Print, option: &[u8]) {
-    say(err, b"keys: unknown option ");
-    say(err, option);
-    say(err, b"; see keys --help\n");
+    let _ = err.print("keys: unknown option ");
+    let _ = err.write_all(option);
+    let _ = err.print("; see keys --help\n");
 }
 
 // An input that could not be read to its end.
 pub(crate) fn stopped(err: &impl Print, name: &[u8], lines: u64, is_cut: bool) {
-    say(err, b"keys: ");
-    say(err, name);
-    say(err, b": stopped after ");
-    say_lines(err, lines);
-    if is_cut {
-        say(err, b"; a line was cut and is dropped");
-    }
-    say(err, b"\n");
+    let cut = if is_cut {
+        "; a line was cut and is dropped"
+    } else {
+        ""
+    };
+    say_name(err, name);
+    let _ = print!(err; "stopped after {}{cut}\n", Lines(lines));
 }
 
-fn say_incomplete(err: &impl Print, run: Run) {
-    if run.input_failed {
-        say(err, b"; input incomplete");
-    }
-    if run.output_failed {
-        say(err, b"; output incomplete: these lines were written whole");
-    }
-}
-
-pub(crate) fn end(err: &impl Print, run: Run) {
-    say(err, b"keys: ");
-    say_lines(err, run.lines);
-    say(err, b", ");
-    say_number(err, run.accepted);
-    say(err, b" accepted, ");
-    say_number(err, run.refused);
-    say(err, b" refused");
-    say_incomplete(err, run);
-    say(err, b"\n");
+pub(crate) fn end(err: &impl Print, counts: Counts, input_failed: bool, output_failed: bool) {
+    let input = if input_failed {
+        "; input incomplete"
+    } else {
+        ""
+    };
+    let output = if output_failed {
+        "; output incomplete: these lines were written whole"
+    } else {
+        ""
+    };
+    let lines = Lines(counts.lines());
+    let _ = print!(err;
+        "keys: {lines}, {} accepted, {} refused{input}{output}\n",
+        counts.accepted, counts.refused
+    );
 }

@@ -1,5 +1,6 @@
 -- The Laws' count of the history that a log's bytes are read as: of the moves since the position that the bytes tell. For any bytes.
 -- Assumes nothing.
+use Rattle.std.specs.Prelude.{Option, Some, None}
 use mathlib.Core.Path.{◌≡◌, refl}
 use mathlib.Core.Bool.{Bool, true, false, cond}
 use mathlib.Core.List.{List, ◌∷◌}
@@ -7,9 +8,8 @@ use Prim.Native.Nat.{ℕ, zero, suc, ◌-◌, ◌≤◌}
 use native.Mathlib.Omega.{arith}
 use lib.Dec.{leb}
 use Rattle.chess_move.specs.Number.{last_move, number_answer}
+use Rattle.action.specs.declared.Action.{Action}
 use Rattle.action.specs.declared.Action.TheVariants.{MakeMove, OfferDraw, AcceptDraw, DeclareDraw, Resign}
-use Rattle.action.specs.declared.Stored.{Stored}
-use Rattle.action.specs.declared.Stored.TheVariants.{Holds, Nothing}
 use Rattle.actions.specs.Part.{action_at, move_held, moves_in}
 use Rattle.actions.proofs.Counting.{value_most}
 use Rattle.position.specs.Layout.{Position, position_at}
@@ -39,15 +39,15 @@ since_moves p q m made s k was = record { counted = counted_by (irreversible p k
     most_by false = omega (arith, was.most)
 
 -- any action
-since_steps : (p q : Position) (m : ℕ) (made : List Made) (s : ℕ) (a : Stored) → SinceIs m made s
+since_steps : (p q : Position) (m : ℕ) (made : List Made) (s : ℕ) (a : Option Action) → SinceIs m made s
     → SinceIs (cond (leb (move_held a) last_move) (suc m) m) (made_by p (call_of a q) made)
     (cond (leb (move_held a) last_move) (cond (irreversible p (move_held a)) (suc m) s) s)
-since_steps p q m made s (Holds (MakeMove x)) was = rw (value_most x) (since_moves p q m made s (number_answer x).value was)
-since_steps p q m made s (Holds (OfferDraw c)) was = was
-since_steps p q m made s (Holds AcceptDraw) was = was
-since_steps p q m made s (Holds DeclareDraw) was = was
-since_steps p q m made s (Holds (Resign c)) was = was
-since_steps p q m made s Nothing was = was
+since_steps p q m made s (Some (MakeMove x)) was = rw (value_most x) (since_moves p q m made s (number_answer x).value was)
+since_steps p q m made s (Some (OfferDraw c)) was = was
+since_steps p q m made s (Some AcceptDraw) was = was
+since_steps p q m made s (Some DeclareDraw) was = was
+since_steps p q m made s (Some (Resign c)) was = was
+since_steps p q m made s None was = was
 
 since_is : (acts ps : List ℕ) (n : ℕ) → SinceIs (moves_in acts n) (moves_made (history_of acts ps n)) (laws_since acts ps n)
 unfolding moves_made history_of moves_in laws_since call_at since_last

@@ -22,7 +22,7 @@ use Rattle.game_rules.specs.Good.{history_of}
 use Rattle.game_rules.specs.Calls.{log_check}
 use Rattle.game_rules.proofs.Log.{moves_at_lem, current_is, result_is}
 use Rattle.game_rules.proofs.Rulings.{run_is}
-use Rattle.game.proofs.Answers.{Ready, log-ready}
+use Rattle.game.proofs.Answers.{Ready, log_ready}
 use Rattle.laws.specs.declared.Ruled.{Ruled}
 use Rattle.laws.specs.CodeSince.{laws_since}
 use Rattle.laws.specs.Laws.{laws_count, laws_claim_stands}
@@ -45,7 +45,7 @@ shown count laws places claim laws_claim = record {
 
 module _ (acts ps : List ℕ) (n m : ℕ) (passed : log_check limits acts ps n m ≡ 0) where
   ready : Ready acts ps n m
-  ready = log-ready acts ps n m passed
+  ready = log_ready acts ps n m passed
 
   count_is : m - (run_at acts ps n).since ≡ (ruling (history_of acts ps n)).count
   count_is = ap (λ (k : ℕ). k - (run_at acts ps n).since) ready.counted ∙ sym (run_is acts ps n).counted
@@ -144,7 +144,7 @@ module _ (acts ps : List ℕ) (n m : ℕ) (passed : log_check limits acts ps n m
   pub stands_by_run : count < claim_count → (r : Run) → r ≡ run_at acts ps n → equals_two_earlier ps r.first m ≡ laws_claim_stands (history_of acts ps n)
   unfolding laws_claim_stands equals_two_earlier
   stands_by_run h r e =
-      let ready = log-ready acts ps n m passed in
+      let ready = log_ready acts ps n m passed in
       let inside : position_size * m + position_size ≤ length ps = omega (arith, ready.some, ready.place) in
       rw (← counted, lt-leb _ _ h, le-leb _ _ inside, run_here acts ps n m passed, e)
 
@@ -157,7 +157,7 @@ module _ (acts ps : List ℕ) (n m x : ℕ) (e : x ≡ log_check limits acts ps 
   module _ (z : x ≡ 0) (v : ℕ) (f : v ≡ result_at acts ps n m) where
     result_here : v ≡ result (history_of acts ps n)
     result_here =
-        let r = log-ready acts ps n m (sym e ∙ z) in
+        let r = log_ready acts ps n m (sym e ∙ z) in
         f ∙ result_is limits acts ps n m r.counted r.ok
 
     pub laws_over : (v ≡ 0 → ⊥) → accepted 0 ≡ laws_answer limits acts ps n m

@@ -4,9 +4,8 @@ use Rattle.std.specs.Prelude.{◌≡◌, true, false, [], ◌∷◌, ◌++◌, �
 use Rattle.square.specs.Piece.{king}
 use Rattle.position.specs.Layout.{Position}
 use Rattle.game_rules.specs.Rules.{make_move, resign, History, begun, after, claim_stands}
-use Rattle.laws.specs.declared.Ruled.{Ruled}
 use Rattle.laws.specs.Laws.{laws_claim_stands}
-use Rattle.laws.specs.Ruling.{ruled_on, not_ruled, reason}
+use Rattle.laws.specs.Ruling.{ruled_on, not_ruled}
 
 -- a king on a1, white's rights, and a list of one move
 abbrev pub king_alone : ℕ → ℕ → Position

@@ -30,14 +30,13 @@ pub struct Ruled {
     pub laws_claim: u64,
 }
 
-// The position from which the Laws' count runs: back from the last action to one that moved a pawn or captured.
+// The position from which the Laws' count runs: back from the last action to one that moved a pawn or captured. `claim::begun_by` walks back so too; one
+// function for both would take the test as a closure and hand out an action and a position, of which each wants one, and is no plainer.
 fn since(acts: &[u8], ps: &[u8], n: usize) -> usize
     ensures { result ≡ laws_since acts.now ps.now n }
 {
     let mut k = actions::moves_in(acts, n);
-    let mut i = n;
-    while 0 < i {
-        i -= 1;
+    for i in (0..n).rev() {
         let m = actions::move_at(acts, i);
         if m <= LAST_MOVE {
             if claim::is_irreversible(position::at(ps, k - 1), m) {
@@ -64,12 +63,6 @@ fn not_ruled(number: u64) -> Ruled
     }
 }
 
-fn number_if(test: bool, number: u64) -> u64
-    ensures { result ≡ cond test number 0 }
-{
-    if test { number } else { 0 }
-}
-
 // 1 by a count, 2 by equal positions, 3 by both; 0 if the game has ended.
 fn reason(going: bool, count: usize, equals: u64) -> u64
     ensures { result ≡ cond going (cond (leb claim_count count) 1 0 + cond (leb 2 equals) 2 0) 0 }
@@ -77,7 +70,7 @@ fn reason(going: bool, count: usize, equals: u64) -> u64
     if !going {
         return 0;
     }
-    number_if(CLAIM_COUNT <= count, 1) + number_if(2 <= equals, 2)
+    u64::from(CLAIM_COUNT <= count) + 2 * u64::from(2 <= equals)
 }
 
 // For a log that passed its checks. No move of the run moved a pawn or captured, so that the Laws' count is looked for before it.

@@ -21,14 +21,14 @@ fn ask(rt: &impl Print, n: u8) {
         rights::ask(rt, n);
     }
     if n < 2 {
-        put::line(rt, b"square::to_my_backrank", n, square::to_my_backrank(n));
+        put::line(rt, "square::to_my_backrank", n, square::to_my_backrank(n));
     }
 }
 
 fn main(rt: HostRuntime) {
-    put::text(&rt, b"new");
+    put::text(&rt, "new");
     boards::tell(&rt, BoardBuilder::new());
-    put::text(&rt, b"default");
+    put::text(&rt, "default");
     boards::tell(&rt, BoardBuilder::default());
     for n in 0u8..128 {
         ask(&rt, n);

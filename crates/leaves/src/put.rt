@@ -1,50 +1,26 @@
-// What is printed.
-ghost use Rattle.std.specs.Prelude.{◌≤◌};
-
+// What is printed. What cannot be written is passed over.
 use answer::Answer;
 
-// What cannot be written is passed over.
-pub(crate) fn text(rt: &impl Print, t: &[u8]) {
-    let _ = rt.write_all(t);
-}
-
-fn number(rt: &impl Print, n: u64) {
-    let _ = rt.print(n);
+pub(crate) fn text(rt: &impl Print, t: &str) {
+    let _ = rt.print(t);
 }
 
 pub(crate) fn argument(rt: &impl Print, n: u8) {
-    text(rt, b" ");
-    number(rt, n as u64);
+    let _ = print!(rt; " {n}");
 }
 
 pub(crate) fn answer(rt: &impl Print, a: Answer) {
-    text(rt, b" ");
-    number(rt, a.number);
-    text(rt, b" ");
-    number(rt, a.value);
+    let _ = print!(rt; " {} {}", a.number, a.value);
 }
 
 // The line of a call with one argument.
-pub(crate) fn line(rt: &impl Print, name: &[u8], n: u8, a: Answer) {
-    text(rt, name);
-    argument(rt, n);
-    text(rt, b" =");
-    answer(rt, a);
-    text(rt, b"\n");
-}
-
-fn at_most(n: u64, most: usize) -> usize
-    ensures { result ≤ most }
-{
-    if n <= most as u64 { n as usize } else { most }
+pub(crate) fn line(rt: &impl Print, name: &str, n: u8, a: Answer) {
+    let _ = print!(rt; "{name} {n} = {} {}\n", a.number, a.value);
 }
 
 // A writer's answer, what stands at the front of its room, and the line's end.
 pub(crate) fn written(rt: &impl Print, a: Answer, out: &[u8]) {
-    let n = at_most(a.value, out.len());
-    text(rt, b" =");
-    answer(rt, a);
-    text(rt, b" [");
-    text(rt, &out[..n]);
-    text(rt, b"]\n");
+    let _ = print!(rt; " = {} {} [", a.number, a.value);
+    let _ = rt.write_all(answer::front(out, a.value as usize));
+    let _ = rt.print("]\n");
 }

@@ -4,7 +4,7 @@ use crate::put;
 fn ask_letters(rt: &impl Print, rights: u8, color: u8) {
     let mut out = [0u8; 2];
     let a = castle_rights::to_string(rights, color, &mut out);
-    put::text(rt, b"castle_rights::to_string");
+    put::text(rt, "castle_rights::to_string");
     put::argument(rt, rights);
     put::argument(rt, color);
     put::written(rt, a, &out);
@@ -13,19 +13,19 @@ fn ask_letters(rt: &impl Print, rights: u8, color: u8) {
 pub(crate) fn ask(rt: &impl Print, rights: u8) {
     put::line(
         rt,
-        b"castle_rights::has_kingside",
+        "castle_rights::has_kingside",
         rights,
         castle_rights::has_kingside(rights),
     );
     put::line(
         rt,
-        b"castle_rights::has_queenside",
+        "castle_rights::has_queenside",
         rights,
         castle_rights::has_queenside(rights),
     );
     put::line(
         rt,
-        b"castle_rights::from_index",
+        "castle_rights::from_index",
         rights,
         castle_rights::from_index(rights),
     );

@@ -9,6 +9,7 @@ use native.Mathlib.Omega.{arith}
 use lib.Dec.{eqb, leb, ltb}
 use lib.ListN.{length, set, length-set}
 use lib.Seq.{get_or-set_same, get_or-set_other}
+use Rattle.std.specs.Prelude.{Option, Some, None, IfSome, is_some, unwrap_or}
 use borrow.Author.Tests.{eq-eqb, ne_eqb, eqb-true, eqb-false, leb-true, leb-false, ltb-true, ltb-false}
 use Rattle.answer.proofs.Below.{holds, belows}
 use Rattle.answer.proofs.Numbers.{both_left, both_right}
@@ -386,6 +387,15 @@ calm l side k r e p q h i = record { unchecked = e; only = only }
 not_so : (a : Bool) → not a ≡ true → a ≡ false
 not_so true e = absurd (false≢true e)
 not_so false e = refl
+
+-- a king's square, or none, as a number
+pub none_past : (o : Option ℕ) → is_some o ≡ false → 64 ≤ unwrap_or o 64
+none_past None e = omega arith
+none_past (Some k) e = absurd (false≢true (sym e))
+
+pub calm_by : (l : List ℕ) (side : ℕ) (o : Option ℕ) → IfSome o (λ k. (k < 64) × Calm l side k) → unwrap_or o 64 < 64 → Calm l side (unwrap_or o 64)
+calm_by l side None h lt = absurd (omega (arith, lt))
+calm_by l side (Some k) h lt = h.1
 
 pub safe_untried : (b : BoardBuilder) (m k : ℕ) (squares : List ℕ) (rights : ℕ) → in_range b ≡ true → squares ≡ b.pieces → rights ≡ own_rights b
     → (k < 64 → Calm b.pieces b.side_to_move k)

@@ -1,12 +1,18 @@
 -- Where no pawn stands on the seventh rank of its side, no number with a promotion is legal, and the numbers without one are all that need be asked.
 -- Assumes nothing.
-use mathlib.Core.Path.{◌≡◌, refl, ap, sym, ◌∙◌}
-use mathlib.Core.Bool.{Bool, true, false, cond, not, ◌&&◌, ◌||◌, false≢true}
-use mathlib.Core.List.{List, []}
+use mathlib.Core.Path.{◌≡◌, refl, ap, ap₂, sym, ◌∙◌}
+use mathlib.Core.Bool.{Bool, true, false, cond, not, ◌&&◌, ◌||◌, false≢true, or-false}
+use mathlib.Core.List.{List, [], ◌∷◌}
 use Prim.Native.Nat.{ℕ, zero, suc, ◌+◌, ◌*◌, ◌-◌, ◌/◌, ◌%◌, ◌≤◌, ◌<◌}
 use native.Mathlib.Omega.{arith}
 use lib.Dec.{eqb, leb}
-use borrow.Author.Tests.{eq-eqb, ne_eqb, eqb-true, eqb-false, leb-true, leb-false}
+use lib.ListN.{length, get_or, take, drop, length-drop}
+use lib.Seq.{take-suc}
+use Rattle.std.specs.List.{list_any}
+use Rattle.std.proofs.Math.Bool.{or_comm}
+use Rattle.std.proofs.lemmas.List.{get_or-drop}
+use Rattle.std.proofs.lemmas.List.Folds.{list_any-append}
+use borrow.Author.Tests.{eq-eqb, eqb-true, eqb-false, leb-true, leb-false}
 use Rattle.answer.proofs.Numbers.{both_left, both_right}
 use Rattle.square.specs.Piece.{kind_of, man_on}
 use Rattle.board_builder.specs.declared.BoardBuilder.{BoardBuilder}
@@ -18,27 +24,19 @@ use Rattle.move_laws.specs.Legal.{own_rights, goes, legal_parts, is_legal, kept_
 use Rattle.legal.specs.CodeList.{seventh_rank, pawn_from, may_promote}
 use Rattle.legal.proofs.Safety.{side_under}
 
--- ---- one square after the other
+-- ---- a pawn on a rank
 
-pub pawn_turn : (l : List ℕ) (man first n : ℕ) → 0 < n → (man_on l (first + (n - 1)) ≡ man → ⊥) → pawn_from l man first n ≡ pawn_from l man first (n - 1)
+pub pawns_any : (l : List ℕ) (man first n : ℕ) → first + n ≤ length l
+    → list_any (λ (y : ℕ). eqb y man) (take n (drop first l)) ≡ pawn_from l man first n
 unfolding pawn_from
-pawn_turn l man first zero h e = absurd (omega (arith, h))
-pawn_turn l man first (suc n) h e =
-    let z : suc n - 1 ≡ n = omega arith in
-    ap (λ (t : Bool). t || pawn_from l man first n) (ne_eqb (man_on l (first + n)) man (λ q. e (ap (λ (x : ℕ). man_on l (first + x)) z ∙ q)))
-    ∙ ap (λ (x : ℕ). pawn_from l man first x) (sym z)
-
-pub pawn_stop : (l : List ℕ) (man first n : ℕ) → 0 < n → man_on l (first + (n - 1)) ≡ man → pawn_from l man first n ≡ true
-unfolding pawn_from
-pawn_stop l man first zero h e = absurd (omega (arith, h))
-pawn_stop l man first (suc n) h e =
-    let z : suc n - 1 ≡ n = omega arith in
-    ap (λ (t : Bool). t || pawn_from l man first n) (eq-eqb (man_on l (first + n)) man (sym (ap (λ (x : ℕ). man_on l (first + x)) z) ∙ e))
-
-pub pawn_end : (l : List ℕ) (man first n : ℕ) → n ≤ 0 → pawn_from l man first n ≡ false
-unfolding pawn_from
-pawn_end l man first zero h = refl
-pawn_end l man first (suc n) h = absurd (omega (arith, h))
+pawns_any l man first zero h = refl
+pawns_any l man first (suc n) h =
+    let test : ℕ → Bool = λ (y : ℕ). eqb y man in
+    let k : n < length (drop first l) = simp length-drop (omega (arith, h)) in
+    ap (list_any test) (take-suc (drop first l) n 0 k)
+    ∙ list_any-append test (take n (drop first l)) (get_or (drop first l) n 0 ∷ [])
+    ∙ or_comm (list_any test (take n (drop first l))) (test (get_or (drop first l) n 0) || false)
+    ∙ ap₂ ◌||◌ (or-false (test (get_or (drop first l) n 0)) ∙ ap test (get_or-drop first l n 0)) (pawns_any l man first n (omega (arith, h)))
 
 pub seventh_under : (side : ℕ) → seventh_rank side ≤ 48
 seventh_under side = go (eqb side 0)
@@ -46,9 +44,6 @@ seventh_under side = go (eqb side 0)
     go : (u : Bool) → cond u 48 8 ≤ 48
     go true = omega arith
     go false = omega arith
-
-pub at_seventh : (l : List ℕ) (side first n : ℕ) → first ≡ seventh_rank side → man_on l (seventh_rank side + n) ≡ man_on l (first + n)
-at_seventh l side first n e = ap (λ (x : ℕ). man_on l (x + n)) (sym e)
 
 -- a pawn that is there is found
 found : (l : List ℕ) (man first k n : ℕ) → k < n → man_on l (first + k) ≡ man → pawn_from l man first n ≡ true

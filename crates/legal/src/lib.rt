@@ -1,25 +1,25 @@
 // The legal moves of a record, plainly: every man of the side to move to every square, by the rules of `move_laws`.
 #![tactic(auto)]
 
-ghost use Rattle.std.specs.Prelude.{◌≡◌, true, cond, not, ◌||◌, ◌+◌, ◌/◌, ◌%◌, ◌≤◌, ◌<◌, length};
-ghost use Rattle.square.specs.Piece.{man_on};
+ghost use Rattle.std.specs.Prelude.{◌≡◌, true, cond, not, ◌&&◌, ◌||◌, ◌+◌, ◌/◌, ◌%◌, ◌≤◌, ◌<◌, eqb, length, IfSome, unwrap_or};
 ghost use Rattle.answer.specs.Answer.{write_answer, write_bytes};
 ghost use Rattle.board_builder.specs.BoardBuilder.{in_range};
-ghost use Rattle.move_rules.specs.After.{two_apart, corner, takes_in_passing, squares_after};
-ghost use Rattle.move_laws.specs.Apart.{apart, files_apart, ranks_apart, distance, file_or_rank, diagonal, knights_move, adjoining};
-ghost use Rattle.move_laws.specs.Apart.{lower, upper, line_step, empty_up_to, clear};
-ghost use Rattle.move_laws.specs.Attack.{of_side, ahead, pawn_attacks, bishop_attacks, rook_attacks, queen_attacks, kind_attacks, attacks};
+ghost use Rattle.move_rules.specs.After.{squares_after};
+ghost use Rattle.move_laws.specs.Apart.{files_apart, ranks_apart, distance, file_or_rank, diagonal, knights_move, adjoining};
+ghost use Rattle.move_laws.specs.Apart.{empty_up_to, clear};
+ghost use Rattle.move_laws.specs.Attack.{other, man_of, of_side, ahead, pawn_attacks, kind_attacks, attacks};
 ghost use Rattle.move_laws.specs.Attack.{attacked, king_attacked, in_check};
-ghost use Rattle.move_laws.specs.Move.{may_take, may_arrive, pawn_steps, second_rank, pawn_steps_twice, pawn_captures, passing_rank, pawn_passes, pawn_moves};
-ghost use Rattle.move_laws.specs.Move.{right_held, way_attacked, king_castles, last_rank, promotes, piece_moves, kind_moves};
-ghost use Rattle.move_laws.specs.Legal.{own_rights, goes, is_legal, legal_from, legal_moves, list_check, check_byte, check_answer};
-ghost use Rattle.legal.specs.CodeList.{seventh_rank, may_promote, SkipsFrom, on_line, last_of, Calm, keeps_safe, counted_to, put_at, count_from, filled_from};
+ghost use Rattle.move_laws.specs.Move.{may_take, may_arrive, pawn_steps, pawn_steps_twice, pawn_captures, pawn_passes, pawn_moves};
+ghost use Rattle.move_laws.specs.Move.{right_held, way_attacked, king_castles, promotes, piece_moves, kind_moves};
+ghost use Rattle.move_laws.specs.Legal.{goes, is_legal, legal_from, legal_moves, list_check, check_byte, check_answer};
+ghost use Rattle.legal.specs.CodeList.{may_promote, SkipsFrom, on_line, last_of, Calm, keeps_safe, counted_to, put_at, count_from, filled_from};
 
-use answer::{Answer, BAD_LIST, OUT_OF_RANGE, OUTPUT_TOO_SHORT};
+use answer::{Answer, BAD_LIST, OUT_OF_RANGE};
+use board_after::Way;
 use board_builder::BoardBuilder;
 use square::{KING, PAWN};
 
-// The kinds of men that `square` has no constant for.
+// The kinds of men that `square` has no constant for. They are numbers, as in the squares of a record, which come from C.
 
 const KNIGHT: u8 = 2;
 
@@ -29,97 +29,118 @@ const ROOK: u8 = 4;
 
 const QUEEN: u8 = 5;
 
-fn apart(a: u8, b: u8) -> u8
-    ensures { result ≡ apart a b }
-{
-    if a < b { b - a } else { a - b }
+// White is 0, black is 1.
+#[derive(Clone, Copy)]
+struct Side {
+    number: u8,
+    ghost known: { number < 2 },
 }
 
-fn files_apart(s: u8, t: u8) -> u8
-    ensures { result ≡ files_apart s t }
-{
-    apart(s % 8, t % 8)
+impl Side {
+    fn other(self) -> Side
+        ensures { result.number ≡ other self.number }
+    {
+        Side {
+            number: 1 - self.number,
+        }
+    }
+
+    // 1 to 6 are white's men, 7 to 12 are black's.
+    fn man(self, kind: u8) -> u8
+        requires { kind < 16 }
+        ensures { result ≡ man_of self.number kind }
+    {
+        kind + 6 * self.number
+    }
+
+    // Of a number for each side, this side's.
+    fn pick(self, white: u8, black: u8) -> u8
+        ensures { result ≡ cond (eqb self.number 0) white black }
+    {
+        if self.number == 0 { white } else { black }
+    }
 }
 
-fn ranks_apart(s: u8, t: u8) -> u8
-    ensures { result ≡ ranks_apart s t }
-{
-    apart(s / 8, t / 8)
+// A record in range.
+#[derive(Clone, Copy)]
+struct Position {
+    board: BoardBuilder,
+    ghost good: { in_range board ≡ true },
 }
 
-fn distance(s: u8, t: u8) -> u8
-    ensures { result ≡ distance s t }
-{
-    let files = files_apart(s, t);
-    let ranks = ranks_apart(s, t);
-    if files < ranks { ranks } else { files }
+impl Position {
+    fn side(&self) -> Side
+        ensures { result.number ≡ self.now.board.side_to_move }
+    {
+        Side {
+            number: self.board.side_to_move,
+        }
+    }
 }
 
-fn straight(s: u8, t: u8) -> bool
-    ensures { result ≡ file_or_rank s t }
+fn files_apart(way: Way) -> u8
+    ensures { result ≡ files_apart way.source way.dest }
 {
-    if s == t {
+    (way.source % 8).abs_diff(way.dest % 8)
+}
+
+fn ranks_apart(way: Way) -> u8
+    ensures { result ≡ ranks_apart way.source way.dest }
+{
+    (way.source / 8).abs_diff(way.dest / 8)
+}
+
+fn distance(way: Way) -> u8
+    ensures { result ≡ distance way.source way.dest }
+{
+    files_apart(way).max(ranks_apart(way))
+}
+
+fn straight(way: Way) -> bool
+    ensures { result ≡ file_or_rank way.source way.dest }
+{
+    if way.source == way.dest {
         return false;
     }
-    let files = files_apart(s, t);
-    let ranks = ranks_apart(s, t);
+    let files = files_apart(way);
+    let ranks = ranks_apart(way);
     answer::either(files == 0, ranks == 0)
 }
 
-fn diagonal(s: u8, t: u8) -> bool
-    ensures { result ≡ diagonal s t }
+fn diagonal(way: Way) -> bool
+    ensures { result ≡ diagonal way.source way.dest }
 {
-    if s == t {
+    if way.source == way.dest {
         return false;
     }
-    let files = files_apart(s, t);
-    let ranks = ranks_apart(s, t);
+    let files = files_apart(way);
+    let ranks = ranks_apart(way);
     files == ranks
 }
 
-fn knights_move(s: u8, t: u8) -> bool
-    ensures { result ≡ knights_move s t }
+fn knights_move(way: Way) -> bool
+    ensures { result ≡ knights_move way.source way.dest }
 {
-    let files = files_apart(s, t);
-    let ranks = ranks_apart(s, t);
+    let files = files_apart(way);
+    let ranks = ranks_apart(way);
     answer::either(
         answer::both(files == 1, ranks == 2),
         answer::both(files == 2, ranks == 1),
     )
 }
 
-fn adjoining(s: u8, t: u8) -> bool
-    ensures { result ≡ adjoining s t }
+fn adjoining(way: Way) -> bool
+    ensures { result ≡ adjoining way.source way.dest }
 {
-    distance(s, t) == 1
+    distance(way) == 1
 }
 
-fn lower(s: u8, t: u8) -> u8
-    ensures { result ≡ lower s t }
-{
-    if s < t { s } else { t }
-}
-
-fn upper(s: u8, t: u8) -> u8
-    ensures { result ≡ upper s t }
-{
-    if s < t { t } else { s }
-}
-
-fn line_step(s: u8, t: u8) -> u8
-    requires { (s < 64) × (t < 64) × (s ≡ t → ⊥) }
-    ensures { result ≡ line_step s t }
-{
-    (upper(s, t) - lower(s, t)) / distance(s, t)
-}
-
-fn empty_up_to(squares: &[u8], stop: u8, step: u8, from: u8) -> bool
-    requires { (length squares.now ≡ 64) × (stop < 64) × (step < 64) × (from < 128) }
+fn empty_up_to(squares: &[u8; 64], stop: u8, step: u8, from: u8) -> bool
+    requires { (stop < 64) × (step < 64) × (from < 128) }
     ensures { result ≡ empty_up_to squares.now stop step 6 from }
 {
     let mut at = from;
-    let mut left: u8 = 6;
-    while 0 < left {
+    for _ in 0..6u8 {
         if stop <= at {
             return true;
         }
@@ -127,147 +148,108 @@ fn empty_up_to(squares: &[u8], stop: u8, step: u8, from: u8) -> bool
             return false;
         }
         at += step;
-        left -= 1;
     }
     true
 }
 
-fn clear(squares: &[u8], s: u8, t: u8) -> bool
-    requires { (length squares.now ≡ 64) × (s < 64) × (t < 64) × (s ≡ t → ⊥) }
-    ensures { result ≡ clear squares.now s t }
+fn clear(squares: &[u8; 64], way: Way) -> bool
+    requires { way.source ≡ way.dest → ⊥ }
+    ensures { result ≡ clear squares.now way.source way.dest }
 {
-    let step = line_step(s, t);
-    empty_up_to(squares, upper(s, t), step, lower(s, t) + step)
+    let step = way.source.abs_diff(way.dest) / distance(way);
+    let low = way.source.min(way.dest);
+    empty_up_to(squares, way.source.max(way.dest), step, low + step)
 }
 
-// 1 to 6 are white's men, 7 to 12 are black's.
-fn of_side(side: u8, man: u8) -> bool
-    requires { side < 2 }
-    ensures { result ≡ of_side side man }
+fn of_side(side: Side, man: u8) -> bool
+    ensures { result ≡ of_side side.number man }
 {
-    let step = 6 * side;
-    if man < PAWN + step {
+    if man < side.man(PAWN) {
         return false;
     }
-    man <= KING + step
+    man <= side.man(KING)
 }
 
-fn ahead(side: u8, s: u8, t: u8, n: u8) -> bool
+fn ahead(side: Side, way: Way, n: u8) -> bool
     requires { n < 8 }
-    ensures { result ≡ ahead side s t n }
+    ensures { result ≡ ahead side.number way.source way.dest n }
 {
-    if side == 0 {
-        return t / 8 == s / 8 + n;
+    if side.number == 0 {
+        return way.dest / 8 == way.source / 8 + n;
     }
-    s / 8 == t / 8 + n
+    way.source / 8 == way.dest / 8 + n
 }
 
-fn pawn_attacks(side: u8, s: u8, t: u8) -> bool
-    ensures { result ≡ pawn_attacks side s t }
+fn pawn_attacks(side: Side, way: Way) -> bool
+    ensures { result ≡ pawn_attacks side.number way.source way.dest }
 {
-    if !ahead(side, s, t, 1) {
+    if !ahead(side, way, 1) {
         return false;
     }
-    files_apart(s, t) == 1
+    files_apart(way) == 1
 }
 
-fn bishop_attacks(squares: &[u8], s: u8, t: u8) -> bool
-    requires { (length squares.now ≡ 64) × (s < 64) × (t < 64) }
-    ensures { result ≡ bishop_attacks squares.now s t }
+// Of a man that goes along lines.
+fn slides(squares: &[u8; 64], along: bool, way: Way) -> bool
+    requires { along ≡ true → way.source ≡ way.dest → ⊥ }
+    ensures { result ≡ (along && clear squares.now way.source way.dest) }
 {
-    if !diagonal(s, t) {
+    if !along {
         return false;
     }
-    clear(squares, s, t)
+    clear(squares, way)
 }
 
-fn rook_attacks(squares: &[u8], s: u8, t: u8) -> bool
-    requires { (length squares.now ≡ 64) × (s < 64) × (t < 64) }
-    ensures { result ≡ rook_attacks squares.now s t }
+fn kind_attacks(squares: &[u8; 64], side: Side, kind: u8, way: Way) -> bool
+    ensures { result ≡ kind_attacks squares.now side.number kind way.source way.dest }
 {
-    if !straight(s, t) {
-        return false;
+    match kind {
+        PAWN => pawn_attacks(side, way),
+        KNIGHT => knights_move(way),
+        BISHOP => slides(squares, diagonal(way), way),
+        ROOK => slides(squares, straight(way), way),
+        QUEEN => slides(squares, on_line(way), way),
+        KING => adjoining(way),
+        _ => false,
     }
-    clear(squares, s, t)
 }
 
-fn queen_attacks(squares: &[u8], s: u8, t: u8) -> bool
-    requires { (length squares.now ≡ 64) × (s < 64) × (t < 64) }
-    ensures { result ≡ queen_attacks squares.now s t }
+fn attacks(squares: &[u8; 64], side: Side, way: Way) -> bool
+    ensures { result ≡ attacks squares.now side.number way.source way.dest }
 {
-    if rook_attacks(squares, s, t) {
-        return true;
-    }
-    bishop_attacks(squares, s, t)
-}
-
-fn kind_attacks(squares: &[u8], side: u8, kind: u8, s: u8, t: u8) -> bool
-    requires { (length squares.now ≡ 64) × (s < 64) × (t < 64) }
-    ensures { result ≡ kind_attacks squares.now side kind s t }
-{
-    if kind == PAWN {
-        return pawn_attacks(side, s, t);
-    }
-    if kind == KNIGHT {
-        return knights_move(s, t);
-    }
-    if kind == BISHOP {
-        return bishop_attacks(squares, s, t);
-    }
-    if kind == ROOK {
-        return rook_attacks(squares, s, t);
-    }
-    if kind == QUEEN {
-        return queen_attacks(squares, s, t);
-    }
-    if kind == KING {
-        return adjoining(s, t);
-    }
-    false
-}
-
-fn attacks(squares: &[u8], side: u8, s: u8, t: u8) -> bool
-    requires { (length squares.now ≡ 64) × (side < 2) × (s < 64) × (t < 64) }
-    ensures { result ≡ attacks squares.now side s t }
-{
-    let man = squares[s as usize];
+    let man = squares[way.source as usize];
     if !of_side(side, man) {
         return false;
     }
-    kind_attacks(squares, side, square::kind_of(man), s, t)
+    kind_attacks(squares, side, square::kind_of(man), way)
 }
 
-fn attacked(squares: &[u8], side: u8, t: u8) -> bool
-    requires { (length squares.now ≡ 64) × (side < 2) × (t < 64) }
-    ensures { result ≡ attacked squares.now side t }
+fn attacked(squares: &[u8; 64], side: Side, t: u8) -> bool
+    requires { t < 64 }
+    ensures { result ≡ attacked squares.now side.number t }
 {
-    let mut s: u8 = 64;
-    while 0 < s {
-        s -= 1;
-        if attacks(squares, side, s, t) {
+    for s in (0..64).rev() {
+        if attacks(squares, side, Way { source: s, dest: t }) {
             return true;
         }
     }
     false
 }
 
-fn king_attacked(squares: &[u8], side: u8, s: u8) -> bool
-    requires { (length squares.now ≡ 64) × (side < 2) × (s < 64) }
-    ensures { result ≡ king_attacked squares.now side s }
+fn king_attacked(squares: &[u8; 64], side: Side, s: u8) -> bool
+    requires { s < 64 }
+    ensures { result ≡ king_attacked squares.now side.number s }
 {
-    if squares[s as usize] != KING + 6 * side {
+    if squares[s as usize] != side.man(KING) {
         return false;
     }
-    attacked(squares, 1 - side, s)
+    attacked(squares, side.other(), s)
 }
 
-fn checked(squares: &[u8], side: u8) -> bool
-    requires { (length squares.now ≡ 64) × (side < 2) }
-    ensures { result ≡ in_check squares.now side }
+fn checked(squares: &[u8; 64], side: Side) -> bool
+    ensures { result ≡ in_check squares.now side.number }
 {
-    let mut s: u8 = 64;
-    while 0 < s {
-        s -= 1;
+    for s in (0..64).rev() {
         if king_attacked(squares, side, s) {
             return true;
         }
@@ -275,19 +257,17 @@ fn checked(squares: &[u8], side: u8) -> bool
     false
 }
 
-fn may_take(side: u8, man: u8) -> bool
-    requires { side < 2 }
-    ensures { result ≡ may_take side man }
+fn may_take(side: Side, man: u8) -> bool
+    ensures { result ≡ may_take side.number man }
 {
-    if !of_side(1 - side, man) {
+    if !of_side(side.other(), man) {
         return false;
     }
     square::kind_of(man) != KING
 }
 
-fn may_arrive(side: u8, man: u8) -> bool
-    requires { side < 2 }
-    ensures { result ≡ may_arrive side man }
+fn may_arrive(side: Side, man: u8) -> bool
+    ensures { result ≡ may_arrive side.number man }
 {
     if man == 0 {
         return true;
@@ -295,363 +275,284 @@ fn may_arrive(side: u8, man: u8) -> bool
     may_take(side, man)
 }
 
-fn pawn_steps(squares: &[u8], side: u8, s: u8, t: u8) -> bool
-    requires { (length squares.now ≡ 64) × (t < 64) }
-    ensures { result ≡ pawn_steps squares.now side s t }
+fn pawn_steps(squares: &[u8; 64], side: Side, way: Way) -> bool
+    ensures { result ≡ pawn_steps squares.now side.number way.source way.dest }
 {
-    if !ahead(side, s, t, 1) {
+    if !ahead(side, way, 1) {
         return false;
     }
-    if s % 8 != t % 8 {
+    if way.source % 8 != way.dest % 8 {
         return false;
     }
-    squares[t as usize] == 0
+    squares[way.dest as usize] == 0
 }
 
-fn second_rank(side: u8) -> u8
-    ensures { result ≡ second_rank side }
+fn pawn_steps_twice(squares: &[u8; 64], side: Side, way: Way) -> bool
+    ensures { result ≡ pawn_steps_twice squares.now side.number way.source way.dest }
 {
-    if side == 0 { 1 } else { 6 }
+    if !ahead(side, way, 2) {
+        return false;
+    }
+    if way.source % 8 != way.dest % 8 {
+        return false;
+    }
+    if way.source / 8 != side.pick(1, 6) {
+        return false;
+    }
+    if squares[way.dest as usize] != 0 {
+        return false;
+    }
+    squares[((way.source + way.dest) / 2) as usize] == 0
 }
 
-fn pawn_steps_twice(squares: &[u8], side: u8, s: u8, t: u8) -> bool
-    requires { (length squares.now ≡ 64) × (s < 64) × (t < 64) }
-    ensures { result ≡ pawn_steps_twice squares.now side s t }
+fn pawn_takes(squares: &[u8; 64], side: Side, way: Way) -> bool
+    ensures { result ≡ pawn_captures squares.now side.number way.source way.dest }
 {
-    if !ahead(side, s, t, 2) {
+    if !pawn_attacks(side, way) {
         return false;
     }
-    if s % 8 != t % 8 {
-        return false;
-    }
-    if s / 8 != second_rank(side) {
-        return false;
-    }
-    if squares[t as usize] != 0 {
-        return false;
-    }
-    squares[((s + t) / 2) as usize] == 0
+    may_take(side, squares[way.dest as usize])
 }
 
-fn pawn_takes(squares: &[u8], side: u8, s: u8, t: u8) -> bool
-    requires { (length squares.now ≡ 64) × (side < 2) × (t < 64) }
-    ensures { result ≡ pawn_captures squares.now side s t }
+fn pawn_passes(squares: &[u8; 64], side: Side, marked: u8, way: Way) -> bool
+    ensures { result ≡ pawn_passes squares.now side.number marked way.source way.dest }
 {
-    if !pawn_attacks(side, s, t) {
+    if !pawn_attacks(side, way) {
         return false;
     }
-    may_take(side, squares[t as usize])
+    if marked != way.dest % 8 + 1 {
+        return false;
+    }
+    if way.source / 8 != side.pick(4, 3) {
+        return false;
+    }
+    if squares[way.dest as usize] != 0 {
+        return false;
+    }
+    squares[(way.source / 8 * 8 + way.dest % 8) as usize] == side.other().man(PAWN)
 }
 
-fn passing_rank(side: u8) -> u8
-    ensures { result ≡ passing_rank side }
+fn pawn_moves(squares: &[u8; 64], side: Side, marked: u8, way: Way) -> bool
+    ensures { result ≡ pawn_moves squares.now side.number marked way.source way.dest }
 {
-    if side == 0 { 4 } else { 3 }
-}
-
-fn pawn_passes(squares: &[u8], side: u8, marked: u8, s: u8, t: u8) -> bool
-    requires { (length squares.now ≡ 64) × (side < 2) × (s < 64) × (t < 64) }
-    ensures { result ≡ pawn_passes squares.now side marked s t }
-{
-    if !pawn_attacks(side, s, t) {
-        return false;
-    }
-    if marked != t % 8 + 1 {
-        return false;
-    }
-    if s / 8 != passing_rank(side) {
-        return false;
-    }
-    if squares[t as usize] != 0 {
-        return false;
-    }
-    squares[(s / 8 * 8 + t % 8) as usize] == PAWN + 6 * (1 - side)
-}
-
-fn pawn_moves(squares: &[u8], side: u8, marked: u8, s: u8, t: u8) -> bool
-    requires { (length squares.now ≡ 64) × (side < 2) × (s < 64) × (t < 64) }
-    ensures { result ≡ pawn_moves squares.now side marked s t }
-{
-    if pawn_steps(squares, side, s, t) {
+    if pawn_steps(squares, side, way) {
         return true;
     }
-    if pawn_steps_twice(squares, side, s, t) {
+    if pawn_steps_twice(squares, side, way) {
         return true;
     }
-    if pawn_takes(squares, side, s, t) {
+    if pawn_takes(squares, side, way) {
         return true;
     }
-    pawn_passes(squares, side, marked, s, t)
+    pawn_passes(squares, side, marked, way)
 }
 
-fn two_apart(a: u8, b: u8) -> bool
-    requires { (a < 64) × (b < 64) }
-    ensures { result ≡ two_apart a b }
+fn right_held(rights: u8, way: Way) -> bool
+    ensures { result ≡ right_held rights way.source way.dest }
 {
-    answer::either(b == a + 2, a == b + 2)
-}
-
-fn corner(source: u8, dest: u8) -> u8
-    requires { source < 64 }
-    ensures { result ≡ corner source dest }
-{
-    if source < dest {
-        source / 8 * 8 + 7
-    } else {
-        source / 8 * 8 + 0
-    }
-}
-
-fn right_held(rights: u8, s: u8, t: u8) -> bool
-    ensures { result ≡ right_held rights s t }
-{
-    if s < t {
+    if way.source < way.dest {
         return rights % 2 == 1;
     }
     rights / 2 == 1
 }
 
-fn way_attacked(squares: &[u8], side: u8, s: u8, t: u8) -> bool
-    requires { (length squares.now ≡ 64) × (side < 2) × (s < 64) × (t < 64) }
-    ensures { result ≡ way_attacked squares.now side s t }
+fn way_attacked(squares: &[u8; 64], side: Side, way: Way) -> bool
+    ensures { result ≡ way_attacked squares.now side.number way.source way.dest }
 {
-    if attacked(squares, 1 - side, s) {
+    let other = side.other();
+    if attacked(squares, other, way.source) {
         return true;
     }
-    if attacked(squares, 1 - side, (s + t) / 2) {
+    if attacked(squares, other, (way.source + way.dest) / 2) {
         return true;
     }
-    attacked(squares, 1 - side, t)
+    attacked(squares, other, way.dest)
 }
 
-fn king_castles(squares: &[u8], side: u8, rights: u8, s: u8, t: u8) -> bool
-    requires { (length squares.now ≡ 64) × (side < 2) × (s < 64) × (t < 64) }
-    ensures { result ≡ king_castles squares.now side rights s t }
+fn king_castles(squares: &[u8; 64], side: Side, rights: u8, way: Way) -> bool
+    ensures { result ≡ king_castles squares.now side.number rights way.source way.dest }
 {
-    if s != 4 + 56 * side {
+    if way.source != 4 + 56 * side.number {
         return false;
     }
-    if !two_apart(s, t) {
+    if !board_after::two_apart(way.source, way.dest) {
         return false;
     }
-    if !right_held(rights, s, t) {
+    if !right_held(rights, way) {
         return false;
     }
-    let from = corner(s, t);
-    if squares[from as usize] != ROOK + 6 * side {
+    let from = board_after::corner(way.source, way.dest);
+    if squares[from as usize] != side.man(ROOK) {
         return false;
     }
-    if !clear(squares, s, from) {
+    let between = Way {
+        source: way.source,
+        dest: from,
+    };
+    if !clear(squares, between) {
         return false;
     }
-    !way_attacked(squares, side, s, t)
+    !way_attacked(squares, side, way)
 }
 
-fn last_rank(side: u8) -> u8
-    ensures { result ≡ last_rank side }
+fn promotes(side: Side, kind: u8, t: u8, promotion: u8) -> bool
+    ensures { result ≡ promotes side.number kind t promotion }
 {
-    if side == 0 { 7 } else { 0 }
-}
-
-fn promotes(side: u8, kind: u8, t: u8, promotion: u8) -> bool
-    ensures { result ≡ promotes side kind t promotion }
-{
-    let last = last_rank(side);
+    let last = side.pick(7, 0);
     if answer::both(kind == PAWN, t / 8 == last) {
         return answer::both(KNIGHT <= promotion, promotion <= QUEEN);
     }
     promotion == 0
 }
 
-fn piece_moves(squares: &[u8], side: u8, kind: u8, s: u8, t: u8) -> bool
-    requires { (length squares.now ≡ 64) × (side < 2) × (s < 64) × (t < 64) }
-    ensures { result ≡ piece_moves squares.now side kind s t }
+fn piece_moves(squares: &[u8; 64], side: Side, kind: u8, way: Way) -> bool
+    ensures { result ≡ piece_moves squares.now side.number kind way.source way.dest }
 {
-    if !may_arrive(side, squares[t as usize]) {
+    if !may_arrive(side, squares[way.dest as usize]) {
         return false;
     }
-    kind_attacks(squares, side, kind, s, t)
+    kind_attacks(squares, side, kind, way)
 }
 
-fn king_moves(squares: &[u8], side: u8, rights: u8, kind: u8, s: u8, t: u8) -> bool
-    requires { (length squares.now ≡ 64) × (side < 2) × (s < 64) × (t < 64) }
-    ensures { result ≡ (piece_moves squares.now side kind s t || king_castles squares.now side rights s t) }
+fn king_moves(squares: &[u8; 64], side: Side, rights: u8, kind: u8, way: Way) -> bool
+    ensures { result ≡ (piece_moves squares.now side.number kind way.source way.dest || king_castles squares.now side.number rights way.source way.dest) }
 {
-    if piece_moves(squares, side, kind, s, t) {
+    if piece_moves(squares, side, kind, way) {
         return true;
     }
-    king_castles(squares, side, rights, s, t)
+    king_castles(squares, side, rights, way)
 }
 
-fn kind_moves(squares: &[u8], side: u8, rights: u8, marked: u8, kind: u8, s: u8, t: u8) -> bool
-    requires { (length squares.now ≡ 64) × (side < 2) × (s < 64) × (t < 64) }
-    ensures { result ≡ kind_moves squares.now side rights marked kind s t }
+fn kind_moves(squares: &[u8; 64], side: Side, rights: u8, marked: u8, kind: u8, way: Way) -> bool
+    ensures { result ≡ kind_moves squares.now side.number rights marked kind way.source way.dest }
 {
-    if kind == PAWN {
-        return pawn_moves(squares, side, marked, s, t);
+    match kind {
+        PAWN => pawn_moves(squares, side, marked, way),
+        KING => king_moves(squares, side, rights, kind, way),
+        _ => piece_moves(squares, side, kind, way),
     }
-    if kind == KING {
-        return king_moves(squares, side, rights, kind, s, t);
-    }
-    piece_moves(squares, side, kind, s, t)
 }
 
-fn goes(squares: &[u8], side: u8, rights: u8, marked: u8, s: u8, t: u8, promotion: u8) -> bool
-    requires { (length squares.now ≡ 64) × (side < 2) × (s < 64) × (t < 64) }
-    ensures { result ≡ goes squares.now side rights marked s t promotion }
+fn goes(squares: &[u8; 64], side: Side, rights: u8, marked: u8, way: Way, promotion: u8) -> bool
+    ensures { result ≡ goes squares.now side.number rights marked way.source way.dest promotion }
 {
-    let man = squares[s as usize];
+    let man = squares[way.source as usize];
     if !of_side(side, man) {
         return false;
     }
     let kind = square::kind_of(man);
-    if !promotes(side, kind, t, promotion) {
+    if !promotes(side, kind, way.dest, promotion) {
         return false;
     }
-    kind_moves(squares, side, rights, marked, kind, s, t)
-}
-
-fn own_rights(b: BoardBuilder) -> u8
-    ensures { result ≡ own_rights b }
-{
-    if b.side_to_move == 0 {
-        return b.white_castle_rights;
-    }
-    b.black_castle_rights
+    kind_moves(squares, side, rights, marked, kind, way)
 }
 
 // Whether the king of the side to move is safe after a move.
-fn safe_after(b: BoardBuilder, m: u64) -> bool
-    requires { (in_range b ≡ true) × (m < 28672) }
-    ensures { result ≡ not (in_check (squares_after b.pieces (m % 64) (m / 64 % 64) (m / 4096)) b.side_to_move) }
+fn safe_after(p: &Position, m: u64) -> bool
+    requires { m < 28672 }
+    ensures { result ≡ not (in_check (squares_after p.now.board.pieces (m % 64) (m / 64 % 64) (m / 4096)) p.now.board.side_to_move) }
 {
-    let next = board_after::board_after(b, m);
+    let next = board_after::board_after(p.board, m);
     let squares = next.board.pieces;
-    !checked(&squares, b.side_to_move)
+    !checked(&squares, p.side())
 }
 
-fn on_line(s: u8, t: u8) -> bool
-    ensures { result ≡ on_line s t }
+fn on_line(way: Way) -> bool
+    ensures { result ≡ on_line way.source way.dest }
 {
-    if straight(s, t) {
+    if straight(way) {
         return true;
     }
-    diagonal(s, t)
+    diagonal(way)
 }
 
-fn in_passing(squares: &[u8], s: u8, t: u8) -> bool
-    requires { (length squares.now ≡ 64) × (s < 64) × (t < 64) }
-    ensures { result ≡ takes_in_passing squares.now (man_on squares.now s) s t }
+fn keeps_safe(squares: &[u8; 64], king: Option<u8>, way: Way) -> bool
+    requires { IfSome king (λ k. k < 64) }
+    ensures { result ≡ keeps_safe squares.now (unwrap_or king 64) way.source way.dest }
 {
-    if square::kind_of(squares[s as usize]) != PAWN {
+    let Some(king) = king else {
+        return false;
+    };
+    let source = way.source;
+    if source == king {
         return false;
     }
-    if s % 8 == t % 8 {
+    if on_line(Way { source, dest: king }) {
         return false;
     }
-    squares[t as usize] == 0
+    !board_after::takes_in_passing(squares, squares[source as usize], way)
 }
 
-fn keeps_safe(squares: &[u8], king: u8, s: u8, t: u8) -> bool
-    requires { (length squares.now ≡ 64) × (s < 64) × (t < 64) }
-    ensures { result ≡ keeps_safe squares.now king s t }
+fn last_of(squares: &[u8; 64], man: u8, from: u8) -> Option<u8>
+    requires { from < 65 }
+    ensures last { unwrap_or result 64 ≡ last_of squares.now man from }
+    ensures below { IfSome result (λ k. k < 64) }
 {
-    if 64 <= king {
-        return false;
-    }
-    if s == king {
-        return false;
-    }
-    if on_line(s, king) {
-        return false;
-    }
-    !in_passing(squares, s, t)
-}
-
-fn last_of(squares: &[u8], man: u8, from: u8) -> u8
-    requires { (length squares.now ≡ 64) × (from < 65) }
-    ensures { result ≡ last_of squares.now man from }
-{
-    let mut n = from;
-    while 0 < n {
-        n -= 1;
+    for n in (0..from).rev() {
         if squares[n as usize] == man {
-            return n;
+            return Some(n);
         }
     }
-    64
+    None
 }
 
-// The square of a side's king, 64 if it is in check or there are more kings than one, or none.
-fn calm_king(squares: &[u8], side: u8) -> u8
-    requires { (length squares.now ≡ 64) × (side < 2) }
-    ensures { result < 64 → Calm squares.now side result }
+// The square of a side's king; none if it is in check or there are more kings than one, or none.
+fn calm_king(squares: &[u8; 64], side: Side) -> Option<u8>
+    ensures { IfSome result (λ k. (k < 64) × Calm squares.now side.number k) }
 {
     if checked(squares, side) {
-        return 64;
+        return None;
     }
-    let man = KING + 6 * side;
-    let king = last_of(squares, man, 64);
-    if last_of(squares, man, king) < 64 {
-        return 64;
+    let man = side.man(KING);
+    let king = last_of(squares, man, 64)?;
+    if last_of(squares, man, king).is_some() {
+        return None;
     }
-    king
+    Some(king)
 }
 
 // The king is asked only where it can matter: most moves are played on no line with it.
-fn is_legal(squares: &[u8], b: BoardBuilder, king: u8, m: u64) -> bool
-    requires { (squares.now ≡ b.pieces) × (in_range b ≡ true) × (m < 28672) × (king < 64 → Calm b.pieces b.side_to_move king) }
-    ensures { result ≡ is_legal b m }
+fn is_legal(p: &Position, king: Option<u8>, m: u64) -> bool
+    requires { (m < 28672) × IfSome king (λ k. (k < 64) × Calm p.now.board.pieces p.now.board.side_to_move k) }
+    ensures { result ≡ is_legal p.now.board m }
 {
-    let rights = own_rights(b);
-    let s = (m % 64) as u8;
-    let t = (m / 64 % 64) as u8;
+    let side = p.side();
+    let board = &p.board;
+    let rights = side.pick(board.white_castle_rights, board.black_castle_rights);
+    let way = Way {
+        source: (m % 64) as u8,
+        dest: (m / 64 % 64) as u8,
+    };
     if !goes(
-        squares,
-        b.side_to_move,
+        &board.pieces,
+        side,
         rights,
-        b.en_passant,
-        s,
-        t,
+        board.en_passant,
+        way,
         (m / 4096) as u8,
     ) {
         return false;
     }
-    if keeps_safe(squares, king, s, t) {
+    if keeps_safe(&board.pieces, king, way) {
         return true;
     }
-    safe_after(b, m)
-}
-
-fn seventh_rank(side: u8) -> u8
-    ensures { result ≡ seventh_rank side }
-{
-    if side == 0 { 48 } else { 8 }
+    safe_after(p, m)
 }
 
 // Whether a pawn of a side stands where its next step promotes it.
-fn may_promote(squares: &[u8], side: u8) -> bool
-    requires { (length squares.now ≡ 64) × (side < 2) }
-    ensures { result ≡ may_promote squares.now side }
+fn may_promote(squares: &[u8; 64], side: Side) -> bool
+    ensures { result ≡ may_promote squares.now side.number }
 {
-    let first = seventh_rank(side);
-    let mut n: u8 = 8;
-    while 0 < n {
-        n -= 1;
-        if squares[(first + n) as usize] == PAWN + 6 * side {
-            return true;
-        }
-    }
-    false
+    let first = side.pick(48, 8) as usize;
+    squares[first..first + 8].contains(&side.man(PAWN))
 }
 
 // How many numbers are to be asked: those without a promotion come first, and mostly no other can be legal.
-fn numbers_asked(squares: &[u8], b: BoardBuilder) -> u64
-    requires { (squares.now ≡ b.pieces) × (in_range b ≡ true) }
+fn numbers_asked(p: &Position) -> u64
     ensures most { result ≤ 28672 }
-    ensures all { legal_from b result 0 ≡ legal_moves b }
+    ensures all { legal_from p.now.board result 0 ≡ legal_moves p.now.board }
 {
-    if may_promote(squares, b.side_to_move) {
+    if may_promote(&p.board.pieces, p.side()) {
         return 28672;
     }
     4096
@@ -668,22 +569,20 @@ fn next_step(own: bool, step: u8) -> u8
 }
 
 // From each square the step to the next with a man of a side: the numbers between, which begin at no such man, are no legal moves.
-fn mark_steps(squares: &[u8], side: u8, steps: &mut [u8])
-    requires { (length squares.now ≡ 64) × (side < 2) × (length steps.old ≡ 64) }
-    ensures { SkipsFrom squares.now side 0 steps.new }
+fn mark_steps(squares: &[u8; 64], side: Side, steps: &mut [u8; 64])
+    ensures { SkipsFrom squares.now side.number 0 steps.new }
 {
-    let mut s: u8 = 64;
     let mut step: u8 = 1;
-    while 0 < s {
-        s -= 1;
-        steps[s as usize] = step;
-        let own = of_side(side, squares[s as usize]);
+    for s in (0..64usize).rev() {
+        steps[s] = step;
+        let own = of_side(side, squares[s]);
         step = next_step(own, step);
     }
 }
 
-fn keep(legal: bool, m: u16, room: &mut [u16], count: usize) -> usize
-    requires { (length room.old ≡ 255) × (count < 257) }
+// The count after a number is asked. It stops at 256, past the room, and is a number until all are asked: an Option would test it at each.
+fn keep(legal: bool, m: u16, room: &mut [u16; 255], count: usize) -> usize
+    requires { count < 257 }
     ensures count { result ≡ cond legal (counted_to count) count }
     ensures room { room.new ≡ cond legal (put_at room.old count m) room.old }
 {
@@ -697,44 +596,29 @@ fn keep(legal: bool, m: u16, room: &mut [u16], count: usize) -> usize
     count + 1
 }
 
-// Every legal move, as long as there is room, and how many there are, 256 for more than 255.
-fn gather(b: BoardBuilder, room: &mut [u16]) -> usize
-    requires { (length room.old ≡ 255) × (in_range b ≡ true) }
-    ensures count { result ≡ count_from 0 (legal_moves b) }
-    ensures room { room.new ≡ filled_from room.old 0 (legal_moves b) }
+// Every legal move, as long as there is room, and how many there are; none for more than there is room for.
+fn gather(p: &Position, room: &mut [u16; 255]) -> Option<usize>
+    ensures count { unwrap_or result 256 ≡ count_from 0 (legal_moves p.now.board) }
+    ensures few { IfSome result (λ n. n ≤ 255) }
+    ensures room { room.new ≡ filled_from room.old 0 (legal_moves p.now.board) }
 {
-    let squares = b.pieces;
-    let asked = numbers_asked(&squares, b);
+    let asked = numbers_asked(p);
+    let side = p.side();
     let mut steps = [1u8; 64];
-    mark_steps(&squares, b.side_to_move, &mut steps);
-    let king = calm_king(&squares, b.side_to_move);
+    mark_steps(&p.board.pieces, side, &mut steps);
+    let king = calm_king(&p.board.pieces, side);
     let mut count: usize = 0;
     let mut m: u64 = 0;
+    // No `for` says this more plainly: the table says how far it is to the next number.
     while m < asked {
-        let legal = is_legal(&squares, b, king, m);
+        let legal = is_legal(p, king, m);
         count = keep(legal, m as u16, room, count);
         m += steps[(m % 64) as usize] as u64;
     }
-    count
-}
-
-fn write_moves(moves: &[u16], out: &mut [u16]) -> Answer
-    ensures answer { result ≡ write_answer 0 moves.now (length out.old) }
-    ensures bytes { out.new ≡ write_bytes 0 moves.now out.old }
-{
-    let needed = moves.len();
-    if out.len() < needed {
-        return Answer {
-            number: OUTPUT_TOO_SHORT,
-            value: needed as u64,
-        };
+    if 255 < count {
+        return None;
     }
-    let mut i: usize = 0;
-    while i < needed {
-        out[i] = moves[i];
-        i += 1;
-    }
-    answer::accepted(needed as u64)
+    Some(count)
 }
 
 // The legal moves in rising order. Checks 5, then 6, then 7.
@@ -746,22 +630,16 @@ pub fn legal_list(b: BoardBuilder, out: &mut [u16]) -> Answer
         return answer::refused(OUT_OF_RANGE);
     }
     let mut room = [0u16; 255];
-    let count = gather(b, &mut room);
-    if 255 < count {
+    let Some(count) = gather(&Position { board: b }, &mut room) else {
         return answer::refused(BAD_LIST);
-    }
-    write_moves(&room[..count], out)
+    };
+    answer::write_items(&room[..count], out)
 }
 
-fn check_byte(b: BoardBuilder) -> u8
-    requires { in_range b ≡ true }
-    ensures { result ≡ check_byte b }
+fn check_byte(p: &Position) -> u8
+    ensures { result ≡ check_byte p.now.board }
 {
-    let squares = b.pieces;
-    if checked(&squares, b.side_to_move) {
-        return 1;
-    }
-    0
+    u8::from(checked(&p.board.pieces, p.side()))
 }
 
 pub fn in_check(b: BoardBuilder) -> Answer
@@ -770,5 +648,5 @@ pub fn in_check(b: BoardBuilder) -> Answer
     if !b.in_range() {
         return answer::refused(OUT_OF_RANGE);
     }
-    answer::accepted_byte(check_byte(b))
+    answer::accepted_byte(check_byte(&Position { board: b }))
 }

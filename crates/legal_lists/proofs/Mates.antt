@@ -1,5 +1,6 @@
 -- Where the list and the byte of a position are those that are owed, the log's mates and stalemates are those of the Laws.
 -- Assumes nothing.
+use Rattle.std.specs.Prelude.{Option, Some, None}
 use Prim.Native.Nat.{ℕ, ◌≤◌}
 use mathlib.Core.Path.{◌≡◌, refl, sym, ap, ◌∙◌}
 use mathlib.Core.Bool.{Bool, true, false, cond, ◌||◌, false≢true}
@@ -13,9 +14,8 @@ use Rattle.board_builder.specs.declared.BoardBuilder.{BoardBuilder}
 use Rattle.board_builder.specs.BoardBuilder.{in_range, numbers, board_of}
 use Rattle.board_builder.proofs.Ranges.{in_range_lem}
 use Rattle.board_builder.proofs.Numbers.{numbers_of_record}
+use Rattle.action.specs.declared.Action.{Action}
 use Rattle.action.specs.declared.Action.TheVariants.{MakeMove, OfferDraw, AcceptDraw, DeclareDraw, Resign}
-use Rattle.action.specs.declared.Stored.{Stored}
-use Rattle.action.specs.declared.Stored.TheVariants.{Holds, Nothing}
 use Rattle.position.specs.Layout.{Position, side}
 use Rattle.ending.specs.Ending.{white_checkmates, black_checkmates, stalemate, result_without_moves, result_of_action, result_of}
 use Rattle.game_rules.specs.Rules.{current, last_made, result}
@@ -65,13 +65,13 @@ resigned : (t : Bool) → NoMate (cond t 2 4)
 resigned true = other_number 2 (λ e. omega (arith, e)) (λ e. omega (arith, e)) (λ e. omega (arith, e))
 resigned false = other_number 4 (λ e. omega (arith, e)) (λ e. omega (arith, e)) (λ e. omega (arith, e))
 
-no_mate : (s : Stored) → NoMate (result_of_action s)
-no_mate (Holds (MakeMove m)) = other_number 0 (λ e. omega (arith, e)) (λ e. omega (arith, e)) (λ e. omega (arith, e))
-no_mate (Holds (OfferDraw c)) = other_number 0 (λ e. omega (arith, e)) (λ e. omega (arith, e)) (λ e. omega (arith, e))
-no_mate (Holds AcceptDraw) = other_number 6 (λ e. omega (arith, e)) (λ e. omega (arith, e)) (λ e. omega (arith, e))
-no_mate (Holds DeclareDraw) = other_number 7 (λ e. omega (arith, e)) (λ e. omega (arith, e)) (λ e. omega (arith, e))
-no_mate (Holds (Resign c)) = resigned (eqb c 0)
-no_mate Nothing = other_number 0 (λ e. omega (arith, e)) (λ e. omega (arith, e)) (λ e. omega (arith, e))
+no_mate : (s : Option Action) → NoMate (result_of_action s)
+no_mate (Some (MakeMove m)) = other_number 0 (λ e. omega (arith, e)) (λ e. omega (arith, e)) (λ e. omega (arith, e))
+no_mate (Some (OfferDraw c)) = other_number 0 (λ e. omega (arith, e)) (λ e. omega (arith, e)) (λ e. omega (arith, e))
+no_mate (Some AcceptDraw) = other_number 6 (λ e. omega (arith, e)) (λ e. omega (arith, e)) (λ e. omega (arith, e))
+no_mate (Some DeclareDraw) = other_number 7 (λ e. omega (arith, e)) (λ e. omega (arith, e)) (λ e. omega (arith, e))
+no_mate (Some (Resign c)) = resigned (eqb c 0)
+no_mate None = other_number 0 (λ e. omega (arith, e)) (λ e. omega (arith, e)) (λ e. omega (arith, e))
 
 module _ (b : BoardBuilder) (low : b.side_to_move ≤ 1) where
   abbrev check : Bool
@@ -118,7 +118,7 @@ byte_is : (b : BoardBuilder) → check_byte b ≡ cond (in_check b.pieces b.side
 unfolding check_byte
 byte_is b = refl
 
-ruled_by : (b : BoardBuilder) (p : Position) (last : Stored) → ListedRight b p → RuledByTheLaws b (result_of p last)
+ruled_by : (b : BoardBuilder) (p : Position) (last : Option Action) → ListedRight b p → RuledByTheLaws b (result_of p last)
 unfolding result_of
 ruled_by b p last l = go (eqb (length p.moves) 0) refl
   where

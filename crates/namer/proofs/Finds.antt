@@ -1,4 +1,4 @@
--- What is found in the namer's eleven bytes: nothing, a text that was written there, and the first of two that is there.
+-- What is found in the namer's eleven bytes: a text that was written there, and the first of two that is there.
 -- Assumes nothing.
 use Prim.Native.Nat.{ℕ, ◌≤◌}
 use mathlib.Core.Path.{◌≡◌, refl, sym, ap, ◌∙◌}
@@ -10,12 +10,10 @@ use lib.Seq.{take_at}
 use Rattle.answer.specs.declared.Answer.{Answer}
 use Rattle.answer.specs.Answer.{write_answer, write_bytes}
 use Rattle.answer.proofs.Writes.{write_fits, write_length}
+use Rattle.std.specs.Prelude.{Some}
 use Rattle.namer.specs.CodeTries.{Found}
 
--- ---- nothing, or what was written
-
-pub found_none : (bytes : List ℕ) → length bytes ≡ 11 → Found none bytes 0
-found_none bytes h = record { long = h; count = refl; text = refl; some_if = λ n. absurd (n refl); none_if = λ z. refl }
+-- ---- what was written
 
 -- a text of two bytes or more stands in the first n of eleven
 pub record InRoom (t : List ℕ) (n : ℕ) (bytes : List ℕ) : Type 0 where
@@ -44,17 +42,11 @@ answered t bytes exit a s h e x =
     let n : a.value ≡ length t = ap (λ (r : Answer). r.value) (e ∙ sym (write_fits t bytes fits).answer) in
     rw (n, x) (written t bytes s h)
 
-pub found_some : {t bytes : List ℕ} {n : ℕ} → InRoom t n bytes → Found (some t) bytes n
-found_some i = record {
-  long = i.long;
-  count = i.count;
-  text = i.front;
-  some_if = λ n. ap some (sym i.front);
-  none_if = λ z. absurd (omega (arith, i.least, i.count));
-}
+pub found_some : {t bytes : List ℕ} {n : ℕ} → InRoom t n bytes → Found (some t) bytes (Some n)
+found_some i = (ap some (sym i.front), omega (arith, i.long, i.most, i.count))
 
 pub found_written : (t bytes exit : List ℕ) → (2 ≤ length t) × (length t ≤ 11) → length bytes ≡ 11 → exit ≡ write_bytes 0 t bytes
-    → Found (some t) exit (length t)
+    → Found (some t) exit (Some (length t))
 found_written t bytes exit s h x = rw x (found_some (written t bytes s h))
 
 -- ---- the first of two that is there
@@ -63,11 +55,10 @@ unfoldable pub or_else : Option (List ℕ) → Option (List ℕ) → Option (Lis
 or_else none o = o
 or_else (some t) o = some t
 
-pub stays : {x : Option (List ℕ)} {bytes : List ℕ} {r : ℕ} → Found x bytes r → (r ≡ 0 → ⊥) → (y : Option (List ℕ)) → or_else x y ≡ x
+pub stays : {x : Option (List ℕ)} {t : List ℕ} → x ≡ some t → (y : Option (List ℕ)) → or_else x y ≡ x
 unfolding or_else
-stays {x = none} h n y = absurd (n h.count)
-stays {x = some t} h n y = refl
+stays e y = rw e
 
-pub goes_on : {x : Option (List ℕ)} {bytes : List ℕ} {r : ℕ} → Found x bytes r → r ≡ 0 → (y : Option (List ℕ)) → or_else x y ≡ y
+pub goes_on : {x : Option (List ℕ)} → x ≡ none → (y : Option (List ℕ)) → or_else x y ≡ y
 unfolding or_else
-goes_on h z y = rw (h.none_if z)
+goes_on e y = rw e

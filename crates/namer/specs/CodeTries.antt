@@ -1,22 +1,20 @@
 -- What the steps of the namer leave in their eleven bytes. For its inner functions; the public contract does not speak of this.
 -- Assumes nothing.
-use Rattle.std.specs.Prelude.{ℕ, ◌≡◌, Bool, cond, List, eqb, length, take}
+use Rattle.std.specs.Prelude.{ℕ, ◌≡◌, ◌≤◌, Bool, cond, List, eqb, length, take, Some, None}
+use Rattle.std.specs.Prelude.{Option as Maybe}
 use Rattle.std.proofs.Math.Option.{Option, none, some}
 use Rattle.answer.specs.declared.Answer.{Answer}
 use Rattle.answer.specs.Answer.{out_of_range, bad_list, not_listed, write_answer, write_bytes}
 use Rattle.board_builder.specs.declared.BoardBuilder.{BoardBuilder}
 use Rattle.chess_move.specs.Number.{source_of}
 use Rattle.san_text.specs.Resolve.{kind_on}
-use Rattle.san_text.specs.Name.{names, candidates, castling_name, first_name, text_or, name_text, name_check}
+use Rattle.san_text.specs.Name.{names, candidates, castling_name, first_name, name_text, name_check}
 use Rattle.san_text.specs.Forms.{form_of}
 
--- the text, if there is one, stands in the first r of eleven bytes; it has two bytes or more, so that 0 says that there is none
-pub record Found (o : Option (List ℕ)) (bytes : List ℕ) (r : ℕ) : Type 0 where
-  pub long : length bytes ≡ 11
-  pub count : r ≡ length (text_or o)
-  pub text : take r bytes ≡ text_or o
-  pub some_if : (r ≡ 0 → ⊥) → o ≡ some (take r bytes)
-  pub none_if : r ≡ 0 → o ≡ none
+-- the text, if there is one, stands in the first n of the bytes
+abbrev pub Found : Option (List ℕ) → List ℕ → Maybe ℕ → Type 0
+Found o bytes None = o ≡ none
+Found o bytes (Some n) = (o ≡ some (take n bytes)) × (n ≤ length bytes)
 
 -- a text that is tried: the text itself, if it names the move
 abbrev pub tried : Bool → BoardBuilder → List ℕ → ℕ → List ℕ → Option (List ℕ)

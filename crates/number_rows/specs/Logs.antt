@@ -1,9 +1,8 @@
 -- Actions and positions in the log, in bytes (document 01, "Numbers of the record, the move and the log"; document 02, order 12): an action has 4 bytes, a
 -- position 584. The moves are 22,284 = 87 × 256 + 12, from 12 to 28 with promotion 5, and 1,804 = 7 × 256 + 12.
 -- Assumes nothing.
-use Rattle.std.specs.Prelude.{ℕ, ◌≡◌, true, false, List, [], ◌∷◌, ◌++◌, replicate, take}
+use Rattle.std.specs.Prelude.{ℕ, ◌≡◌, true, false, List, [], ◌∷◌, ◌++◌, replicate, take, Some, None}
 use Rattle.action.specs.declared.Action.TheVariants.{MakeMove, OfferDraw, AcceptDraw, DeclareDraw, Resign}
-use Rattle.action.specs.declared.Stored.TheVariants.{Holds, Nothing}
 use Rattle.action.specs.Layout.{action_size, action_bytes, action_check, action_of}
 use Rattle.actions.specs.Part.{action_at, move_at, moves_in, actions_held, last_action}
 use Rattle.position.specs.declared.Places.{Places}
@@ -32,29 +31,29 @@ pub record ActionsInBytes : Type 0 where
   pub resign_2 : action_check (Resign 2) ≡ 5
 
 pub record BytesAsActions : Type 0 where
-  pub move : action_of (1 ∷ 0 ∷ 12 ∷ 87 ∷ []) ≡ Holds (MakeMove (from_to 12 28 5))
-  pub last_move_fact : action_of (1 ∷ 0 ∷ 255 ∷ 111 ∷ []) ≡ Holds (MakeMove (from_to 63 63 6))
-  pub past_it : action_of (1 ∷ 0 ∷ 0 ∷ 112 ∷ []) ≡ Nothing
-  pub move_with_colour : action_of (1 ∷ 1 ∷ 12 ∷ 87 ∷ []) ≡ Nothing
-  pub offer_white : action_of (2 ∷ 0 ∷ 0 ∷ 0 ∷ []) ≡ Holds (OfferDraw 0)
-  pub offer_black : action_of (2 ∷ 1 ∷ 0 ∷ 0 ∷ []) ≡ Holds (OfferDraw 1)
-  pub offer_2 : action_of (2 ∷ 2 ∷ 0 ∷ 0 ∷ []) ≡ Nothing
-  pub offer_with_low_byte : action_of (2 ∷ 1 ∷ 1 ∷ 0 ∷ []) ≡ Nothing
-  pub offer_with_high_byte : action_of (2 ∷ 1 ∷ 0 ∷ 1 ∷ []) ≡ Nothing
-  pub acceptance : action_of (3 ∷ 0 ∷ 0 ∷ 0 ∷ []) ≡ Holds AcceptDraw
-  pub acceptance_with_colour : action_of (3 ∷ 1 ∷ 0 ∷ 0 ∷ []) ≡ Nothing
-  pub acceptance_with_move : action_of (3 ∷ 0 ∷ 1 ∷ 0 ∷ []) ≡ Nothing
-  pub declaration : action_of (4 ∷ 0 ∷ 0 ∷ 0 ∷ []) ≡ Holds DeclareDraw
-  pub declaration_with_colour : action_of (4 ∷ 1 ∷ 0 ∷ 0 ∷ []) ≡ Nothing
-  pub declaration_with_move : action_of (4 ∷ 0 ∷ 1 ∷ 0 ∷ []) ≡ Nothing
-  pub resign_white : action_of (5 ∷ 0 ∷ 0 ∷ 0 ∷ []) ≡ Holds (Resign 0)
-  pub resign_black : action_of (5 ∷ 1 ∷ 0 ∷ 0 ∷ []) ≡ Holds (Resign 1)
-  pub resign_2 : action_of (5 ∷ 2 ∷ 0 ∷ 0 ∷ []) ≡ Nothing
-  pub resign_with_move : action_of (5 ∷ 1 ∷ 1 ∷ 0 ∷ []) ≡ Nothing
-  pub kind_0 : action_of (0 ∷ 0 ∷ 0 ∷ 0 ∷ []) ≡ Nothing
-  pub kind_6 : action_of (6 ∷ 0 ∷ 0 ∷ 0 ∷ []) ≡ Nothing
-  pub three_bytes : action_of (3 ∷ 0 ∷ 0 ∷ []) ≡ Nothing
-  pub five_bytes : action_of (3 ∷ 0 ∷ 0 ∷ 0 ∷ 0 ∷ []) ≡ Nothing
+  pub move : action_of (1 ∷ 0 ∷ 12 ∷ 87 ∷ []) ≡ Some (MakeMove (from_to 12 28 5))
+  pub last_move_fact : action_of (1 ∷ 0 ∷ 255 ∷ 111 ∷ []) ≡ Some (MakeMove (from_to 63 63 6))
+  pub past_it : action_of (1 ∷ 0 ∷ 0 ∷ 112 ∷ []) ≡ None
+  pub move_with_colour : action_of (1 ∷ 1 ∷ 12 ∷ 87 ∷ []) ≡ None
+  pub offer_white : action_of (2 ∷ 0 ∷ 0 ∷ 0 ∷ []) ≡ Some (OfferDraw 0)
+  pub offer_black : action_of (2 ∷ 1 ∷ 0 ∷ 0 ∷ []) ≡ Some (OfferDraw 1)
+  pub offer_2 : action_of (2 ∷ 2 ∷ 0 ∷ 0 ∷ []) ≡ None
+  pub offer_with_low_byte : action_of (2 ∷ 1 ∷ 1 ∷ 0 ∷ []) ≡ None
+  pub offer_with_high_byte : action_of (2 ∷ 1 ∷ 0 ∷ 1 ∷ []) ≡ None
+  pub acceptance : action_of (3 ∷ 0 ∷ 0 ∷ 0 ∷ []) ≡ Some AcceptDraw
+  pub acceptance_with_colour : action_of (3 ∷ 1 ∷ 0 ∷ 0 ∷ []) ≡ None
+  pub acceptance_with_move : action_of (3 ∷ 0 ∷ 1 ∷ 0 ∷ []) ≡ None
+  pub declaration : action_of (4 ∷ 0 ∷ 0 ∷ 0 ∷ []) ≡ Some DeclareDraw
+  pub declaration_with_colour : action_of (4 ∷ 1 ∷ 0 ∷ 0 ∷ []) ≡ None
+  pub declaration_with_move : action_of (4 ∷ 0 ∷ 1 ∷ 0 ∷ []) ≡ None
+  pub resign_white : action_of (5 ∷ 0 ∷ 0 ∷ 0 ∷ []) ≡ Some (Resign 0)
+  pub resign_black : action_of (5 ∷ 1 ∷ 0 ∷ 0 ∷ []) ≡ Some (Resign 1)
+  pub resign_2 : action_of (5 ∷ 2 ∷ 0 ∷ 0 ∷ []) ≡ None
+  pub resign_with_move : action_of (5 ∷ 1 ∷ 1 ∷ 0 ∷ []) ≡ None
+  pub kind_0 : action_of (0 ∷ 0 ∷ 0 ∷ 0 ∷ []) ≡ None
+  pub kind_6 : action_of (6 ∷ 0 ∷ 0 ∷ 0 ∷ []) ≡ None
+  pub three_bytes : action_of (3 ∷ 0 ∷ 0 ∷ []) ≡ None
+  pub five_bytes : action_of (3 ∷ 0 ∷ 0 ∷ 0 ∷ 0 ∷ []) ≡ None
 
 -- a move, an offer, bytes that hold nothing, the last move there is; and the three other actions
 abbrev pub four_actions : List ℕ
@@ -64,7 +63,7 @@ abbrev pub three_actions : List ℕ
 three_actions = 3 ∷ 0 ∷ 0 ∷ 0 ∷ 4 ∷ 0 ∷ 0 ∷ 0 ∷ 5 ∷ 1 ∷ 0 ∷ 0 ∷ []
 
 pub record ActionsOfAPart : Type 0 where
-  pub second : action_at four_actions 1 ≡ Holds (OfferDraw 1)
+  pub second : action_at four_actions 1 ≡ Some (OfferDraw 1)
   pub first_move : move_at four_actions 0 ≡ 22284
   pub offer_none : move_at four_actions 1 ≡ 28672
   pub nothing_none : move_at four_actions 2 ≡ 28672
@@ -78,8 +77,8 @@ pub record ActionsOfAPart : Type 0 where
   pub third_not : actions_held four_actions 3 ≡ false
   pub nor_four : actions_held four_actions 4 ≡ false
   pub none_held : actions_held four_actions 0 ≡ true
-  pub last_of_two : last_action four_actions 2 ≡ Holds (OfferDraw 1)
-  pub last_of_none : last_action four_actions 0 ≡ Nothing
+  pub last_of_two : last_action four_actions 2 ≡ Some (OfferDraw 1)
+  pub last_of_none : last_action four_actions 0 ≡ None
 
 -- the record, its counters, the in-check byte, and a list
 abbrev pub position_has : List ℕ → ℕ → ℕ → ℕ → List ℕ → Position

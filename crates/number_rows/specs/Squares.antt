@@ -1,8 +1,8 @@
 -- Squares, men and decimal numbers (document 01, "Port order" 1 and "Numbers of the record"), in numbers: A1 = 0, H8 = 63; 1 to 6 white, 7 to 12 black.
 -- Assumes nothing.
-use Rattle.std.specs.Prelude.{ℕ, ◌≡◌, List, [], ◌∷◌}
+use Rattle.std.specs.Prelude.{ℕ, ◌≡◌, List, [], ◌∷◌, Ok, Err}
 use Rattle.answer.specs.Ascii.{ascii}
-use Rattle.square.specs.declared.Pair.TheVariants.{Square, BadFile, BadRank, Missing}
+use Rattle.square.specs.declared.PairError.TheVariants.{BadFile, BadRank, Missing}
 use Rattle.square.specs.Square.{make_square, rank_of, file_of, back_rank, read_square, pair_told, square_text, square_check}
 use Rattle.square.specs.Piece.{piece_of, letter_of, kind_of, pawn, king, man_on}
 use Rattle.decimal.specs.Promises.{value_from, value_of}
@@ -31,20 +31,20 @@ pub record SquareNumbers : Type 0 where
   pub no_colour : back_rank 2 ≡ says 5 0
 
 pub record SquareTexts : Type 0 where
-  pub a1 : read_square (ascii "a1") ≡ Square 0
-  pub h8_read : read_square (ascii "h8") ≡ Square 63
-  pub b7_and_more : read_square (ascii "b7x") ≡ Square 49
-  pub before_a : read_square (ascii "`9") ≡ BadFile
-  pub after_h : read_square (ascii "i0") ≡ BadFile
-  pub rank_0 : read_square (ascii "a0") ≡ BadRank
-  pub rank_9 : read_square (ascii "h9") ≡ BadRank
-  pub nothing : read_square [] ≡ Missing
-  pub one_byte : read_square (ascii "a") ≡ Missing
+  pub a1 : read_square (ascii "a1") ≡ Ok 0
+  pub h8_read : read_square (ascii "h8") ≡ Ok 63
+  pub b7_and_more : read_square (ascii "b7x") ≡ Ok 49
+  pub before_a : read_square (ascii "`9") ≡ Err BadFile
+  pub after_h : read_square (ascii "i0") ≡ Err BadFile
+  pub rank_0 : read_square (ascii "a0") ≡ Err BadRank
+  pub rank_9 : read_square (ascii "h9") ≡ Err BadRank
+  pub nothing : read_square [] ≡ Err Missing
+  pub one_byte : read_square (ascii "a") ≡ Err Missing
   -- a pair that starts at 3 in a text of 9 bytes
-  pub told : pair_told 3 9 (Square 5) ≡ says_at 0 5 0
-  pub told_file : pair_told 3 9 BadFile ≡ says_at 2 0 3
-  pub told_rank : pair_told 3 9 BadRank ≡ says_at 2 0 4
-  pub told_missing : pair_told 3 9 Missing ≡ says_at 3 0 9
+  pub told : pair_told 3 9 (Ok 5) ≡ says_at 0 5 0
+  pub told_file : pair_told 3 9 (Err BadFile) ≡ says_at 2 0 3
+  pub told_rank : pair_told 3 9 (Err BadRank) ≡ says_at 2 0 4
+  pub told_missing : pair_told 3 9 (Err Missing) ≡ says_at 3 0 9
   pub g2_written : square_text 14 ≡ ascii "g2"
   pub b7_written : square_text 49 ≡ ascii "b7"
   pub last : square_check 63 ≡ 0

@@ -71,11 +71,8 @@ module _ (text : List ℕ) (offset : ℕ) where
           crossed_so : (a b : ℕ) → a ≡ (crossed_from text offset).closed → b ≡ (crossed_from text offset).opened → crossing a b ≡ crossed_from text offset
           crossed_so a b p q = rw (p, q)
 
-      pub at_level : (closed : ℕ) → closed ≤ level → level ≤ closed → closed ≤ (crossed_from text offset).closed
-          → r ≡ across_to m (crossing closed m.level) → r ≡ next_across text offset level
-      at_level closed a b l e =
-          let same : level ≡ closed = omega (arith, a, b) in
-          at_lower closed m (is ∙ ap (next_move text offset) same) some l e
+      pub at_level : level ≤ (crossed_from text offset).closed → r ≡ across_to m (crossing level m.level) → r ≡ next_across text offset level
+      at_level l e = at_lower level m is some l e
 
 pub across_none : (text : List ℕ) (offset level : ℕ) (m : PgnMove) → m ≡ next_move text offset level → m.found ≡ 0 → (r : PgnNext)
     → r ≡ across_to m (crossing 0 0) → r ≡ next_across text offset level

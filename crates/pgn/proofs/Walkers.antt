@@ -1,6 +1,6 @@
 -- What the walkers promise, token by token, by what a variation's sequence says, and level by level outward.
 -- Assumes nothing.
-use mathlib.Core.Path.{◌≡◌, refl, ap, sym, subst, ◌∙◌}
+use mathlib.Core.Path.{◌≡◌, refl, ap, sym, ◌∙◌}
 use mathlib.Core.Bool.{Bool, true, false, cond}
 use mathlib.Core.List.{List, [], ◌∷◌}
 use Prim.Native.Nat.{ℕ, zero, suc, ◌+◌, ◌-◌, ◌*◌, ◌^◌, ◌≤◌, ◌<◌, zero-le}
@@ -20,9 +20,9 @@ use Rattle.pgn_text.specs.Main.{first_main}
 use Rattle.pgn_text.proofs.Tokens.{more, token_within}
 use Rattle.pgn_text.proofs.Follows.{moves_in_text_order}
 use Rattle.pgn_text.proofs.Walks.{walk_at, walk_end, beyond, beyond_skip}
-use Rattle.pgn.specs.declared.walk.Walked.{Walked}
-use Rattle.pgn.specs.declared.walk.Walked.TheVariants.{On, Found, Ended}
-use Rattle.pgn.specs.CodeWalkers.{outcome, walked_from, at_result, Near, Came, Over, Sequenced, count_of, move_walked}
+use Rattle.pgn.specs.declared.walk.Stopped.{Stopped}
+use Rattle.pgn.specs.declared.walk.Stopped.TheVariants.{Found, Ended}
+use Rattle.pgn.specs.CodeWalkers.{outcome, walked_from, at_result, IsNear, Came, Over, count_of, move_walked}
 
 -- the levels left, then the text left, as one number: a text is shorter than 2 ^ 64
 abbrev pub lexicographic : ℕ → ℕ → ℕ
@@ -33,28 +33,9 @@ module _ (s : List ℕ) (stop : ℕ) (level : ℕ) where
       → Came s stop level start moves to total
   came_on p q = record { same = λ os l. p.same os l ∙ q.same os l; forth = le_trans p.forth q.forth; within = q.within; counted = q.counted }
 
-  pub over_on : {start moves at count : ℕ} {r : Walked} → Came s stop level start moves at count → Over s stop level at count r
+  pub over_on : {start moves at count : ℕ} {r : Stopped} → Came s stop level start moves at count → Over s stop level at count r
       → Over s stop level start moves r
   over_on p q os l = p.same os l ∙ q os l
-
-  pub sequence_after : {start moves at count : ℕ} → Came s stop level start moves at count → (r : Walked)
-      → Sequenced s stop level at count r → Sequenced s stop level start moves r
-  sequence_after p (On to total) q = (came_on p q.0, q.1)
-  sequence_after p (Found from size deep) q = over_on p q
-  sequence_after p (Ended total number place) q = over_on p q
-
--- what a sequence promises in the case that it came to
-module _ {s : List ℕ} {stop : ℕ} {level start moves : ℕ} {w : Walked} {at count : ℕ} (e : w ≡ On at count) where
-  pub sequence_on : Sequenced s stop level start moves w → Sequenced s stop level start moves (On at count)
-  sequence_on p = subst (Sequenced s stop level start moves) e p
-
-module _ (s : List ℕ) (stop : ℕ) (level start moves : ℕ) {w : Walked} {from size deep : ℕ} (e : w ≡ Found from size deep) where
-  pub sequence_found : Sequenced s stop level start moves w → Over s stop level start moves (Found from size deep)
-  sequence_found p = subst (Sequenced s stop level start moves) e p
-
-module _ (s : List ℕ) (stop : ℕ) (level start moves : ℕ) {w : Walked} {count number place : ℕ} (e : w ≡ Ended count number place) where
-  pub sequence_over : Sequenced s stop level start moves w → Over s stop level start moves (Ended count number place)
-  sequence_over p = subst (Sequenced s stop level start moves) e p
 
 -- ---- one token
 module _ (s : List ℕ) (stop : ℕ) (level at count : ℕ) (h : at < length s) (k : count ≤ at) where
@@ -106,11 +87,11 @@ module _ (s : List ℕ) (stop : ℕ) (level at count : ℕ) (h : at < length s) 
   result_inside e z (o ∷ os) l = at_token Result e (o ∷ os)
 
   -- a result that is met, outside brackets or in them
-  pub result_met : token_at s at ≡ Result → (r : Walked) → r ≡ at_result level count at → Sequenced s stop level at count r
+  pub result_met : token_at s at ≡ Result → (r : Stopped) → r ≡ at_result level count at → Over s stop level at count r
   unfolding at_result
   result_met e r q = go (eqb level 0) refl r q
     where
-      go : (t : Bool) → eqb level 0 ≡ t → (r : Walked) → r ≡ cond t (Ended count 0 0) (Ended count unknown_token at) → Sequenced s stop level at count r
+      go : (t : Bool) → eqb level 0 ≡ t → (r : Stopped) → r ≡ cond t (Ended count 0 0) (Ended count unknown_token at) → Over s stop level at count r
       go true z r q = rw q (result_outside e (eqb-true level 0 z))
       go false z r q = rw q (result_inside e (eqb-false level 0 z))
 
@@ -156,7 +137,7 @@ module _ (s : List ℕ) (stop : ℕ) (level at moves : ℕ) (h : at < length s) 
   longer : (os : List ℕ) → length os ≡ level → length (at ∷ os) ≡ level + 1
   longer os l = omega arith
 
-  pub inner_over : (r : Walked) → Over s stop (level + 1) (at + 1) moves r → Over s stop level at moves r
+  pub inner_over : (r : Stopped) → Over s stop (level + 1) (at + 1) moves r → Over s stop level at moves r
   inner_over r q os l = entered s stop level at moves h k e d os l ∙ q (at ∷ os) (longer os l)
 
   module _ (to total : ℕ) (p : Came s stop (level + 1) (at + 1) moves to total) where
@@ -233,15 +214,14 @@ module _ (s : List ℕ) (at : ℕ) where
   unfolding token
   move_stands e f = simp (e, f)
 
-pub near_told : (s : List ℕ) (stop level place size : ℕ) (os : List ℕ) → length os ≡ level → level < stop → (size ≡ 0 → ⊥) → Near s place size
+pub near_told : (s : List ℕ) (stop level place size : ℕ) (os : List ℕ) → length os ≡ level → level < stop → IsNear s place size
     → walked_from s stop os place 0 ≡ Found (place + 1) size level
-near_told s stop level place size os l low z n =
-    let q = n z in
-    let h : place + 1 < length s = q.0 in
+near_told s stop level place size os l low q =
+    let h : place + 1 < length s = q.1 in
     let e : place + 1 + 0 ≡ place + 1 = omega arith in
-    let c : size - 1 + 1 ≡ size = omega arith in
-    let p : walked_from s stop os place 0 ≡ walked_from s stop os (place + 1 + 0) 0 = (passed s stop level place 0 (omega arith) zero-le 0 q.1).same os l in
-    let m : walked_from s stop os (place + 1) 0 ≡ Found (place + 1) (size - 1 + 1) level = move_stopped s level (place + 1) 0 h zero-le (size - 1) q.2 stop
+    let c : size - 1 + 1 ≡ size = omega (arith, q.0) in
+    let p : walked_from s stop os place 0 ≡ walked_from s stop os (place + 1 + 0) 0 = (passed s stop level place 0 (omega arith) zero-le 0 q.2).same os l in
+    let m : walked_from s stop os (place + 1) 0 ≡ Found (place + 1) (size - 1 + 1) level = move_stopped s level (place + 1) 0 h zero-le (size - 1) q.3 stop
     low os l in
     p ∙ ap (λ (i : ℕ). walked_from s stop os i 0) e ∙ m ∙ ap (λ (i : ℕ). Found (place + 1) i level) c
 

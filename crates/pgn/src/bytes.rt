@@ -1,7 +1,7 @@
 // The bytes of move text, and how far a token runs on.
 ghost use Rattle.std.specs.Prelude.{◌≡◌};
 ghost use Rattle.answer.specs.Numbers.{between};
-ghost use Rattle.pgn_text.specs.Bytes.{is_white, is_digit, is_letter, starts_move, is_sign, in_move, in_run, run_length, begins_with};
+ghost use Rattle.pgn_text.specs.Bytes.{is_white, is_digit, is_letter, starts_move, is_sign, in_move, in_run, run_length};
 
 use answer::{both, either};
 use pgn_text::Run;
@@ -45,17 +45,12 @@ pub(crate) fn starts_move(b: u8) -> bool
     )
 }
 
-// The six arms become a test of one bit, without a branch; six tests in a row would not.
+// The six patterns become a test of one bit, without a branch; six tests in a row would not.
 fn is_sign(b: u8) -> bool
     ensures { result ≡ is_sign b }
 {
     match b {
-        b'+' => true,
-        b'#' => true,
-        b'=' => true,
-        b'-' => true,
-        b'!' => true,
-        b'?' => true,
+        b'+' | b'#' | b'=' | b'-' | b'!' | b'?' => true,
         _ => false,
     }
 }
@@ -82,29 +77,5 @@ fn in_run(run: Run, b: u8) -> bool
 pub(crate) fn run_length(run: Run, s: &[u8]) -> usize
     ensures { result ≡ run_length run s.now }
 {
-    let mut i: usize = 0;
-    while i < s.len() {
-        if !in_run(run, s[i]) {
-            return i;
-        }
-        i += 1;
-    }
-    i
-}
-
-// Most texts that do not begin so differ in their first byte.
-pub(crate) fn begins_with(s: &[u8], text: &[u8]) -> bool
-    ensures { result ≡ begins_with s.now text.now }
-{
-    if s.len() < text.len() {
-        return false;
-    }
-    let mut i: usize = 0;
-    while i < text.len() {
-        if s[i] != text[i] {
-            return false;
-        }
-        i += 1;
-    }
-    true
+    s.iter().take_while(|b| in_run(run, **b)).count()
 }

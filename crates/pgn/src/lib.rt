@@ -15,7 +15,7 @@ ghost use Rattle.pgn.specs.CodeWalkers.{count_of, move_walked};
 use answer::{ACCEPTED, TOO_DEEP, UNKNOWN_TOKEN};
 use pgn_text::{PgnCount, PgnMove, PgnNext};
 pub use reader::{Reader, first_move};
-use walk::{ANYWHERE, DEEPEST, NOWHERE, OUTSIDE, Walked};
+use walk::{ANYWHERE, DEEPEST, NOWHERE, OUTSIDE, Stopped};
 
 fn end_count(counted: usize, number: u64, offset: usize) -> PgnCount
     ensures { result ≡ end_count counted number offset }
@@ -59,24 +59,22 @@ fn move_at(start: usize, length: usize, level: u64) -> PgnMove
 }
 
 // The answer of a walk that counted the moves.
-fn count_of(w: Walked) -> PgnCount
+fn count_of(w: Stopped) -> PgnCount
     ensures { result ≡ count_of w }
 {
     match w {
-        Walked::On(_, counted) => end_count(counted, ACCEPTED, 0),
-        Walked::Found(_, _, _) => end_count(0, ACCEPTED, 0),
-        Walked::Ended(counted, number, offset) => end_count(counted, number, offset),
+        Stopped::Found(_, _, _) => end_count(0, ACCEPTED, 0),
+        Stopped::Ended(counted, number, offset) => end_count(counted, number, offset),
     }
 }
 
 // The answer of a walk that stopped at the first move.
-fn move_of(w: Walked) -> PgnMove
+fn move_of(w: Stopped) -> PgnMove
     ensures { result ≡ move_walked w }
 {
     match w {
-        Walked::On(_, _) => no_move(ACCEPTED, 0),
-        Walked::Found(start, length, level) => move_at(start, length, level),
-        Walked::Ended(_, number, offset) => no_move(number, offset as u64),
+        Stopped::Found(start, length, level) => move_at(start, length, level),
+        Stopped::Ended(_, number, offset) => no_move(number, offset as u64),
     }
 }
 
@@ -98,8 +96,7 @@ pub fn next(text: &[u8], offset: u64, level: u64) -> PgnMove
         return no_move(UNKNOWN_TOKEN, offset);
     }
     let place = offset as usize;
-    let size = walk::near(text, place);
-    if size != 0 {
+    if let Some(size) = walk::near(text, place) {
         return move_at(place + 1, size, level);
     }
     move_of(walk::outward(text, place, level, ANYWHERE))
@@ -113,8 +110,7 @@ pub fn next_main(text: &[u8], offset: u64) -> PgnMove
         return no_move(UNKNOWN_TOKEN, offset);
     }
     let place = offset as usize;
-    let size = walk::near(text, place);
-    if size != 0 {
+    if let Some(size) = walk::near(text, place) {
         return move_at(place + 1, size, 0);
     }
     move_of(walk::outward(text, place, 0, OUTSIDE))
@@ -144,15 +140,13 @@ pub fn next_across(text: &[u8], offset: u64, level: u64) -> PgnNext
     if met.found == 0 {
         return across_to(met, 0, 0);
     }
-    let mut closed: u64 = 0;
-    while closed < level {
+    for closed in 0..level {
         let lower = next(text, offset, closed);
         if lower.found != 0 {
             return across_to(met, closed, lower.level);
         }
-        closed += 1;
     }
-    across_to(met, closed, met.level)
+    across_to(met, level, met.level)
 }
 
 // The part of a text that holds a move, by its start and its length.

@@ -2,7 +2,7 @@
 ghost use Rattle.std.specs.Prelude.{◌≡◌, ◌<◌, length};
 ghost use Rattle.pgn_text.specs.Token.{is_result, number, glyph, brace_comment, line_comment, token, token_at};
 
-use crate::bytes::{begins_with, is_digit, is_white, run_length, starts_move};
+use crate::bytes::{is_digit, is_white, run_length, starts_move};
 use answer::{either, rest};
 use pgn_text::{Run, Token};
 
@@ -13,10 +13,10 @@ fn is_result(b: u8, after: &[u8]) -> bool
         return true;
     }
     if b == b'0' {
-        return begins_with(after, b"-1");
+        return after.starts_with(b"-1");
     }
     if b == b'1' {
-        return either(begins_with(after, b"-0"), begins_with(after, b"/2-1/2"));
+        return either(after.starts_with(b"-0"), after.starts_with(b"/2-1/2"));
     }
     false
 }

@@ -1,15 +1,15 @@
 -- How far a run goes: within the text; whether a text begins with another; and loops over the text.
 -- Assumes nothing.
-use mathlib.Core.Path.{◌≡◌, refl}
-use mathlib.Core.Bool.{Bool, true, false, ◌&&◌}
+use mathlib.Core.Path.{◌≡◌, refl, sym}
+use mathlib.Core.Bool.{Bool, true, false, cond}
+use Rattle.std.specs.List.{prefix_len, starts_with}
 use mathlib.Core.List.{List, [], ◌∷◌}
 use Prim.Native.Nat.{ℕ, zero, suc, ◌+◌, ◌≤◌, ◌<◌, zero-le}
 use native.Mathlib.Numerals.{add-one}
 use native.Mathlib.Omega.{arith}
 use lib.Dec.{eqb}
-use lib.ListN.{length, drop, get_or, drop_of_length-le}
-use borrow.Author.Tests.{eq-eqb, ne_eqb}
-use lib.Seq.{drop-cons}
+use lib.ListN.{length, get_or}
+use borrow.Author.Tests.{eq-eqb, ne_eqb, eqb-true, eqb-false}
 use Rattle.pgn_text.specs.declared.Run.{Run}
 use Rattle.pgn_text.specs.Bytes.{in_run, onward, run_length, begins_with}
 
@@ -23,18 +23,15 @@ unfolding run_length
 run_within run [] = zero-le
 run_within run (b ∷ bs) = onward_le (in_run run b) (run_length run bs) (length bs) (run_within run bs)
 
-module _ (run : Run) (s : List ℕ) (i : ℕ) where
-  pub run_turn : i < length s → in_run run (get_or s i 0) ≡ true → run_length run (drop i s) ≡ run_length run (drop (i + 1) s) + 1
-  unfolding run_length onward
-  run_turn h e = rw (add-one i, drop-cons s i 0 h) (simp e)
-
-  pub run_stop : i < length s → in_run run (get_or s i 0) ≡ false → run_length run (drop i s) ≡ 0
-  unfolding run_length onward
-  run_stop h e = rw (drop-cons s i 0 h) (simp e)
-
-  pub run_end : length s ≤ i → run_length run (drop i s) ≡ 0
-  unfolding run_length
-  run_end h = rw (drop_of_length-le s h)
+-- in std's words
+pub run_prefix : (run : Run) (s : List ℕ) → run_length run s ≡ prefix_len (in_run run) s
+unfolding run_length onward
+run_prefix run [] = refl
+run_prefix run (b ∷ bs) = go (in_run run b) (run_prefix run bs)
+  where
+    go : (t : Bool) {n m : ℕ} → n ≡ m → onward t n ≡ cond t (1 + m) 0
+    go true e = omega arith
+    go false e = refl
 
 -- ---- the bytes that a run goes over, and the byte at which it stops
 onward_first : (t : Bool) (n : ℕ) → 0 < onward t n → t ≡ true
@@ -65,26 +62,16 @@ run_stops run [] h = absurd (omega arith)
 run_stops run (b ∷ bs) h = stops_at run b bs (in_run run b) refl (run_length run bs) h (run_stops run bs)
 
 -- ---- a text at the front of another
-and_false : (t : Bool) → t && false ≡ false
-and_false true = refl
-and_false false = refl
+eqb_turned : (a b : ℕ) → eqb a b ≡ eqb b a
+eqb_turned a b = go (eqb a b) refl
+  where
+    go : (t : Bool) → eqb a b ≡ t → t ≡ eqb b a
+    go true e = sym (eq-eqb b a (sym (eqb-true a b e)))
+    go false e = sym (ne_eqb b a (λ q. eqb-false a b e (sym q)))
 
-pub begins_short : (s text : List ℕ) → length s < length text → begins_with s text ≡ false
+-- in std's words
+pub begins_starts : (s text : List ℕ) → starts_with eqb s text ≡ begins_with s text
 unfolding begins_with
-begins_short s [] h = absurd (omega arith)
-begins_short [] (x ∷ xs) h = refl
-begins_short (b ∷ bs) (x ∷ xs) h = rw (begins_short bs xs (omega arith)) (and_false (eqb b x))
-
-module _ (s text : List ℕ) (i : ℕ) where
-  pub begins_turn : i < length s → i < length text → get_or s i 0 ≡ get_or text i 0
-      → begins_with (drop i s) (drop i text) ≡ begins_with (drop (i + 1) s) (drop (i + 1) text)
-  unfolding begins_with
-  begins_turn h k e = rw (add-one i, drop-cons s i 0 h, drop-cons text i 0 k) (simp (eq-eqb (get_or s i 0) (get_or text i 0) e))
-
-  pub begins_differ : i < length s → i < length text → (get_or s i 0 ≡ get_or text i 0 → ⊥) → begins_with (drop i s) (drop i text) ≡ false
-  unfolding begins_with
-  begins_differ h k e = rw (drop-cons s i 0 h, drop-cons text i 0 k) (simp (ne_eqb (get_or s i 0) (get_or text i 0) e))
-
-  pub begins_end : length text ≤ i → begins_with (drop i s) (drop i text) ≡ true
-  unfolding begins_with
-  begins_end h = rw (drop_of_length-le text h)
+begins_starts s [] = refl
+begins_starts [] (x ∷ xs) = refl
+begins_starts (b ∷ bs) (x ∷ xs) = rw (begins_starts bs xs, eqb_turned x b)

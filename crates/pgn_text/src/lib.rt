@@ -11,7 +11,8 @@ pub enum Run {
     InLine,
 }
 
-// What stands at a place. A token has its first byte and as many more as its number says.
+// What stands at a place. A token has its first byte and as many more as its number says. LeftOpen and Unknown are tokens and no errors, since the walk of
+// specs/Walk.antt gives each token its meaning.
 #[derive(Clone, Copy)]
 pub enum Token {
     Passed(usize),

@@ -2,7 +2,7 @@
 -- Assumes nothing.
 use mathlib.Core.Path.{refl}
 use Rattle.answer.specs.Numbers.{same}
-use Rattle.position.specs.Layout.{moves_from, position_of}
+use Rattle.position.specs.Layout.{position_of}
 use Rattle.position.specs.Repeats.{equal, times}
 use Rattle.position.specs.AtSmallest.{EqualAtSmallest, BytesHold}
 

@@ -1,4 +1,5 @@
 pub mod AtSmallest
+pub mod Chunks
 pub mod Moves
 pub mod Fields
 pub mod Repeats

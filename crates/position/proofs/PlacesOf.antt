@@ -3,10 +3,11 @@
 use mathlib.Core.Path.{◌≡◌, refl, sym, ◌∙◌, ap}
 use mathlib.Core.Bool.{Bool, true, false, cond}
 use mathlib.Core.List.{List, [], ◌∷◌, ◌++◌, append-nil}
-use Prim.Native.Nat.{ℕ, zero, suc, ◌+◌, ◌*◌, ◌-◌, ◌<◌, ◌≤◌}
+use Prim.Native.Nat.{ℕ, zero, suc, ◌+◌, ◌*◌, ◌-◌, ◌<◌, ◌≤◌, max}
 use native.Mathlib.Omega.{arith}
 use lib.ListN.{length, length-append}
-use borrow.Author.Tests.{le-leb, lt-leb}
+use borrow.Author.Tests.{le-leb, lt-leb, leb-true, leb-false}
+use lib.Dec.{leb}
 use Rattle.position.specs.declared.Places.{Places}
 use Rattle.position.specs.Layout.{position_size, Position, position_at, positions_from}
 use Rattle.position.specs.Repeats.{equal, times}
@@ -34,30 +35,6 @@ times_most ps q first (suc k) = go (times_most ps q first k) (equal (position_at
     go h true = omega (arith, h)
     go h false = omega (arith, h)
 
--- one more number at the end, by how many there were
-module _ (i : ℕ) (f : Places) where
-  pub told_other : (l : List ℕ) (t : Bool) → f ≡ places_told l → t ≡ false → f ≡ places_told (l ++ cond t (i ∷ []) [])
-  told_other l t is e = rw (e, append-nil l) is
-
-  pub told_first : (l : List ℕ) (t : Bool) → f ≡ places_told l → t ≡ true → f.count ≡ 0
-      → record { count = 1; first = i; second = 0 } ≡ places_told (l ++ cond t (i ∷ []) [])
-  told_first [] t is e h = rw e refl
-  told_first (x ∷ l) t is e h = absurd (omega (arith, rw is at h))
-
-  pub told_second : (l : List ℕ) (t : Bool) → f ≡ places_told l → t ≡ true → f.count ≡ 1
-      → record { count = 2; first = f.first; second = i } ≡ places_told (l ++ cond t (i ∷ []) [])
-  told_second [] t is e h = absurd (omega (arith, rw is at h))
-  told_second (x ∷ []) t is e h = rw (e, is) refl
-  told_second (x ∷ y ∷ l) t is e h = absurd (omega (arith, rw is at h))
-
-  pub told_more : (l : List ℕ) (t : Bool) → f ≡ places_told l → t ≡ true → 2 ≤ f.count
-      → record { count = f.count + 1; first = f.first; second = f.second } ≡ places_told (l ++ cond t (i ∷ []) [])
-  told_more [] t is e h = absurd (omega (arith, rw is at h))
-  told_more (x ∷ []) t is e h = absurd (omega (arith, rw is at h))
-  told_more (x ∷ y ∷ l) t is e h =
-      let more : suc (suc (length l)) + 1 ≡ suc (suc (length l + 1)) = omega arith in
-      rw (e, is, length-append l (i ∷ []), more) refl
-
 -- the numbers of those from first up to i that equal q
 abbrev pub numbers : List ℕ → Position → ℕ → ℕ → List ℕ
 numbers ps q first i = places_of q i (positions_from ps first (i - first))
@@ -74,6 +51,10 @@ module _ (ps : List ℕ) (q : Position) (first i : ℕ) where
   pub told_next : (r : Places) (t : Bool) → first ≤ i → equal (position_at ps i) q ≡ t
       → r ≡ places_told (numbers ps q first i ++ cond t (i ∷ []) []) → r ≡ places_told (numbers ps q first (i + 1))
   told_next r t h e is = is ∙ ap places_told (sym (rw e at (numbers_next h)))
+
+  pub told_same : (r : Places) → first ≤ i → equal (position_at ps i) q ≡ false
+      → r ≡ places_told (numbers ps q first i) → r ≡ places_told (numbers ps q first (i + 1))
+  told_same r h e is = told_next r false h e (is ∙ ap places_told (sym (append-nil (numbers ps q first i))))
 
   -- no more of them than positions, so that the count fits
   pub told_most : (f : Places) → f ≡ places_told (numbers ps q first i) → f.count ≤ i - first
@@ -98,3 +79,15 @@ module _ (ps : List ℕ) (first last : ℕ) where
   pub no_places : position_size * last + position_size ≤ length ps → last < first → equal_places ps first last ≡ places_told []
   unfolding places_of positions_from
   no_places h less = let e : last - first ≡ 0 = omega arith in places_there h ∙ rw e refl
+
+  pub told_all : (i : ℕ) (r : Places) → position_size * last + position_size ≤ length ps → last ≤ i → first ≤ i → i ≤ max first last
+      → r ≡ places_told (numbers ps (position_at ps last) first i) → r ≡ equal_places ps first last
+  told_all i r h end low high is = go (leb first last) refl
+    where
+      go : (t : Bool) → leb first last ≡ t → r ≡ equal_places ps first last
+      go true e = let f : i ≡ last = omega (arith, leb-true first last e) in rw f at is ∙ sym (places_there h)
+      go false e =
+          let f : i ≡ first = omega (arith, leb-false first last e) in
+          rw f at is
+          ∙ sym (told_none ps (position_at ps last) first)
+          ∙ sym (no_places h (omega (arith, leb-false first last e)))

@@ -9,7 +9,7 @@ use lib.Dec.{leb}
 use lib.ListN.{length}
 use Rattle.answer.specs.Parts.{item}
 use Rattle.position.specs.Layout.{position_size, Position, position_of, position_at, positions_from}
-use borrow.Author.Tests.{le-leb, lt-leb}
+use borrow.Author.Tests.{le-leb, lt-leb, leb-true, leb-false}
 use Rattle.position.specs.Repeats.{equal, times, equals_two_earlier}
 
 -- how many positions of the part, from first up to i, equal q
@@ -89,3 +89,17 @@ module _ (ps : List ℕ) (first last : ℕ) where
   pub none_earlier : position_size * last + position_size ≤ length ps → last < first → equals_two_earlier ps first last ≡ false
   unfolding times positions_from
   none_earlier h less = let e : last - first ≡ 0 = omega arith in there h ∙ rw e refl
+
+  -- the two answers of the search over what lies in the part
+  pub one_there : (i : ℕ) → position_size * last + position_size ≤ length ps → last ≤ i → (first ≤ last → i ≤ last)
+      → earlier ps (position_at ps last) first i ≤ 1 → equals_two_earlier ps first last ≡ false
+  one_there i h end within few = go (leb first last) refl
+    where
+      go : (t : Bool) → leb first last ≡ t → equals_two_earlier ps first last ≡ false
+      go true e = there h ∙ one_found ps (position_at ps last) first i last (omega (arith, within (leb-true first last e))) few
+      go false e = none_earlier h (omega (arith, leb-false first last e))
+
+  pub two_there : (i j : ℕ) → position_size * last + position_size ≤ length ps → first ≤ j → j < i → i < last
+      → equal (position_at ps j) (position_at ps last) ≡ true → equal (position_at ps i) (position_at ps last) ≡ true
+      → equals_two_earlier ps first last ≡ true
+  two_there i j h low apart high ej ei = there h ∙ le-leb 2 _ (two_found ps (position_at ps last) first i j last low apart high ej ei)

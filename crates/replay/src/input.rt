@@ -1,21 +1,18 @@
 // Standard input, line by line.
-ghost use Rattle.std.specs.Prelude.{◌≤◌, length};
+ghost use Rattle.std.specs.Prelude.{◌<◌, ◌≤◌, IfSome, length};
 
 use std::io::Read;
 
-// The bytes of the block from `at` to `end` are still to be read.
-#[derive(Clone, Copy)]
-pub(crate) struct Input {
-    pub at: usize,
-    pub end: usize,
-}
+const BLOCK: usize = 65_536;
 
-#[derive(Clone, Copy)]
-pub(crate) struct Line {
-    pub input: Input,
-    pub length: usize,
-    // whether the line was ended by a newline, which its length does not count
-    pub ended: bool,
+#[derive(Drop)]
+pub(crate) struct Input<S> {
+    source: S,
+    // the bytes from `at` to `end` are still to be read; std's BufReader would keep them on a heap, and there is none
+    block: [u8; BLOCK],
+    at: usize,
+    end: usize,
+    ghost within: { (at ≤ end) × (end ≤ 65536) },
 }
 
 // Reads until the block is full, the input ends or a read fails, and answers how many bytes came.
@@ -23,6 +20,7 @@ fn read_full(source: &mut impl Read, block: &mut [u8]) -> usize
     ensures { result ≤ length block.old }
 {
     let mut done: usize = 0;
+    // a cursor: each read brings as many bytes as it likes
     while done < block.len() {
         let more = source.read(&mut block[done..]).unwrap_or(0);
         if more == 0 {
@@ -33,58 +31,41 @@ fn read_full(source: &mut impl Read, block: &mut [u8]) -> usize
     done
 }
 
-// One more block, if all of the last one has been read.
-fn refill(source: &mut impl Read, block: &mut [u8], input: Input) -> Input
-    requires { (input.at ≤ input.end) × (input.end ≤ length block.old) }
-    ensures { (result.at ≤ result.end) × (result.end ≤ length block.old) }
-{
-    if input.at < input.end {
-        return input;
+impl<S: Read> Input<S> {
+    pub(crate) fn new(source: S) -> Input<S> {
+        Input {
+            source,
+            block: [0; BLOCK],
+            at: 0,
+            end: 0,
+        }
     }
-    Input {
-        at: 0,
-        end: read_full(source, block),
-    }
-}
 
-// Reads up to the next newline into the front of `line`, up to the input's end, or until `line` is full.
-pub(crate) fn read_line(
-    source: &mut impl Read,
-    block: &mut [u8],
-    line: &mut [u8],
-    input: Input,
-) -> Line
-    requires { (input.at ≤ input.end) × (input.end ≤ length block.old) }
-    ensures place { (result.input.at ≤ result.input.end) × (result.input.end ≤ length block.old) }
-    ensures most { result.length ≤ length line.old }
-{
-    let mut from = input;
-    let mut n: usize = 0;
-    while n < line.len() {
-        from = refill(source, block, from);
-        let at = from.at;
-        if at == from.end {
-            return Line {
-                input: from,
-                length: n,
-                ended: false,
-            };
+    fn next_byte(&mut self) -> Option<u8> {
+        if self.at == self.end {
+            self.at = 0;
+            self.end = read_full(&mut self.source, &mut self.block);
         }
-        from.at = at + 1;
-        let b = block[at];
-        if b == b'\n' {
-            return Line {
-                input: from,
-                length: n,
-                ended: true,
-            };
+        if self.at < self.end {
+            let b = self.block[self.at];
+            self.at += 1;
+            Some(b)
+        } else {
+            None
         }
-        line[n] = b;
-        n += 1;
     }
-    Line {
-        input: from,
-        length: n,
-        ended: false,
+
+    // Reads up to the next newline into the front of `line`. None: the input ends before it, or `line` is full.
+    pub(crate) fn read_line(&mut self, line: &mut [u8]) -> Option<usize>
+        ensures { IfSome result (λ n. n ≤ length line.old) }
+    {
+        for (n, place) in line.iter_mut().enumerate() {
+            let b = self.next_byte()?;
+            if b == b'\n' {
+                return Some(n);
+            }
+            *place = b;
+        }
+        None
     }
 }

@@ -1,269 +1,124 @@
 // The lines of a script that play the game log: its calls and queries, and what is set up for them.
-use crate::run::{
-    Given, Run, bad_line, called, moved_to, put, put_answer, put_number, read_position, unpoked,
-    with_number,
-};
-use crate::{part, text};
+use crate::part;
+use crate::run::{Poke, Run, counted, poked};
+use crate::text::Line;
 use action::ACTION_SIZE;
 use game_rules::{MAX_ACTIONS, MAX_MOVES};
-use laws::Ruled;
 use position::POSITION_SIZE;
 
-fn start(
-    rt: &impl Print,
-    line: &[u8],
-    acts: &[u8],
-    ps: &mut [u8],
-    list: &mut [u16],
-    run: Run,
-) -> Run {
-    let g = read_position(line, 1, list);
-    let next = unpoked(run);
-    if !g.is_read {
-        return bad_line(rt, next);
+impl<'a, R: Print> Run<'a, R> {
+    fn start(&mut self, line: Line, acts: &[u8], ps: &mut [u8]) -> Option<()> {
+        let poke = self.poke.take();
+        let g = self.read_position(line, 1)?;
+        let board = poked(g.board, poke);
+        let c = game::start(acts, ps, board, g.in_check, &self.list[..g.listed]);
+        self.called(c);
+        Some(())
     }
-    let listed = g.listed;
-    let board = with_number(g.board, run.poked, run.poke);
-    called(
-        rt,
-        next,
-        game::start(acts, ps, board, g.in_check, &list[..listed]),
-    )
-}
 
-fn move_to(
-    rt: &impl Print,
-    acts: &mut [u8],
-    ps: &mut [u8],
-    list: &[u16],
-    run: Run,
-    m: u64,
-    g: Given,
-) -> Run {
-    let in_check = g.in_check;
-    let board = moved_to(g, ps, run, m);
-    called(
-        rt,
-        unpoked(run),
-        game::make_move(acts, ps, run.actions, run.moves, m, board, in_check, list),
-    )
-}
+    fn make_move(&mut self, line: Line, acts: &mut [u8], ps: &mut [u8]) -> Option<()> {
+        let poke = self.poke.take();
+        let x = line.number(1);
+        let g = self.read_position(line, 2)?;
+        let x = x?;
+        let (n, m) = (self.actions, self.moves);
+        let board = poked(counted(g, ps, m, x), poke);
+        let list = &self.list[..g.listed];
+        let c = game::make_move(acts, ps, n, m, x, board, g.in_check, list);
+        self.called(c);
+        Some(())
+    }
 
-fn make_move(
-    rt: &impl Print,
-    line: &[u8],
-    acts: &mut [u8],
-    ps: &mut [u8],
-    list: &mut [u16],
-    run: Run,
-) -> Run {
-    let x = text::read_number(text::word(line, 1));
-    let g = read_position(line, 2, list);
-    if !x.is_read {
-        return bad_line(rt, unpoked(run));
+    fn put_queries(&self, acts: &[u8], ps: &[u8]) {
+        let (n, m) = (self.actions, self.moves);
+        self.put_answer(game::result(acts, ps, n, m));
+        self.put(b" ");
+        self.put_answer(game::can_declare_draw(acts, ps, n, m));
+        self.put(b"\n");
     }
-    if !g.is_read {
-        return bad_line(rt, unpoked(run));
-    }
-    let listed = g.listed;
-    move_to(rt, acts, ps, &list[..listed], run, x.value, g)
-}
 
-fn offer_draw(rt: &impl Print, line: &[u8], acts: &mut [u8], ps: &[u8], run: Run) -> Run {
-    let colour = text::read_byte(text::word(line, 1));
-    if !colour.is_read {
-        return bad_line(rt, run);
+    fn put_laws(&self, acts: &[u8], ps: &[u8]) {
+        let (n, m) = (self.actions, self.moves);
+        self.put_answer(laws::can_claim(acts, ps, n, m));
+        let r = laws::ruling(acts, ps, n, m);
+        let _ = print!(self.rt; " {} {} {} {}", r.number, r.count, r.laws_count, r.equals);
+        let _ = print!(self.rt; " {} {} {} {}\n", r.first, r.second, r.claim, r.laws_claim);
     }
-    called(
-        rt,
-        run,
-        game::offer_draw(acts, ps, run.actions, run.moves, colour.value),
-    )
-}
 
-fn resign(rt: &impl Print, line: &[u8], acts: &mut [u8], ps: &[u8], run: Run) -> Run {
-    let colour = text::read_byte(text::word(line, 1));
-    if !colour.is_read {
-        return bad_line(rt, run);
+    fn put_checksums(&self, acts: &[u8], ps: &[u8]) {
+        let _ = print!(self.rt; "{} {}\n", part::checksum(acts), part::checksum(ps));
     }
-    called(
-        rt,
-        run,
-        game::resign(acts, ps, run.actions, run.moves, colour.value),
-    )
-}
 
-fn put_queries(rt: &impl Print, acts: &[u8], ps: &[u8], run: Run) -> Run {
-    put_answer(rt, game::result(acts, ps, run.actions, run.moves));
-    put(rt, b" ");
-    put_answer(rt, game::can_declare_draw(acts, ps, run.actions, run.moves));
-    put(rt, b"\n");
-    run
-}
+    fn set_counts(&mut self, line: Line) -> Option<()> {
+        let actions = line.number(1)?;
+        let moves = line.number(2)?;
+        self.actions = actions;
+        self.moves = moves;
+        Some(())
+    }
 
-fn put_next(rt: &impl Print, n: u64) {
-    put(rt, b" ");
-    put_number(rt, n);
-}
+    fn lend(&mut self, line: Line) -> Option<()> {
+        let actions = line.number(1)?;
+        let positions = line.number(2)?;
+        self.actions_lent = actions as usize;
+        self.positions_lent = positions as usize;
+        Some(())
+    }
 
-fn put_ruling(rt: &impl Print, r: Ruled) {
-    put_next(rt, r.number);
-    put_next(rt, r.count);
-    put_next(rt, r.laws_count);
-    put_next(rt, r.equals);
-    put_next(rt, r.first);
-    put_next(rt, r.second);
-    put_next(rt, r.claim);
-    put_next(rt, r.laws_claim);
-}
+    fn set_poke(&mut self, line: Line) -> Option<()> {
+        let at = line.byte(1)? as usize;
+        let value = line.short(2)?;
+        self.poke = Some(Poke { at, value });
+        Some(())
+    }
 
-fn put_laws(rt: &impl Print, acts: &[u8], ps: &[u8], run: Run) -> Run {
-    put_answer(rt, laws::can_claim(acts, ps, run.actions, run.moves));
-    put_ruling(rt, laws::ruling(acts, ps, run.actions, run.moves));
-    put(rt, b"\n");
-    run
-}
+    fn fill(&self, line: Line, acts: &mut [u8], ps: &mut [u8]) -> Option<()> {
+        let value = line.byte(1)?;
+        let actions = self.actions.min(MAX_ACTIONS as u64) as usize;
+        let moves = self.moves.min(MAX_MOVES as u64) as usize;
+        part::fill(acts, ACTION_SIZE * actions, value);
+        part::fill(ps, POSITION_SIZE * (moves + 1), value);
+        Some(())
+    }
 
-fn put_checksums(rt: &impl Print, acts: &[u8], ps: &[u8], run: Run) -> Run {
-    put_number(rt, part::checksum(acts));
-    put(rt, b" ");
-    put_number(rt, part::checksum(ps));
-    put(rt, b"\n");
-    run
-}
+    // What only the program itself looks at, on the whole parts. None: the line is not understood.
+    pub(crate) fn set_up(&mut self, line: Line, acts: &mut [u8], ps: &mut [u8]) -> Option<()> {
+        match line.letter {
+            b't' => self.put_checksums(acts, ps),
+            b'c' => self.set_counts(line)?,
+            b'b' => set_byte(line, acts, ps)?,
+            b'l' => self.lend(line)?,
+            b'f' => self.fill(line, acts, ps)?,
+            _ => self.set_poke(line)?,
+        }
+        Some(())
+    }
 
-fn set_counts(rt: &impl Print, line: &[u8], run: Run) -> Run {
-    let actions = text::read_number(text::word(line, 1));
-    let moves = text::read_number(text::word(line, 2));
-    if !actions.is_read {
-        return bad_line(rt, run);
-    }
-    if !moves.is_read {
-        return bad_line(rt, run);
-    }
-    let mut next = run;
-    next.actions = actions.value;
-    next.moves = moves.value;
-    next
-}
-
-fn lend(rt: &impl Print, line: &[u8], run: Run) -> Run {
-    let actions = text::read_number(text::word(line, 1));
-    let positions = text::read_number(text::word(line, 2));
-    if !actions.is_read {
-        return bad_line(rt, run);
-    }
-    if !positions.is_read {
-        return bad_line(rt, run);
-    }
-    let mut next = run;
-    next.actions_lent = actions.value;
-    next.positions_lent = positions.value;
-    next
-}
-
-fn poke(rt: &impl Print, line: &[u8], run: Run) -> Run {
-    let at = text::read_byte(text::word(line, 1));
-    let value = text::read_number(text::word(line, 2));
-    if !at.is_read {
-        return bad_line(rt, run);
-    }
-    if !value.is_read {
-        return bad_line(rt, run);
-    }
-    if 65_535 < value.value {
-        return bad_line(rt, run);
-    }
-    let mut next = run;
-    next.poked = at.value as usize;
-    next.poke = value.value as u16;
-    next
-}
-
-// Sets a byte of the part that a word names. False: there is no such part or byte.
-fn set_in(part: &[u8], acts: &mut [u8], ps: &mut [u8], offset: u64, value: u8) -> bool {
-    if answer::same_bytes(part, b"a") {
-        return part::set(acts, offset, value);
-    }
-    if answer::same_bytes(part, b"p") {
-        return part::set(ps, offset, value);
-    }
-    false
-}
-
-fn set_byte(rt: &impl Print, line: &[u8], acts: &mut [u8], ps: &mut [u8], run: Run) -> Run {
-    let offset = text::read_number(text::word(line, 2));
-    let value = text::read_byte(text::word(line, 3));
-    if !offset.is_read {
-        return bad_line(rt, run);
-    }
-    if !value.is_read {
-        return bad_line(rt, run);
-    }
-    if !set_in(text::word(line, 1), acts, ps, offset.value, value.value) {
-        return bad_line(rt, run);
-    }
-    run
-}
-
-fn fill(rt: &impl Print, line: &[u8], acts: &mut [u8], ps: &mut [u8], run: Run) -> Run {
-    let value = text::read_byte(text::word(line, 1));
-    if !value.is_read {
-        return bad_line(rt, run);
-    }
-    part::fill(
-        acts,
-        ACTION_SIZE * part::at_most(run.actions, MAX_ACTIONS),
-        value.value,
-    );
-    part::fill(
-        ps,
-        POSITION_SIZE * (part::at_most(run.moves, MAX_MOVES) + 1),
-        value.value,
-    );
-    run
-}
-
-// What only the program itself looks at, on the whole parts.
-pub(crate) fn set_up(
-    rt: &impl Print,
-    line: &[u8],
-    acts: &mut [u8],
-    ps: &mut [u8],
-    run: Run,
-) -> Run {
-    match text::letter(line) {
-        b't' => put_checksums(rt, acts, ps, run),
-        b'c' => set_counts(rt, line, run),
-        b'b' => set_byte(rt, line, acts, ps, run),
-        b'l' => lend(rt, line, run),
-        b'f' => fill(rt, line, acts, ps, run),
-        b'k' => poke(rt, line, run),
-        _ => bad_line(rt, run),
+    // Calls and queries, on the bytes that are lent. None: the line is not understood.
+    pub(crate) fn call(&mut self, line: Line, acts: &mut [u8], ps: &mut [u8]) -> Option<()> {
+        let (n, m) = (self.actions, self.moves);
+        let colour = line.byte(1);
+        match line.letter {
+            b's' => self.start(line, acts, ps)?,
+            b'm' => self.make_move(line, acts, ps)?,
+            b'o' => self.called(game::offer_draw(acts, ps, n, m, colour?)),
+            b'r' => self.called(game::resign(acts, ps, n, m, colour?)),
+            b'a' => self.called(game::accept_draw(acts, ps, n, m)),
+            b'd' => self.called(game::declare_draw(acts, ps, n, m)),
+            b'L' => self.put_laws(acts, ps),
+            _ => self.put_queries(acts, ps),
+        }
+        Some(())
     }
 }
 
-// Calls and queries, on the bytes that are lent.
-pub(crate) fn call(
-    rt: &impl Print,
-    line: &[u8],
-    acts: &mut [u8],
-    ps: &mut [u8],
-    list: &mut [u16],
-    run: Run,
-) -> Run {
-    match text::letter(line) {
-        b's' => start(rt, line, acts, ps, list, run),
-        b'm' => make_move(rt, line, acts, ps, list, run),
-        b'o' => offer_draw(rt, line, acts, ps, run),
-        b'r' => resign(rt, line, acts, ps, run),
-        b'a' => called(rt, run, game::accept_draw(acts, ps, run.actions, run.moves)),
-        b'd' => called(
-            rt,
-            run,
-            game::declare_draw(acts, ps, run.actions, run.moves),
-        ),
-        b'L' => put_laws(rt, acts, ps, run),
-        _ => put_queries(rt, acts, ps, run),
+// Sets a byte of the part that a word names, if there is such a part and byte.
+fn set_byte(line: Line, acts: &mut [u8], ps: &mut [u8]) -> Option<()> {
+    let offset = line.number(2)?;
+    let value = line.byte(3)?;
+    match line.word(1) {
+        b"a" => part::set(acts, offset, value),
+        b"p" => part::set(ps, offset, value),
+        _ => None,
     }
 }

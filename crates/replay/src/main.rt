@@ -32,154 +32,65 @@ mod texts;
 
 ghost use Rattle.std.specs.Prelude.{◌≤◌, length};
 
-use board_builder::BoardBuilder;
 use game_rules::{ACTIONS_LENGTH, POSITIONS_LENGTH};
 use input::Input;
 use run::Run;
 use std::io::Read;
+use text::Line;
 
 // Bytes behind each part that a call must not touch.
 const SPARE: usize = 100;
 
-// One more entry than a list may have, so that 6 can be seen.
-const LONGEST_LIST: usize = 256;
-
-const BLOCK: usize = 65_536;
-
 const LONGEST_LINE: usize = 8_192;
 
-fn play(
-    rt: &impl Print,
-    line: &[u8],
-    acts: &mut [u8],
-    ps: &mut [u8],
-    list: &mut [u16],
-    run: Run,
-) -> Run {
-    if text::is_heading(line) {
-        run::put(rt, line);
-        run::put(rt, b"\n");
-        return run;
+impl<'a, R: Print> Run<'a, R> {
+    // None: the line is not understood.
+    fn play_asked(&mut self, text: &[u8], acts: &mut [u8], ps: &mut [u8]) -> Option<()> {
+        let line = Line::read(text)?;
+        match line.letter {
+            b'F' | b'G' | b'A' | b'C' | b'p' | b'S' | b'N' => self.ask(line),
+            b't' | b'c' | b'b' | b'l' | b'f' | b'k' => self.set_up(line, acts, ps),
+            _ => {
+                let a = self.actions_lent.min(acts.len());
+                let p = self.positions_lent.min(ps.len());
+                self.call(line, &mut acts[..a], &mut ps[..p])
+            }
+        }
     }
-    if !text::has_its_words(line) {
-        return run::bad_line(rt, run);
-    }
-    if text::is_text(line) {
-        return texts::ask(rt, line, list, run);
-    }
-    if !text::is_call(line) {
-        return log::set_up(rt, line, acts, ps, run);
-    }
-    let a = part::at_most(run.actions_lent, acts.len());
-    let p = part::at_most(run.positions_lent, ps.len());
-    log::call(rt, line, &mut acts[..a], &mut ps[..p], list, run)
-}
 
-fn first_run() -> Run {
-    Run {
-        actions: 0,
-        moves: 0,
-        actions_lent: ACTIONS_LENGTH as u64,
-        positions_lent: POSITIONS_LENGTH as u64,
-        poked: run::NOT_POKED,
-        poke: 0,
-        board: BoardBuilder::new(),
-        listed: 0,
-    }
-}
-
-// One line and what came of it. The run stops at the input's end, and at a line that has no newline or is longer than its room.
-#[derive(Clone, Copy)]
-struct Turn {
-    goes_on: bool,
-    input: Input,
-    run: Run,
-}
-
-fn play_next(
-    rt: &impl Print,
-    source: &mut impl Read,
-    block: &mut [u8],
-    line: &mut [u8],
-    acts: &mut [u8],
-    ps: &mut [u8],
-    list: &mut [u16],
-    input: Input,
-    run: Run,
-) -> Turn
-    requires { (input.at ≤ input.end) × (input.end ≤ length block.old) }
-    ensures { (result.input.at ≤ result.input.end) × (result.input.end ≤ length block.old) }
-{
-    let read = input::read_line(source, block, line, input);
-    let left = read.input;
-    if !read.ended {
-        return Turn {
-            goes_on: false,
-            input: left,
-            run,
-        };
-    }
-    let n = read.length;
-    let next = play(rt, &line[..n], acts, ps, list, run);
-    Turn {
-        goes_on: true,
-        input: left,
-        run: next,
-    }
-}
-
-// A proved loop ends, and nothing says that an input does: the lines are counted down from a number that no input uses up.
-fn play_all(
-    rt: &impl Print,
-    source: &mut impl Read,
-    block: &mut [u8],
-    line: &mut [u8],
-    acts: &mut [u8],
-    ps: &mut [u8],
-    list: &mut [u16],
-) {
-    let mut run = first_run();
-    let mut from = Input { at: 0, end: 0 };
-    let mut turns = u64::MAX;
-    while 0 < turns {
-        turns -= 1;
-        let turn = play_next(rt, source, block, line, acts, ps, list, from, run);
-        from = turn.input;
-        run = turn.run;
-        if !turn.goes_on {
-            return;
+    fn play(&mut self, line: &[u8], acts: &mut [u8], ps: &mut [u8]) {
+        if text::is_heading(line) {
+            self.put(line);
+            self.put(b"\n");
+        } else if self.play_asked(line, acts, ps).is_none() {
+            self.put(b"bad line\n");
         }
     }
 }
 
-// A slice of a parameter's array has the length that its type says. For an array that is made where the slice is, the prover would count the zeros one by
-// one, and 2.4 million are more than it can (docs/DECISIONS.md).
+// The run stops at the input's end, and at a line that has no newline or is longer than its room. A proved loop ends, and nothing says that an input does:
+// there are more turns than any input uses up. A slice of a parameter's array has the length that its type says. For an array that is made where the slice
+// is, the prover would count the zeros one by one, and 2.4 million are more than it can (docs/DECISIONS.md).
 fn play_on(
-    rt: &impl Print,
+    run: &mut Run<impl Print>,
     source: &mut impl Read,
-    block: &mut [u8; BLOCK],
-    line: &mut [u8; LONGEST_LINE],
     actions: &mut [u8; ACTIONS_LENGTH + SPARE],
     positions: &mut [u8; POSITIONS_LENGTH + SPARE],
-    moves: &mut [u16; LONGEST_LIST],
 ) {
-    play_all(rt, source, block, line, actions, positions, moves);
+    let mut input = Input::new(source);
+    let mut line = [0u8; LONGEST_LINE];
+    for _ in 0..u64::MAX {
+        let Some(n) = input.read_line(&mut line) else {
+            return;
+        };
+        run.play(&line[..n], actions, positions);
+    }
 }
 
 fn main(rt: HostRuntime) {
     let mut source = rt.stdin();
-    let mut block = [0u8; BLOCK];
-    let mut line = [0u8; LONGEST_LINE];
     let mut actions = [0u8; ACTIONS_LENGTH + SPARE];
     let mut positions = [0u8; POSITIONS_LENGTH + SPARE];
-    let mut moves = [0u16; LONGEST_LIST];
-    play_on(
-        &rt,
-        &mut source,
-        &mut block,
-        &mut line,
-        &mut actions,
-        &mut positions,
-        &mut moves,
-    );
+    let mut run = Run::new(&rt);
+    play_on(&mut run, &mut source, &mut actions, &mut positions);
 }

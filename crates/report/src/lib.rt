@@ -8,12 +8,13 @@ mod sets;
 
 ghost use Rattle.std.specs.Prelude.{◌≡◌, List, ℕ, length};
 ghost use Rattle.report_text.specs.Report.{most_lines, refused_report, figures, report_answer, report_records, report_told};
-ghost use Rattle.report.specs.CodeRooms.{Rooms, Filled};
+ghost use Rattle.report.specs.CodeRooms.{Filled};
 
 use answer::LOG_FULL;
 use fen_reader::lines::line_count;
 use fen_reader::page::read_page;
 use report_text::{MOST_LINES, Report};
+use rooms::Page;
 
 fn refused(number: u64, lines: u64) -> Report
     ensures { result ≡ refused_report number lines }
@@ -28,19 +29,18 @@ fn refused(number: u64, lines: u64) -> Report
     }
 }
 
-fn figures_of(records: &[u8], told: &[u64], lines: usize) -> Report
-    requires { Rooms records.now told.now lines }
-    ensures { (ls : List (List ℕ)) → Filled ls records.now told.now lines → result ≡ figures ls }
+fn figures_of(page: Page) -> Report
+    ensures { (ls : List (List ℕ)) → Filled ls page.entry.records.now page.entry.told.now page.entry.lines → result ≡ figures ls }
 {
     let mut sums = [0u64; 12];
     let mut buckets = [0u16; MOST_LINES];
-    let accepted = men::sum_lines(records, told, lines, &mut sums, &mut buckets);
-    let repeated = repeats::repeats(records, told, lines, &buckets);
+    let accepted = men::sum_lines(page, &mut sums, &mut buckets);
+    let repeated = repeats::repeats(page, &buckets);
     Report {
         number: 0,
-        lines: lines as u64,
+        lines: page.lines as u64,
         accepted,
-        refused: lines as u64 - accepted,
+        refused: page.lines as u64 - accepted,
         men: sums,
         repeated,
     }
@@ -61,5 +61,9 @@ pub fn report(text: &[u8], records: &mut [u8], told: &mut [u64]) -> Report
     if page.number != 0 {
         return refused(page.number, page.value);
     }
-    figures_of(records, told, lines)
+    figures_of(Page {
+        records,
+        told,
+        lines,
+    })
 }

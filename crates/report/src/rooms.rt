@@ -1,14 +1,22 @@
-// The room of records: the 68 bytes of each line.
-ghost use Rattle.std.specs.Prelude.{◌≡◌, ◌+◌, ◌*◌, ◌≤◌, length};
-ghost use Rattle.board_builder.specs.BoardBuilder.{record_size};
-ghost use Rattle.report.specs.CodeRooms.{record_at};
+// The two rooms of a page: the 68 bytes of each line's record, and each line's answer and offset.
+ghost use Rattle.std.specs.Prelude.{◌≡◌, ◌<◌};
+ghost use Rattle.report.specs.CodeRooms.{Rooms, record_at};
 
 use board_builder::RECORD_SIZE;
 
-pub(crate) fn record_at(records: &[u8], k: usize) -> &[u8]
-    requires { record_size * k + record_size ≤ length records.now }
-    ensures { result.now ≡ record_at records.now k }
-{
-    let at = RECORD_SIZE * k;
-    answer::front(answer::rest(records, at), RECORD_SIZE)
+#[derive(Clone, Copy)]
+pub struct Page<'a> {
+    pub records: &'a [u8],
+    pub told: &'a [u64],
+    pub lines: usize,
+    ghost rooms: { Rooms records.now told.now lines },
+}
+
+impl<'a> Page<'a> {
+    pub(crate) fn record_at(self, k: usize) -> &'a [u8]
+        requires { k < self.lines }
+        ensures { result.now ≡ record_at self.entry.records.now k }
+    {
+        answer::front(answer::rest(self.records, RECORD_SIZE * k), RECORD_SIZE)
+    }
 }

@@ -15,20 +15,17 @@ const LOWEST: u64 = 0x1111_1111_1111_1111;
 
 const ALL: u64 = 0xFFFF_FFFF_FFFF_FFFF;
 
-fn wide(x: u8) -> u64
-    ensures { result ≡ x }
-{
-    x as u64
-}
-
 pub(crate) fn four_bytes(numbers: &[u8], at: usize) -> u64
     requires { at + 4 ≤ length numbers.now }
     ensures value { result ≡ bytes_at numbers.now at }
     ensures small { result < 2 ^ 32 }
 {
-    wide(numbers[at])
-        + 256
-            * (wide(numbers[at + 1]) + 256 * (wide(numbers[at + 2]) + 256 * wide(numbers[at + 3])))
+    u64::from(u32::from_le_bytes([
+        numbers[at],
+        numbers[at + 1],
+        numbers[at + 2],
+        numbers[at + 3],
+    ]))
 }
 
 // The eight codes of a rank, a byte each.

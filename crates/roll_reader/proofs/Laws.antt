@@ -4,28 +4,25 @@ use mathlib.Core.Path.{◌≡◌, refl, ap, sym, ◌∙◌}
 use mathlib.Core.List.{List, [], ◌∷◌}
 use Prim.Native.Nat.{ℕ, zero, suc, ◌+◌, ◌*◌, ◌%◌, ◌-◌, ◌≤◌, ◌<◌}
 use native.Mathlib.Omega.{arith}
-use lib.ListN.{length, drop, get_or, set, replicate, get_or-replicate, get_or-append}
+use lib.ListN.{length, drop, get_or, replicate, get_or-replicate, get_or-append}
+use Rattle.std.specs.Prelude.{Some, None}
 use Rattle.roll_text.specs.Roll.{largest_numbers}
-use Rattle.answer.specs.Parts.{written}
-use Rattle.answer.proofs.Parts.{set_written, written_next}
-use Rattle.roll_text.specs.declared.Number.{Number}
-use Rattle.roll_text.specs.declared.Number.TheVariants.{Got, Bad}
-use Rattle.roll_text.specs.Number.{reach, behind, read_groups}
+use Rattle.roll_text.specs.Number.{Number, reach, behind, read_groups}
 use Rattle.roll_text.proofs.Numbers.{read_last, read_more, behind_some, behind_none, within}
 
 -- ---- numbers read
 
-pub none_left_lem : (k : ℕ) (s : List ℕ) → k ≡ 0 → Bad ≡ read_groups k s
+pub none_left_lem : (k : ℕ) (s : List ℕ) → k ≡ 0 → None ≡ read_groups k s
 unfolding read_groups
 none_left_lem k s h = rw h refl
 
-pub none_there : (k : ℕ) (s : List ℕ) → length s ≡ 0 → Bad ≡ read_groups k s
+pub none_there : (k : ℕ) (s : List ℕ) → length s ≡ 0 → None ≡ read_groups k s
 unfolding read_groups
 none_there zero s h = refl
 none_there (suc k) [] h = refl
 none_there (suc k) (b ∷ bs) h = absurd (omega arith)
 
-pub last_group : (k : ℕ) (s : List ℕ) → (k ≡ 0 → ⊥) → (length s ≡ 0 → ⊥) → get_or s 0 0 < 128 → Got (get_or s 0 0) 1 ≡ read_groups k s
+pub last_group : (k : ℕ) (s : List ℕ) → (k ≡ 0 → ⊥) → (length s ≡ 0 → ⊥) → get_or s 0 0 < 128 → Some (get_or s 0 0, 1) ≡ read_groups k s
 last_group zero s h l b = absurd (h refl)
 last_group (suc k) [] h l b = absurd (l refl)
 last_group (suc k) (x ∷ xs) h l b = sym (read_last k x xs b)
@@ -41,13 +38,13 @@ module _ (k : ℕ) (s t : List ℕ) (more : Number) (some : k ≡ 0 → ⊥) (th
   on : read_groups k s ≡ behind (get_or s 0 0 % 128) more
   on = more_groups k s some there big ∙ ap (behind (get_or s 0 0 % 128)) (sym (is ∙ ap (read_groups (k - 1)) left))
 
-  pub needless : (n size : ℕ) → more ≡ Got n size → n ≡ 0 → Bad ≡ read_groups k s
+  pub needless : (n size : ℕ) → more ≡ Some (n, size) → n ≡ 0 → None ≡ read_groups k s
   needless n size e z = sym (on ∙ ap (behind (get_or s 0 0 % 128)) e ∙ behind_none (get_or s 0 0 % 128) n size z)
 
-  pub joined : (n size : ℕ) → more ≡ Got n size → (n ≡ 0 → ⊥) → Got (get_or s 0 0 % 128 + 128 * n) (size + 1) ≡ read_groups k s
+  pub joined : (n size : ℕ) → more ≡ Some (n, size) → (n ≡ 0 → ⊥) → Some (get_or s 0 0 % 128 + 128 * n, size + 1) ≡ read_groups k s
   joined n size e z = sym (on ∙ ap (behind (get_or s 0 0 % 128)) e ∙ behind_some (get_or s 0 0 % 128) n size z)
 
-  pub cut : more ≡ Bad → Bad ≡ read_groups k s
+  pub cut : more ≡ None → None ≡ read_groups k s
   unfolding behind
   cut e = sym (on ∙ ap (behind (get_or s 0 0 % 128)) e)
 
@@ -66,20 +63,11 @@ pub record Sized (n size : ℕ) : Type 0 where
   pub number : n < 34359738368
   pub most : size ≤ 5
 
-pub sized : (k : ℕ) (s : List ℕ) (more : Number) (n size : ℕ) → k ≤ 5 → more ≡ read_groups k s → more ≡ Got n size → Sized n size
+pub sized : (k : ℕ) (s : List ℕ) (more : Number) (n size : ℕ) → k ≤ 5 → more ≡ read_groups k s → more ≡ Some (n, size) → Sized n size
 sized k s more n size h e f =
     let w = within k s n size (sym e ∙ f) in
     let r = reach_most k h in
     record { number = omega (arith, w.small); most = omega (arith, w.most) }
-
--- four bytes, one after the other
-pub written_four : (l : List ℕ) (at a b c d : ℕ) → at + 4 ≤ length l → set (set (set (set l at a) (at + 1) b) (at + 2) c) (at + 3) d ≡ written l at (a
-    ∷ b ∷ c ∷ d ∷ [])
-written_four l at a b c d h =
-    ap (λ (m : List ℕ). set (set (set m (at + 1) b) (at + 2) c) (at + 3) d) (set_written l at a (omega arith))
-    ∙ ap (λ (m : List ℕ). set (set m (at + 2) c) (at + 3) d) (written_next l at (a ∷ []) (omega arith) (at + 1) b refl (omega arith))
-    ∙ ap (λ (m : List ℕ). set m (at + 3) d) (written_next l at (a ∷ b ∷ []) (omega arith) (at + 2) c refl (omega arith))
-    ∙ written_next l at (a ∷ b ∷ c ∷ []) (omega arith) (at + 3) d refl (omega arith)
 
 -- ---- the bounds of the record's numbers
 

@@ -8,6 +8,7 @@ use native.Mathlib.Omega.{arith}
 use lib.ListN.{length, drop, get_or}
 use lib.Seq.{drop-cons}
 use borrow.Author.Tests.{lt-ltb, le-ltb, ne_eqb, le-leb}
+use Rattle.std.specs.Prelude.{Ok}
 use Rattle.chess_move.specs.Number.{last_move}
 use Rattle.roll_text.specs.declared.Entry.TheVariants.{Move}
 use Rattle.roll_text.specs.Number.{behind, read_groups}
@@ -18,7 +19,7 @@ pub no_short_lem : (s : List ℕ) (at left : ℕ) → ShortMove s at left (last_
 no_short_lem s at left = record { there = λ h. absurd (omega arith) }
 
 two_groups_lem : (low high : ℕ) (rest : List ℕ) → 128 ≤ low → high < 128 → (high ≡ 0 → ⊥) → low % 128 + 128 * high ≤ last_move
-    → read_entry false (2 ∷ low ∷ high ∷ rest) ≡ Move (low % 128 + 128 * high) 3
+    → read_entry false (2 ∷ low ∷ high ∷ rest) ≡ Ok (Move (low % 128 + 128 * high) 3)
 unfolding read_groups behind moved_by coded
 two_groups_lem low high rest l h n m = simp (le-ltb low 128 l, lt-ltb high 128 h, ne_eqb high 0 n, le-leb _ _ m)
 

@@ -1,3 +1,4 @@
 pub mod CodeShort
 pub mod CodeStart
 pub mod Checked
+pub mod CodeWalk

@@ -8,6 +8,7 @@ use native.Mathlib.Omega.{arith}
 use lib.Dec.{eqb, leb}
 use lib.ListN.{length, drop}
 use borrow.Author.Tests.{le-leb, leb-true, ne_eqb, eqb-true}
+use Rattle.std.specs.Prelude.{Some, Ok}
 use Rattle.answer.specs.Numbers.{all_at_most}
 use Rattle.answer.proofs.Numbers.{most_head, most_tail, both_left, both_right}
 use Rattle.board_builder.specs.BoardBuilder.{last_count, counters_in_range}
@@ -15,8 +16,6 @@ use Rattle.board_builder.proofs.Ranges.{counters_in}
 use Rattle.game_rules.specs.Limits.{Limits}
 use Rattle.actions.specs.CodeCount.{one_if_move}
 use Rattle.action.specs.Layout.{action_size}
-use Rattle.roll_text.specs.declared.Number.TheVariants.{Got}
-use Rattle.roll_text.specs.declared.Counters.TheVariants.{Counts}
 use Rattle.roll_text.specs.Number.{number_text, read_number}
 use Rattle.roll_text.specs.Roll.{Start, start_fits, front, acts, rolled, largest_numbers, within_bounds, numbers_text, counts_text, actions_text, text_by}
 use Rattle.roll_text.specs.Roll.{put_number, read_numbers, put_action, read_actions, with_actions, with_count, with_counts, with_front, read_by}
@@ -62,18 +61,18 @@ small_bounds = refl
 
 -- ---- the counters
 
-half_small : (s : List ℕ) (half size : ℕ) → half ≤ last_count → half_by s (Got half size) ≡ full_by half size (read_number (drop size s))
+half_small : (s : List ℕ) (half size : ℕ) → half ≤ last_count → half_by s (Some (half, size)) ≡ full_by half size (read_number (drop size s))
 unfolding half_by
 half_small s half size h = simp (le-leb _ _ h)
 
-full_small : (half size full more : ℕ) → (full ≡ 0 → ⊥) → full ≤ last_count → full_by half size (Got full more) ≡ Counts half full (size + more)
+full_small : (half size full more : ℕ) → (full ≡ 0 → ⊥) → full ≤ last_count → full_by half size (Some (full, more)) ≡ Ok (half, full, size + more)
 unfolding full_by
 full_small half size full more some h = simp (ne_eqb _ _ some, le-leb _ _ h)
 
 -- they and what is behind them
 record CountersBack (counted : Bool) (st : Start) (rest : List ℕ) : Type 0 where
   size : ℕ
-  read : read_counters counted (counts_text counted st ++ rest) ≡ Counts st.half st.full size
+  read : read_counters counted (counts_text counted st ++ rest) ≡ Ok (st.half, st.full, size)
   behind : drop size (counts_text counted st ++ rest) ≡ rest
 
 counters_back : (counted : Bool) (st : Start) (rest : List ℕ) → counters_in_range st.half st.full ≡ true → formed counted st ≡ true
@@ -85,7 +84,7 @@ counters_back true st rest e f =
     let full = number_text st.full in
     let b = numbers_read_back st.half (full ++ rest) (omega (arith, reach_five, c.half_most)) in
     let d = numbers_read_back st.full rest (omega (arith, reach_five, c.full_most)) in
-    let read : half_by (half ++ (full ++ rest)) (read_number (half ++ (full ++ rest))) ≡ Counts st.half st.full (length half + length full)
+    let read : half_by (half ++ (full ++ rest)) (read_number (half ++ (full ++ rest))) ≡ Ok (st.half, st.full, length half + length full)
     = ap (half_by (half ++ (full ++ rest))) b.number
     ∙ half_small (half ++ (full ++ rest)) st.half (length half) c.half_most
     ∙ ap (λ (l : List ℕ). full_by st.half (length half) (read_number l)) b.behind_it

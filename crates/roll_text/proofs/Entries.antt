@@ -3,17 +3,17 @@
 use mathlib.Core.Path.{◌≡◌, refl, ap, sym, ◌∙◌}
 use mathlib.Core.Bool.{Bool, true, false, false≢true}
 use mathlib.Core.List.{List, [], ◌∷◌, ◌++◌, append_assoc}
-use Prim.Native.Nat.{ℕ, zero, ◌+◌, ◌*◌, ◌/◌, ◌%◌, ◌-◌, ◌≤◌, ◌<◌}
+use Prim.Native.Nat.{ℕ, ◌+◌, ◌*◌, ◌/◌, ◌%◌, ◌-◌, ◌≤◌, ◌<◌}
 use native.Mathlib.Omega.{arith}
 use lib.Dec.{eqb, leb}
 use lib.ListN.{length, drop}
 use borrow.Author.Tests.{le-leb, lt-leb, leb-true, leb-false, eq-eqb, ne_eqb, eqb-true, eqb-false}
+use Rattle.std.specs.Prelude.{Some, Ok, Err}
 use Rattle.answer.specs.Answer.{log_full, bad_roll}
 use Rattle.chess_move.specs.Number.{last_move}
 use Rattle.action.specs.Layout.{fields}
 use Rattle.actions.specs.CodeCount.{one_if_move}
-use Rattle.roll_text.specs.declared.Number.TheVariants.{Got}
-use Rattle.roll_text.specs.declared.Entry.TheVariants.{Move, Plain, Stop}
+use Rattle.roll_text.specs.declared.Entry.TheVariants.{Move, Plain}
 use Rattle.roll_text.specs.Number.{most_groups, reach, number_text, read_number}
 use Rattle.roll_text.specs.Roll.{Front, put_number, one_number, is_code, code_of, action_text, moved_by, coded, read_entry, Acts, next_action, put_action}
 use Rattle.roll_text.proofs.ByFields.{move_in_range, action_in_range}
@@ -57,39 +57,39 @@ code_range c e = (low (leb 4 c) refl, high (leb c 11) refl)
 
 -- ---- an action that was written reads back
 
-pub coded_plain : (full : Bool) (s : List ℕ) (code size : ℕ) → (code ≡ 2 → ⊥) → is_code code ≡ true → coded full s (Got code size) ≡ Plain code size
+pub coded_plain : (full : Bool) (s : List ℕ) (code size : ℕ) → (code ≡ 2 → ⊥) → is_code code ≡ true → coded full s (Some (code, size)) ≡ Ok (Plain code size)
 unfolding coded
 coded_plain full s code size h e = simp (ne_eqb _ _ h, e)
 
-pub coded_bad : (full : Bool) (s : List ℕ) (code size : ℕ) → (code ≡ 2 → ⊥) → is_code code ≡ false → coded full s (Got code size) ≡ Stop bad_roll
+pub coded_bad : (full : Bool) (s : List ℕ) (code size : ℕ) → (code ≡ 2 → ⊥) → is_code code ≡ false → coded full s (Some (code, size)) ≡ Err bad_roll
 unfolding coded
 coded_bad full s code size h e = simp (ne_eqb _ _ h, e)
 
-pub coded_full : (s : List ℕ) (size : ℕ) → coded true s (Got 2 size) ≡ Stop log_full
+pub coded_full : (s : List ℕ) (size : ℕ) → coded true s (Some (2, size)) ≡ Err log_full
 unfolding coded
 coded_full s size = refl
 
-pub coded_move : (s : List ℕ) (size : ℕ) → coded false s (Got 2 size) ≡ moved_by size (read_number (drop size s))
+pub coded_move : (s : List ℕ) (size : ℕ) → coded false s (Some (2, size)) ≡ moved_by size (read_number (drop size s))
 unfolding coded
 coded_move s size = refl
 
-pub moved_small : (size move more : ℕ) → move ≤ last_move → moved_by size (Got move more) ≡ Move move (size + more)
+pub moved_small : (size move more : ℕ) → move ≤ last_move → moved_by size (Some (move, more)) ≡ Ok (Move move (size + more))
 unfolding moved_by
 moved_small size move more h = simp (le-leb _ _ h)
 
-pub moved_over : (size move more : ℕ) → last_move < move → moved_by size (Got move more) ≡ Stop bad_roll
+pub moved_over : (size move more : ℕ) → last_move < move → moved_by size (Some (move, more)) ≡ Err bad_roll
 unfolding moved_by
 moved_over size move more h = simp (lt-leb _ _ h)
 
 plain_back : (full : Bool) (code : ℕ) (rest : List ℕ) → is_code code ≡ true
-    → read_entry full (number_text code ++ rest) ≡ Plain code (length (number_text code))
+    → read_entry full (number_text code ++ rest) ≡ Ok (Plain code (length (number_text code)))
 plain_back full code rest e =
     let r = code_range code e in
     let b = numbers_read_back code rest (omega (arith, reach_five)) in
     rw b.number (coded_plain full (number_text code ++ rest) code (length (number_text code)) (λ z. omega arith) e)
 
 move_back : (move : ℕ) (rest : List ℕ) → move ≤ last_move
-    → read_entry false (number_text 2 ++ (number_text move ++ rest)) ≡ Move move (length (number_text 2) + length (number_text move))
+    → read_entry false (number_text 2 ++ (number_text move ++ rest)) ≡ Ok (Move move (length (number_text 2) + length (number_text move)))
 move_back move rest h =
     let b = numbers_read_back 2 (number_text move ++ rest) (omega (arith, reach_five)) in
     let d = numbers_read_back move rest (omega (arith, reach_five)) in
@@ -102,12 +102,13 @@ move_back move rest h =
 pub behind_both : (a b rest : List ℕ) → drop (length a + length b) (a ++ (b ++ rest)) ≡ rest
 behind_both a b rest = lib.Seq.drop-append-add a (b ++ rest) (length b) ∙ lib.Seq.drop-append_seam b rest
 
-pub next_move_lem : (left : ℕ) (s : List ℕ) (move size : ℕ) (go : ℕ → List ℕ → Acts) → next_action (Move move size) left s go ≡ put_action (fields 1 0 move) (go
+pub next_move_lem : (left : ℕ) (s : List ℕ) (move size : ℕ) (go : ℕ → List ℕ → Acts)
+    → next_action (Ok (Move move size)) left s go ≡ put_action (fields 1 0 move) (go
     (left - 1) (drop size s))
 unfolding next_action
 next_move_lem left s move size go = refl
 
-pub next_plain : (left : ℕ) (s : List ℕ) (code size : ℕ) (go : ℕ → List ℕ → Acts) → next_action (Plain code size) left s go ≡ put_action (fields (code / 2)
+pub next_plain : (left : ℕ) (s : List ℕ) (code size : ℕ) (go : ℕ → List ℕ → Acts) → next_action (Ok (Plain code size)) left s go ≡ put_action (fields (code / 2)
     (code % 2) 0) (go left (drop size s))
 unfolding next_action
 next_plain left s code size go = refl

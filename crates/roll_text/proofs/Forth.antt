@@ -9,6 +9,7 @@ use lib.Dec.{eqb, leb}
 use lib.ListN.{length, drop}
 use lib.Seq.{drop-drop}
 use borrow.Author.Tests.{le-leb, leb-true, ne_eqb, eqb-true, eqb-false}
+use Rattle.std.specs.Prelude.{Some, None, Result, Ok, Err}
 use Rattle.board_builder.specs.BoardBuilder.{last_count, counters_in_range}
 use Rattle.board_builder.proofs.Ranges.{counters_hold}
 use Rattle.answer.specs.Numbers.{all_at_most}
@@ -18,14 +19,10 @@ use Rattle.chess_move.specs.Number.{last_move}
 use Rattle.action.specs.Layout.{action_size, fields}
 use Rattle.game_rules.specs.Limits.{Limits}
 use Rattle.actions.specs.Part.{moves_in, actions_held}
-use Rattle.roll_text.specs.declared.Number.{Number}
-use Rattle.roll_text.specs.declared.Number.TheVariants.{Got, Bad}
 use Rattle.roll_text.specs.declared.Entry.{Entry}
-use Rattle.roll_text.specs.declared.Entry.TheVariants.{Move, Plain, Stop}
-use Rattle.roll_text.specs.declared.Counters.{Counters}
-use Rattle.roll_text.specs.declared.Counters.TheVariants.{Counts, Wrong}
-use Rattle.roll_text.specs.Number.{number_text, read_number}
-use Rattle.roll_text.specs.Roll.{Front, stopped, front, Acts, halted}
+use Rattle.roll_text.specs.declared.Entry.TheVariants.{Move, Plain}
+use Rattle.roll_text.specs.Number.{Number, number_text, read_number}
+use Rattle.roll_text.specs.Roll.{Counters, Front, stopped, front, Acts, halted}
 use Rattle.roll_text.specs.Roll.{Start, start_fits, acts, refusal, rolled, largest_numbers, within_bounds}
 use Rattle.roll_text.specs.Roll.{numbers_text, counts_text, action_text, actions_text, text_by}
 use Rattle.roll_text.specs.Roll.{is_code, put_number, one_number, read_numbers, moved_by}
@@ -43,13 +40,13 @@ record Numbered (most : ℕ) (x : Number) (s : List ℕ) (go : List ℕ → Fron
   first : ℕ
   size : ℕ
   others : List ℕ
-  is : x ≡ Got first size
+  is : x ≡ Some (first, size)
   within : first ≤ most
   then : go (drop size s) ≡ front others rest
   whole : numbers ≡ first ∷ others
 
 put_number_lem : (x : ℕ) (f : Front) (numbers rest : List ℕ) → put_number x f ≡ front numbers rest
-    → (n : ℕ) (s : List ℕ) (go : List ℕ → Front) (most : ℕ) → go (drop n s) ≡ f → x ≤ most → Numbered most (Got x n) s go numbers rest
+    → (n : ℕ) (s : List ℕ) (go : List ℕ → Front) (most : ℕ) → go (drop n s) ≡ f → x ≤ most → Numbered most (Some (x, n)) s go numbers rest
 unfolding put_number
 put_number_lem x (stopped k) numbers rest e n s go most g h = let z : ◌≡◌ {A = ℕ} 0 1 = cc in absurd (omega arith)
 put_number_lem x (front xs t) numbers rest e n s go most g h =
@@ -60,10 +57,10 @@ put_number_lem x (front xs t) numbers rest e n s go most g h =
 one_number_lem : (most : ℕ) (x : Number) (s : List ℕ) (go : List ℕ → Front) (numbers rest : List ℕ) → one_number most x s go ≡ front numbers rest → Numbered
     most x s go numbers rest
 unfolding one_number
-one_number_lem most Bad s go numbers rest e = let z : ◌≡◌ {A = ℕ} 0 1 = cc in absurd (omega arith)
-one_number_lem most (Got x size) s go numbers rest e = by (leb x most) refl
+one_number_lem most None s go numbers rest e = let z : ◌≡◌ {A = ℕ} 0 1 = cc in absurd (omega arith)
+one_number_lem most (Some (x, size)) s go numbers rest e = by (leb x most) refl
   where
-    by : (t : Bool) → leb x most ≡ t → Numbered most (Got x size) s go numbers rest
+    by : (t : Bool) → leb x most ≡ t → Numbered most (Some (x, size)) s go numbers rest
     by true f = put_number_lem x (go (drop size s)) numbers rest (simp f at e) size s go most refl (leb-true x most f)
     by false f =
         let g : stopped out_of_range ≡ front numbers rest = simp f at e in
@@ -95,50 +92,56 @@ numbers_forth (m ∷ ms) s numbers rest small e =
 
 record FullBy (size : ℕ) (x : Number) (full all : ℕ) : Type 0 where
   more : ℕ
-  is : x ≡ Got full more
+  is : x ≡ Some (full, more)
   least : 1 ≤ full
   most : full ≤ last_count
   whole : all ≡ size + more
 
 -- the clock is the one that was read
-full_by_lem : (half size : ℕ) (x : Number) (clock full all : ℕ) → full_by half size x ≡ Counts clock full all → (half ≡ clock) × FullBy size x full all
+-- the same counters in as many bytes
+counted_same : {half full size clock number all : ℕ} → ◌≡◌ {A = Counters} (Ok (half, full, size)) (Ok (clock, number, all))
+    → (half ≡ clock) × (full ≡ number) × (size ≡ all)
+counted_same {half = half} {full = full} {size = size} {clock = clock} {number = number} {all = all} e =
+    let p : ◌≡◌ {A = ℕ × ℕ × ℕ} (half, full, size) (clock, number, all) = cc in
+    (ap (λ (x : ℕ × ℕ × ℕ). x.0) p, ap (λ (x : ℕ × ℕ × ℕ). x.1) p, ap (λ (x : ℕ × ℕ × ℕ). x.2) p)
+
+full_by_lem : (half size : ℕ) (x : Number) (clock full all : ℕ) → full_by half size x ≡ Ok (clock, full, all) → (half ≡ clock) × FullBy size x full all
 unfolding full_by
-full_by_lem half size Bad clock full all e = let z : ◌≡◌ {A = ℕ} 0 1 = cc in absurd (omega arith)
-full_by_lem half size (Got f more) clock full all e = by (eqb f 0) (leb f last_count) refl refl
+full_by_lem half size None clock full all e = let z : ◌≡◌ {A = ℕ} 0 1 = cc in absurd (omega arith)
+full_by_lem half size (Some (f, more)) clock full all e = by (eqb f 0) (leb f last_count) refl refl
   where
-    by : (t u : Bool) → eqb f 0 ≡ t → leb f last_count ≡ u → (half ≡ clock) × FullBy size (Got f more) full all
+    by : (t u : Bool) → eqb f 0 ≡ t → leb f last_count ≡ u → (half ≡ clock) × FullBy size (Some (f, more)) full all
     by true u p q =
-        let g : Wrong out_of_range ≡ Counts clock full all = simp p at e in
+        let g : ◌≡◌ {A = Counters} (Err out_of_range) (Ok (clock, full, all)) = simp p at e in
         let z : ◌≡◌ {A = ℕ} 0 1 = cc in absurd (omega arith)
     by false false p q =
-        let g : Wrong out_of_range ≡ Counts clock full all = simp (p, q) at e in
+        let g : ◌≡◌ {A = Counters} (Err out_of_range) (Ok (clock, full, all)) = simp (p, q) at e in
         let z : ◌≡◌ {A = ℕ} 0 1 = cc in absurd (omega arith)
     by false true p q =
-        let g : Counts half f (size + more) ≡ Counts clock full all = simp (p, q) at e in
-        let a : f ≡ full = cc in
-        let b : all ≡ size + more = cc in
-        let c : half ≡ clock = cc in
+        let g : ◌≡◌ {A = Counters} (Ok (half, f, size + more)) (Ok (clock, full, all)) = simp (p, q) at e in
+        let (c, a, over) = counted_same g in
+        let b : all ≡ size + more = sym over in
         let some = eqb-false f 0 p in
         let h = leb-true f last_count q in
-        (c, record { more = more; is = ap (λ (i : ℕ). Got i more) a; least = omega (arith, a, some); most = omega (arith, a, h); whole = b })
+        (c, record { more = more; is = ap (λ (i : ℕ). Some (i, more)) a; least = omega (arith, a, some); most = omega (arith, a, h); whole = b })
 
 record HalfBy (s : List ℕ) (x : Number) (half full all : ℕ) : Type 0 where
   size : ℕ
-  is : x ≡ Got half size
+  is : x ≡ Some (half, size)
   most : half ≤ last_count
   number : FullBy size (read_number (drop size s)) full all
 
-half_by_lem : (s : List ℕ) (x : Number) (half full all : ℕ) → half_by s x ≡ Counts half full all → HalfBy s x half full all
+half_by_lem : (s : List ℕ) (x : Number) (half full all : ℕ) → half_by s x ≡ Ok (half, full, all) → HalfBy s x half full all
 unfolding half_by
-half_by_lem s Bad half full all e = let z : ◌≡◌ {A = ℕ} 0 1 = cc in absurd (omega arith)
-half_by_lem s (Got h size) half full all e = by (leb h last_count) refl
+half_by_lem s None half full all e = let z : ◌≡◌ {A = ℕ} 0 1 = cc in absurd (omega arith)
+half_by_lem s (Some (h, size)) half full all e = by (leb h last_count) refl
   where
-    by : (t : Bool) → leb h last_count ≡ t → HalfBy s (Got h size) half full all
+    by : (t : Bool) → leb h last_count ≡ t → HalfBy s (Some (h, size)) half full all
     by true p =
         let (a, f) = full_by_lem h size (read_number (drop size s)) half full all (simp p at e) in
-        record { size = size; is = ap (λ (i : ℕ). Got i size) a; most = omega (arith, a, leb-true h last_count p); number = f }
+        record { size = size; is = ap (λ (i : ℕ). Some (i, size)) a; most = omega (arith, a, leb-true h last_count p); number = f }
     by false p =
-        let g : Wrong out_of_range ≡ Counts half full all = simp p at e in
+        let g : ◌≡◌ {A = Counters} (Err out_of_range) (Ok (half, full, all)) = simp p at e in
         let z : ◌≡◌ {A = ℕ} 0 1 = cc in absurd (omega arith)
 
 record CountersForth (counted : Bool) (s : List ℕ) (st : Start) (size : ℕ) : Type 0 where
@@ -147,7 +150,7 @@ record CountersForth (counted : Bool) (s : List ℕ) (st : Start) (size : ℕ) :
   text : s ≡ counts_text counted st ++ drop size s
 
 counters_forth : (counted : Bool) (s : List ℕ) (st : Start) (size : ℕ) → all_at_most 255 s ≡ true
-    → read_counters counted s ≡ Counts st.half st.full size → CountersForth counted s st size
+    → read_counters counted s ≡ Ok (st.half, st.full, size) → CountersForth counted s st size
 unfolding read_counters counts_text formed
 counters_forth true s st size small e =
     let o = half_by_lem s (read_number s) st.half st.full size e in
@@ -164,9 +167,10 @@ counters_forth true s st size small e =
           ∙ sym (append_assoc (number_text st.half) (number_text st.full) (drop size s));
     }
 counters_forth false s st size small e =
-    let half : st.half ≡ 0 = cc in
-    let full : st.full ≡ 1 = cc in
-    let none : size ≡ 0 = cc in
+    let (zero_half, one_full, no_bytes) = counted_same e in
+    let half : st.half ≡ 0 = sym zero_half in
+    let full : st.full ≡ 1 = sym one_full in
+    let none : size ≡ 0 = sym no_bytes in
     record { counters = rw (half, full) refl; form = rw (half, full) refl; text = rw none refl }
 
 -- ---- an action
@@ -182,90 +186,95 @@ record Plained (s : List ℕ) (code size : ℕ) : Type 0 where
 
 pub record MovedBy (size : ℕ) (x : Number) (move all : ℕ) : Type 0 where
   pub more : ℕ
-  pub is : x ≡ Got move more
+  pub is : x ≡ Some (move, more)
   pub last : move ≤ last_move
   pub whole : all ≡ size + more
 
-moved_by_lem : (size : ℕ) (x : Number) (move all : ℕ) → moved_by size x ≡ Move move all → MovedBy size x move all
+moved_by_lem : (size : ℕ) (x : Number) (move all : ℕ) → moved_by size x ≡ Ok (Move move all) → MovedBy size x move all
 unfolding moved_by
-moved_by_lem size Bad move all e = let z : ◌≡◌ {A = ℕ} 0 1 = cc in absurd (omega arith)
-moved_by_lem size (Got m more) move all e = by (leb m last_move) refl
+moved_by_lem size None move all e = let z : ◌≡◌ {A = ℕ} 0 1 = cc in absurd (omega arith)
+moved_by_lem size (Some (m, more)) move all e = by (leb m last_move) refl
   where
-    by : (t : Bool) → leb m last_move ≡ t → MovedBy size (Got m more) move all
+    by : (t : Bool) → leb m last_move ≡ t → MovedBy size (Some (m, more)) move all
     by true f =
-        let g : Move m (size + more) ≡ Move move all = simp f at e in
+        let g : Ok (Move m (size + more)) ≡ Ok (Move move all) = simp f at e in
         let a : m ≡ move = cc in
         let b : all ≡ size + more = cc in
-        record { more = more; is = ap (λ (i : ℕ). Got i more) a; last = omega (arith, leb-true m last_move f); whole = b }
+        record { more = more; is = ap (λ (i : ℕ). Some (i, more)) a; last = omega (arith, leb-true m last_move f); whole = b }
     by false f =
-        let g : Stop bad_roll ≡ Move move all = simp f at e in
+        let g : Err bad_roll ≡ Ok (Move move all) = simp f at e in
         let z : ◌≡◌ {A = ℕ} 0 1 = cc in absurd (omega arith)
 
-moved_plain : (size : ℕ) (x : Number) (code all : ℕ) → moved_by size x ≡ Plain code all → ⊥
+moved_plain : (size : ℕ) (x : Number) (code all : ℕ) → moved_by size x ≡ Ok (Plain code all) → ⊥
 unfolding moved_by
-moved_plain size Bad code all e = let z : ◌≡◌ {A = ℕ} 0 1 = cc in omega arith
-moved_plain size (Got m more) code all e = by (leb m last_move) refl
+moved_plain size None code all e = let z : ◌≡◌ {A = ℕ} 0 1 = cc in omega arith
+moved_plain size (Some (m, more)) code all e = by (leb m last_move) refl
   where
     by : (t : Bool) → leb m last_move ≡ t → ⊥
     by true f =
-        let g : Move m (size + more) ≡ Plain code all = simp f at e in
+        let g : Ok (Move m (size + more)) ≡ Ok (Plain code all) = simp f at e in
         let z : ◌≡◌ {A = ℕ} 0 1 = cc in omega arith
     by false f =
-        let g : Stop bad_roll ≡ Plain code all = simp f at e in
+        let g : Err bad_roll ≡ Ok (Plain code all) = simp f at e in
         let z : ◌≡◌ {A = ℕ} 0 1 = cc in omega arith
 
 -- both tests of an entry's code
 pub record CodedMove (full : Bool) (s : List ℕ) (x : Number) (move all : ℕ) : Type 0 where
   pub size : ℕ
-  pub is : x ≡ Got 2 size
+  pub is : x ≡ Some (2, size)
   pub room : full ≡ false
   pub number : MovedBy size (read_number (drop size s)) move all
 
-pub coded_move : (full : Bool) (s : List ℕ) (x : Number) (move all : ℕ) → coded full s x ≡ Move move all → CodedMove full s x move all
+pub coded_move : (full : Bool) (s : List ℕ) (x : Number) (move all : ℕ) → coded full s x ≡ Ok (Move move all) → CodedMove full s x move all
 unfolding coded
-coded_move full s Bad move all e = let z : ◌≡◌ {A = ℕ} 0 1 = cc in absurd (omega arith)
-coded_move full s (Got code size) move all e = by full (eqb code 2) (is_code code) refl refl refl
+coded_move full s None move all e = let z : ◌≡◌ {A = ℕ} 0 1 = cc in absurd (omega arith)
+coded_move full s (Some (code, size)) move all e = by full (eqb code 2) (is_code code) refl refl refl
   where
-    by : (f t u : Bool) → full ≡ f → eqb code 2 ≡ t → is_code code ≡ u → CodedMove full s (Got code size) move all
+    by : (f t u : Bool) → full ≡ f → eqb code 2 ≡ t → is_code code ≡ u → CodedMove full s (Some (code, size)) move all
     by true true u p q r =
-        let g : Stop log_full ≡ Move move all = simp (p, q) at e in
+        let g : Err log_full ≡ Ok (Move move all) = simp (p, q) at e in
         let z : ◌≡◌ {A = ℕ} 0 1 = cc in absurd (omega arith)
     by false true u p q r =
-        let g : moved_by size (read_number (drop size s)) ≡ Move move all = simp (p, q) at e in
-        record { size = size; is = ap (λ (i : ℕ). Got i size) (eqb-true code 2 q); room = p; number = moved_by_lem size (read_number (drop size s)) move all g }
+        let g : moved_by size (read_number (drop size s)) ≡ Ok (Move move all) = simp (p, q) at e in
+        record {
+          size = size;
+          is = ap (λ (i : ℕ). Some (i, size)) (eqb-true code 2 q);
+          room = p;
+          number = moved_by_lem size (read_number (drop size s)) move all g;
+        }
     by f false true p q r =
-        let g : Plain code size ≡ Move move all = simp (q, r) at e in
+        let g : Ok (Plain code size) ≡ Ok (Move move all) = simp (q, r) at e in
         let z : ◌≡◌ {A = ℕ} 0 1 = cc in absurd (omega arith)
     by f false false p q r =
-        let g : Stop bad_roll ≡ Move move all = simp (q, r) at e in
+        let g : Err bad_roll ≡ Ok (Move move all) = simp (q, r) at e in
         let z : ◌≡◌ {A = ℕ} 0 1 = cc in absurd (omega arith)
 
 pub record CodedPlain (x : Number) (code all : ℕ) : Type 0 where
-  pub is : x ≡ Got code all
+  pub is : x ≡ Some (code, all)
   pub is_code_fact : is_code code ≡ true
 
-pub coded_plain : (full : Bool) (s : List ℕ) (x : Number) (code all : ℕ) → coded full s x ≡ Plain code all → CodedPlain x code all
+pub coded_plain : (full : Bool) (s : List ℕ) (x : Number) (code all : ℕ) → coded full s x ≡ Ok (Plain code all) → CodedPlain x code all
 unfolding coded
-coded_plain full s Bad code all e = let z : ◌≡◌ {A = ℕ} 0 1 = cc in absurd (omega arith)
-coded_plain full s (Got c size) code all e = by full (eqb c 2) (is_code c) refl refl refl
+coded_plain full s None code all e = let z : ◌≡◌ {A = ℕ} 0 1 = cc in absurd (omega arith)
+coded_plain full s (Some (c, size)) code all e = by full (eqb c 2) (is_code c) refl refl refl
   where
-    by : (f t u : Bool) → full ≡ f → eqb c 2 ≡ t → is_code c ≡ u → CodedPlain (Got c size) code all
+    by : (f t u : Bool) → full ≡ f → eqb c 2 ≡ t → is_code c ≡ u → CodedPlain (Some (c, size)) code all
     by true true u p q r =
-        let g : Stop log_full ≡ Plain code all = simp (p, q) at e in
+        let g : Err log_full ≡ Ok (Plain code all) = simp (p, q) at e in
         let z : ◌≡◌ {A = ℕ} 0 1 = cc in absurd (omega arith)
     by false true u p q r =
-        let g : moved_by size (read_number (drop size s)) ≡ Plain code all = simp (p, q) at e in
+        let g : moved_by size (read_number (drop size s)) ≡ Ok (Plain code all) = simp (p, q) at e in
         absurd (moved_plain size (read_number (drop size s)) code all g)
     by f false true p q r =
-        let g : Plain c size ≡ Plain code all = simp (q, r) at e in
+        let g : Ok (Plain c size) ≡ Ok (Plain code all) = simp (q, r) at e in
         let a : c ≡ code = cc in
-        let b : Got c size ≡ Got code all = cc in
+        let b : Some (c, size) ≡ Some (code, all) = cc in
         record { is = b; is_code_fact = rw a at r }
     by f false false p q r =
-        let g : Stop bad_roll ≡ Plain code all = simp (q, r) at e in
+        let g : Err bad_roll ≡ Ok (Plain code all) = simp (q, r) at e in
         let z : ◌≡◌ {A = ℕ} 0 1 = cc in absurd (omega arith)
 
-entry_move : (full : Bool) (s : List ℕ) (move size : ℕ) → all_at_most 255 s ≡ true → read_entry full s ≡ Move move size → Moved full s move size
+entry_move : (full : Bool) (s : List ℕ) (move size : ℕ) → all_at_most 255 s ≡ true → read_entry full s ≡ Ok (Move move size) → Moved full s move size
 entry_move full s move size small e =
     let o = coded_move full s (read_number s) move size e in
     let m = o.number in
@@ -281,7 +290,7 @@ entry_move full s move size small e =
       room = o.room;
     }
 
-entry_plain : (full : Bool) (s : List ℕ) (code size : ℕ) → all_at_most 255 s ≡ true → read_entry full s ≡ Plain code size → Plained s code size
+entry_plain : (full : Bool) (s : List ℕ) (code size : ℕ) → all_at_most 255 s ≡ true → read_entry full s ≡ Ok (Plain code size) → Plained s code size
 entry_plain full s code size small e =
     let o = coded_plain full s (read_number s) code size e in
     let p = accepted_is_shortest s code size small o.is in
@@ -365,19 +374,19 @@ actions_forth zero left [] bs small e = none_told left bs (cc)
 actions_forth zero left (b ∷ s) bs small e = let z : ◌≡◌ {A = ℕ} 0 1 = cc in absurd (omega arith)
 actions_forth (suc n) left s bs small e = by (read_entry (eqb left 0) s) refl (λ l t. actions_forth n l t)
   where
-    by : (x : Entry) → read_entry (eqb left 0) s ≡ x
+    by : (x : Result Entry ℕ) → read_entry (eqb left 0) s ≡ x
         → ((l : ℕ) (t cs : List ℕ) → all_at_most 255 t ≡ true → read_actions n l t ≡ acts cs → Told n l t cs) → Told (suc n) left s bs
-    by (Move move size) f rec =
+    by (Ok (Move move size)) f rec =
         let g : put_action (fields 1 0 move) (read_actions n (left - 1) (drop size s)) ≡ acts bs = rw f at e in
         let p = put_action_lem (fields 1 0 move) (read_actions n (left - 1) (drop size s)) bs g in
         let t = rec (left - 1) (drop size s) p.others (most_drop size 255 s small) p.is in
         rw p.whole (move_told n left s move size p.others (entry_move (eqb left 0) s move size small f) t)
-    by (Plain code size) f rec =
+    by (Ok (Plain code size)) f rec =
         let g : put_action (fields (code / 2) (code % 2) 0) (read_actions n left (drop size s)) ≡ acts bs = rw f at e in
         let p = put_action_lem (fields (code / 2) (code % 2) 0) (read_actions n left (drop size s)) bs g in
         let t = rec left (drop size s) p.others (most_drop size 255 s small) p.is in
         rw p.whole (plain_told n left s code size p.others (entry_plain (eqb left 0) s code size small f) t)
-    by (Stop k) f rec =
+    by (Err k) f rec =
         let g : halted k ≡ acts bs = rw f at e in
         let z : ◌≡◌ {A = ℕ} 0 1 = cc in absurd (omega arith)
 
@@ -385,28 +394,28 @@ actions_forth (suc n) left s bs small e = by (read_entry (eqb left 0) s) refl (�
 
 record Ended (L : Limits) (st : Start) (x : Number) (s : List ℕ) (all : Start) (n : ℕ) (bs : List ℕ) : Type 0 where
   size : ℕ
-  is : x ≡ Got n size
+  is : x ≡ Some (n, size)
   few : n ≤ L.most_actions
   start : all ≡ st
   actions : read_actions n L.most_moves (drop size s) ≡ acts bs
 
 with_actions_lem : (L : Limits) (st : Start) (m size : ℕ) (s : List ℕ) (x : Acts) (all : Start) (n : ℕ) (bs : List ℕ) → m ≤ L.most_actions
-    → read_actions m L.most_moves (drop size s) ≡ x → with_actions st m x ≡ rolled all n bs → Ended L st (Got m size) s all n bs
+    → read_actions m L.most_moves (drop size s) ≡ x → with_actions st m x ≡ rolled all n bs → Ended L st (Some (m, size)) s all n bs
 unfolding with_actions
 with_actions_lem L st m size s (halted k) all n bs h f e = let z : ◌≡◌ {A = ℕ} 0 1 = cc in absurd (omega arith)
 with_actions_lem L st m size s (acts cs) all n bs h f e =
     let a : m ≡ n = cc in
     let b : cs ≡ bs = cc in
     let d : all ≡ st = cc in
-    record { size = size; is = ap (λ (i : ℕ). Got i size) a; few = omega arith; start = d; actions = rw a at (f ∙ ap acts b) }
+    record { size = size; is = ap (λ (i : ℕ). Some (i, size)) a; few = omega arith; start = d; actions = rw a at (f ∙ ap acts b) }
 
 with_count_lem : (L : Limits) (st : Start) (x : Number) (s : List ℕ) (all : Start) (n : ℕ) (bs : List ℕ) → with_count L st x s ≡ rolled all n bs
     → Ended L st x s all n bs
 unfolding with_count
-with_count_lem L st Bad s all n bs e = let z : ◌≡◌ {A = ℕ} 0 1 = cc in absurd (omega arith)
-with_count_lem L st (Got m size) s all n bs e = by (leb m L.most_actions) refl
+with_count_lem L st None s all n bs e = let z : ◌≡◌ {A = ℕ} 0 1 = cc in absurd (omega arith)
+with_count_lem L st (Some (m, size)) s all n bs e = by (leb m L.most_actions) refl
   where
-    by : (t : Bool) → leb m L.most_actions ≡ t → Ended L st (Got m size) s all n bs
+    by : (t : Bool) → leb m L.most_actions ≡ t → Ended L st (Some (m, size)) s all n bs
     by true f = with_actions_lem L st m size s (read_actions m L.most_moves (drop size s)) all n bs (leb-true m L.most_actions f) refl (simp f at e)
     by false f =
         let g : refusal log_full ≡ rolled all n bs = simp f at e in
@@ -415,20 +424,20 @@ with_count_lem L st (Got m size) s all n bs e = by (leb m L.most_actions) refl
 -- a start that was read, and what is left of the text
 record Begun (L : Limits) (numbers : List ℕ) (x : Counters) (s : List ℕ) (all : Start) (n : ℕ) (bs : List ℕ) : Type 0 where
   size : ℕ
-  is : x ≡ Counts all.half all.full size
+  is : x ≡ Ok (all.half, all.full, size)
   start : all.numbers ≡ numbers
   ended : Ended L all (read_number (drop size s)) (drop size s) all n bs
 
 with_counts_lem : (L : Limits) (numbers : List ℕ) (x : Counters) (s : List ℕ) (all : Start) (n : ℕ) (bs : List ℕ)
     → with_counts L numbers x s ≡ rolled all n bs → Begun L numbers x s all n bs
 unfolding with_counts
-with_counts_lem L numbers (Wrong k) s all n bs e = let z : ◌≡◌ {A = ℕ} 0 1 = cc in absurd (omega arith)
-with_counts_lem L numbers (Counts half full size) s all n bs e =
+with_counts_lem L numbers (Err k) s all n bs e = let z : ◌≡◌ {A = ℕ} 0 1 = cc in absurd (omega arith)
+with_counts_lem L numbers (Ok (half, full, size)) s all n bs e =
     let o = with_count_lem L (record { numbers = numbers; half = half; full = full }) (read_number (drop size s)) (drop size s) all n bs e in
     let same = sym o.start in
     record {
       size = size;
-      is = λ i. Counts (same i).half (same i).full size;
+      is = λ i. Ok ((same i).half, (same i).full, size);
       start = ap (λ (st : Start). st.numbers) o.start;
       ended = record { size = o.size; is = o.is; few = o.few; start = refl; actions = o.actions };
     }

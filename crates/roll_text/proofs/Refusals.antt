@@ -7,19 +7,16 @@ use Prim.Native.Nat.{ℕ, zero, suc, ◌-◌, ◌/◌, ◌%◌}
 use lib.Dec.{eqb, leb, ltb}
 use lib.ListN.{drop}
 use borrow.Author.Tests.{eq-eqb}
+use Rattle.std.specs.Prelude.{Option, Some, None, Result, Ok, Err, ok_or}
 use Rattle.answer.specs.Answer.{out_of_range, log_full, bad_roll}
 use Rattle.board_builder.specs.BoardBuilder.{last_count}
 use Rattle.chess_move.specs.Number.{last_move}
 use Rattle.action.specs.Layout.{fields}
 use Rattle.game_rules.specs.Limits.{Limits, actions_length}
-use Rattle.roll_text.specs.declared.Number.{Number}
-use Rattle.roll_text.specs.declared.Number.TheVariants.{Got, Bad}
 use Rattle.roll_text.specs.declared.Entry.{Entry}
-use Rattle.roll_text.specs.declared.Entry.TheVariants.{Move, Plain, Stop}
-use Rattle.roll_text.specs.declared.Counters.{Counters}
-use Rattle.roll_text.specs.declared.Counters.TheVariants.{Counts, Wrong}
-use Rattle.roll_text.specs.Number.{read_number}
-use Rattle.roll_text.specs.Roll.{Front, stopped, front, put_number, one_number, read_numbers}
+use Rattle.roll_text.specs.declared.Entry.TheVariants.{Move, Plain}
+use Rattle.roll_text.specs.Number.{Number, read_number}
+use Rattle.roll_text.specs.Roll.{Counters, Front, stopped, front, put_number, one_number, read_numbers}
 use Rattle.roll_text.specs.Roll.{Acts, halted, acts, moved_by, is_code, coded, read_entry, put_action, next_action, read_actions}
 use Rattle.roll_text.specs.Roll.{Start, Rolled, refusal, rolled, with_actions, with_count, with_counts, with_front, read_by, largest_numbers}
 use Rattle.roll_text.specs.Roll.{full_by, half_by, read_counters}
@@ -36,13 +33,13 @@ front_passes test (stopped k) = test k
 front_passes test (front xs s) = true
 
 unfoldable counters_pass : (ℕ → Bool) → Counters → Bool
-counters_pass test (Counts half full size) = true
-counters_pass test (Wrong k) = test k
+counters_pass test (Ok (half, full, size)) = true
+counters_pass test (Err k) = test k
 
-unfoldable entry_passes : (ℕ → Bool) → Entry → Bool
-entry_passes test (Move move size) = true
-entry_passes test (Plain code size) = true
-entry_passes test (Stop k) = test k
+unfoldable entry_passes : (ℕ → Bool) → Result Entry ℕ → Bool
+entry_passes test (Ok (Move move size)) = true
+entry_passes test (Ok (Plain code size)) = true
+entry_passes test (Err k) = test k
 
 unfoldable acts_passes : (ℕ → Bool) → Acts → Bool
 acts_passes test (halted k) = test k
@@ -63,10 +60,10 @@ module _ (test : ℕ → Bool) (p : Passes test) where
   one_told : (most : ℕ) (x : Number) (s : List ℕ) (go : List ℕ → Front) → ((t : List ℕ) → front_passes test (go t) ≡ true)
       → front_passes test (one_number most x s go) ≡ true
   unfolding one_number front_passes
-  one_told most Bad s go h = p.bad
-  one_told most (Got x size) s go h = by (leb x most) refl
+  one_told most None s go h = p.bad
+  one_told most (Some (x, size)) s go h = by (leb x most) refl
     where
-      by : (t : Bool) → leb x most ≡ t → front_passes test (one_number most (Got x size) s go) ≡ true
+      by : (t : Bool) → leb x most ≡ t → front_passes test (one_number most (Some (x, size)) s go) ≡ true
       by true f = simp f (put_told x (go (drop size s)) (h (drop size s)))
       by false f = simp f p.range
 
@@ -79,20 +76,20 @@ module _ (test : ℕ → Bool) (p : Passes test) where
 
   full_told : (half size : ℕ) (x : Number) → counters_pass test (full_by half size x) ≡ true
   unfolding full_by counters_pass
-  full_told half size Bad = p.bad
-  full_told half size (Got full more) = by (eqb full 0) (leb full last_count) refl refl
+  full_told half size None = p.bad
+  full_told half size (Some (full, more)) = by (eqb full 0) (leb full last_count) refl refl
     where
-      by : (t u : Bool) → eqb full 0 ≡ t → leb full last_count ≡ u → counters_pass test (full_by half size (Got full more)) ≡ true
+      by : (t u : Bool) → eqb full 0 ≡ t → leb full last_count ≡ u → counters_pass test (full_by half size (Some (full, more))) ≡ true
       by true u e f = simp e p.range
       by false true e f = simp (e, f)
       by false false e f = simp (e, f) p.range
 
   half_told : (s : List ℕ) (x : Number) → counters_pass test (half_by s x) ≡ true
   unfolding half_by counters_pass
-  half_told s Bad = p.bad
-  half_told s (Got half size) = by (leb half last_count) refl
+  half_told s None = p.bad
+  half_told s (Some (half, size)) = by (leb half last_count) refl
     where
-      by : (t : Bool) → leb half last_count ≡ t → counters_pass test (half_by s (Got half size)) ≡ true
+      by : (t : Bool) → leb half last_count ≡ t → counters_pass test (half_by s (Some (half, size))) ≡ true
       by true f = simp f (full_told half size (read_number (drop size s)))
       by false f = simp f p.range
 
@@ -105,19 +102,19 @@ module _ (test : ℕ → Bool) (p : Passes test) where
 
   moved_told : (size : ℕ) (x : Number) → entry_passes test (moved_by size x) ≡ true
   unfolding moved_by entry_passes
-  moved_told size Bad = p.bad
-  moved_told size (Got move more) = by (leb move last_move) refl
+  moved_told size None = p.bad
+  moved_told size (Some (move, more)) = by (leb move last_move) refl
     where
-      by : (t : Bool) → leb move last_move ≡ t → entry_passes test (moved_by size (Got move more)) ≡ true
+      by : (t : Bool) → leb move last_move ≡ t → entry_passes test (moved_by size (Some (move, more))) ≡ true
       by true f = simp f
       by false f = simp f p.bad
 
   coded_told : (full : Bool) (s : List ℕ) (x : Number) → entry_passes test (coded full s x) ≡ true
   unfolding coded entry_passes
-  coded_told full s Bad = p.bad
-  coded_told full s (Got code size) = by (eqb code 2) full (is_code code) refl refl refl
+  coded_told full s None = p.bad
+  coded_told full s (Some (code, size)) = by (eqb code 2) full (is_code code) refl refl refl
     where
-      by : (t u v : Bool) → eqb code 2 ≡ t → full ≡ u → is_code code ≡ v → entry_passes test (coded full s (Got code size)) ≡ true
+      by : (t u v : Bool) → eqb code 2 ≡ t → full ≡ u → is_code code ≡ v → entry_passes test (coded full s (Some (code, size))) ≡ true
       by true true v e f g = simp (e, f) p.full
       by true false v e f g = simp (e, f) (moved_told size (read_number (drop size s)))
       by false u true e f g = simp (e, g)
@@ -128,12 +125,12 @@ module _ (test : ℕ → Bool) (p : Passes test) where
   action_told bs (halted k) e = e
   action_told bs (acts cs) e = refl
 
-  next_told : (x : Entry) (left : ℕ) (s : List ℕ) (go : ℕ → List ℕ → Acts) → entry_passes test x ≡ true
+  next_told : (x : Result Entry ℕ) (left : ℕ) (s : List ℕ) (go : ℕ → List ℕ → Acts) → entry_passes test x ≡ true
       → ((l : ℕ) (t : List ℕ) → acts_passes test (go l t) ≡ true) → acts_passes test (next_action x left s go) ≡ true
   unfolding next_action entry_passes acts_passes
-  next_told (Move move size) left s go e h = action_told (fields 1 0 move) (go (left - 1) (drop size s)) (h (left - 1) (drop size s))
-  next_told (Plain code size) left s go e h = action_told (fields (code / 2) (code % 2) 0) (go left (drop size s)) (h left (drop size s))
-  next_told (Stop k) left s go e h = e
+  next_told (Ok (Move move size)) left s go e h = action_told (fields 1 0 move) (go (left - 1) (drop size s)) (h (left - 1) (drop size s))
+  next_told (Ok (Plain code size)) left s go e h = action_told (fields (code / 2) (code % 2) 0) (go left (drop size s)) (h left (drop size s))
+  next_told (Err k) left s go e h = e
 
   actions_told : (n left : ℕ) (s : List ℕ) → acts_passes test (read_actions n left s) ≡ true
   unfolding read_actions acts_passes
@@ -151,17 +148,17 @@ module _ (test : ℕ → Bool) (p : Passes test) where
 
   with_count_told : (L : Limits) (xs : Start) (x : Number) (s : List ℕ) → roll_passes test (with_count L xs x s) ≡ true
   unfolding with_count roll_passes
-  with_count_told L xs Bad s = p.bad
-  with_count_told L xs (Got n size) s = by (leb n L.most_actions) refl
+  with_count_told L xs None s = p.bad
+  with_count_told L xs (Some (n, size)) s = by (leb n L.most_actions) refl
     where
-      by : (t : Bool) → leb n L.most_actions ≡ t → roll_passes test (with_count L xs (Got n size) s) ≡ true
+      by : (t : Bool) → leb n L.most_actions ≡ t → roll_passes test (with_count L xs (Some (n, size)) s) ≡ true
       by true f = simp f (with_actions_told xs n (read_actions n L.most_moves (drop size s)) (actions_told n L.most_moves (drop size s)))
       by false f = simp f p.full
 
   with_counts_told : (L : Limits) (xs : List ℕ) (x : Counters) (s : List ℕ) → counters_pass test x ≡ true → roll_passes test (with_counts L xs x s) ≡ true
   unfolding with_counts counters_pass roll_passes
-  with_counts_told L xs (Wrong k) s e = e
-  with_counts_told L xs (Counts half full size) s e =
+  with_counts_told L xs (Err k) s e = e
+  with_counts_told L xs (Ok (half, full, size)) s e =
       with_count_told L (record { numbers = xs; half = half; full = full }) (read_number (drop size s)) (drop size s)
 
   with_front_told : (counted : Bool) (L : Limits) (x : Front) → front_passes test x ≡ true → roll_passes test (with_front counted L x) ≡ true
@@ -207,3 +204,8 @@ pub accepted_rolled : (x : Rolled) → roll_told x ≡ true → (roll_answer x).
 unfolding roll_told roll_passes told roll_answer
 accepted_rolled (refusal k) e z = absurd (false≢true (sym (ap not (eq-eqb k 0 z)) ∙ e))
 accepted_rolled (rolled xs n bs) e z = record { start = xs; count = n; actions = bs; is = refl }
+
+-- ---- what `?` hands on where there is nothing
+
+pub refusal_is : {T : Type 0} {o : Option T} {k e : ℕ} → Err k ≡ ok_or o e → o ≡ None → k ≡ e
+refusal_is {T = T} {k = k} {e = e} r n = let z : ◌≡◌ {A = Result T ℕ} (Err k) (Err e) = r ∙ ap (λ (p : Option T). ok_or p e) n in cc

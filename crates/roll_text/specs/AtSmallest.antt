@@ -1,12 +1,11 @@
 -- Numbers and refusals of a roll at their smallest (document 02, orders 1 and 12). Each roll and each call breaks the check of its row and others that come
 -- after it, so that a later check tested before it would give another number.
 -- Assumes nothing.
-use Rattle.std.specs.Prelude.{ℕ, ◌≡◌, List, [], ◌∷◌, ◌++◌, replicate}
+use Rattle.std.specs.Prelude.{ℕ, ◌≡◌, List, [], ◌∷◌, ◌++◌, replicate, Some, None}
 use Rattle.answer.specs.Answer.{out_of_range, output_too_short, log_full, part_too_short, bad_roll, write_answer}
 use Rattle.board_builder.specs.declared.BoardBuilder.{BoardBuilder}
 use Rattle.board_builder.specs.BoardBuilder.{board, with_counters, all_numbers, record_size, squares, empty_board, no_board}
 use Rattle.game_rules.specs.Limits.{Limits}
-use Rattle.roll_text.specs.declared.Number.TheVariants.{Got, Bad}
 use Rattle.roll_text.specs.Number.{number_text, read_number}
 use Rattle.roll_text.specs.Calls.{roll_answer, judged, judged_old, write_check, game_text}
 
@@ -14,11 +13,11 @@ use Rattle.roll_text.specs.Calls.{roll_answer, judged, judged_old, write_check, 
 pub record NumbersAtSmallest : Type 0 where
   pub one_group : number_text 127 ≡ 127 ∷ []
   pub lowest_first : number_text 300 ≡ 172 ∷ 2 ∷ []
-  pub reads : read_number (172 ∷ 2 ∷ []) ≡ Got 300 2
-  pub cut_short : read_number (172 ∷ []) ≡ Bad
-  pub needless : read_number (172 ∷ 130 ∷ 0 ∷ []) ≡ Bad
-  pub six_groups : read_number (128 ∷ 128 ∷ 128 ∷ 128 ∷ 128 ∷ 1 ∷ []) ≡ Bad
-  pub five_groups : read_number (128 ∷ 128 ∷ 128 ∷ 128 ∷ 1 ∷ []) ≡ Got 268435456 5
+  pub reads : read_number (172 ∷ 2 ∷ []) ≡ Some (300, 2)
+  pub cut_short : read_number (172 ∷ []) ≡ None
+  pub needless : read_number (172 ∷ 130 ∷ 0 ∷ []) ≡ None
+  pub six_groups : read_number (128 ∷ 128 ∷ 128 ∷ 128 ∷ 128 ∷ 1 ∷ []) ≡ None
+  pub five_groups : read_number (128 ∷ 128 ∷ 128 ∷ 128 ∷ 1 ∷ []) ≡ Some (268435456, 5)
 
 -- limits of two actions and no move: a part has 8 bytes
 abbrev pub fewest : Limits

@@ -2,19 +2,16 @@
 -- move number. An old roll has 68 numbers and no counters. The text of either, and how a text is read, from the left, with the limits as an argument.
 -- Assumes nothing.
 use Rattle.std.specs.Prelude.{ℕ, zero, suc, ◌+◌, ◌*◌, ◌-◌, ◌/◌, ◌%◌, Bool, true, false, cond, ◌&&◌, List, [], ◌∷◌, ◌++◌, eqb, leb, drop, get_or, replicate}
+use Rattle.std.specs.Prelude.{Some, None, Result, Ok, Err}
 use Rattle.answer.specs.Answer.{out_of_range, log_full, bad_roll}
 use Rattle.board_builder.specs.declared.BoardBuilder.{BoardBuilder}
 use Rattle.board_builder.specs.BoardBuilder.{squares, last_count, counters_in_range, numbers, board_of, with_counters}
 use Rattle.chess_move.specs.Number.{last_move, of_bytes}
 use Rattle.action.specs.Layout.{action_size, fields}
 use Rattle.game_rules.specs.Limits.{Limits}
-use Rattle.roll_text.specs.declared.Number.{Number}
-use Rattle.roll_text.specs.declared.Number.TheVariants.{Got, Bad}
 use Rattle.roll_text.specs.declared.Entry.{Entry}
-use Rattle.roll_text.specs.declared.Entry.TheVariants.{Move, Plain, Stop}
-use Rattle.roll_text.specs.declared.Counters.{Counters}
-use Rattle.roll_text.specs.declared.Counters.TheVariants.{Counts, Wrong}
-use Rattle.roll_text.specs.Number.{number_text, read_number}
+use Rattle.roll_text.specs.declared.Entry.TheVariants.{Move, Plain}
+use Rattle.roll_text.specs.Number.{Number, number_text, read_number}
 
 -- ---- the record's 68 numbers before the counters: the largest that each may be, in their order
 
@@ -107,43 +104,47 @@ put_number x (front xs rest) = front (x ∷ xs) rest
 
 -- 17 for what is not a number, before 5 for one over its bound
 unfoldable pub one_number : ℕ → Number → List ℕ → (List ℕ → Front) → Front
-one_number most Bad s go = stopped bad_roll
-one_number most (Got x size) s go = cond (leb x most) (put_number x (go (drop size s))) (stopped out_of_range)
+one_number most None s go = stopped bad_roll
+one_number most (Some (x, size)) s go = cond (leb x most) (put_number x (go (drop size s))) (stopped out_of_range)
 
 unfoldable pub read_numbers : List ℕ → List ℕ → Front
 read_numbers [] s = front [] s
 read_numbers (m ∷ ms) s = one_number m (read_number s) s (λ t. read_numbers ms t)
 
+-- the half-move clock, the move number, and how many bytes they take, or a refusal
+abbrev pub Counters : Type 0
+Counters = Result (ℕ × ℕ × ℕ) ℕ
+
 -- the move number: 17 for what is not a number, 5 for 0 and for one over its bound
 unfoldable pub full_by : ℕ → ℕ → Number → Counters
-full_by half size Bad = Wrong bad_roll
-full_by half size (Got full more) =
-    cond (eqb full 0) (Wrong out_of_range)
-    (cond (leb full last_count) (Counts half full (size + more)) (Wrong out_of_range))
+full_by half size None = Err bad_roll
+full_by half size (Some (full, more)) =
+    cond (eqb full 0) (Err out_of_range)
+    (cond (leb full last_count) (Ok (half, full, size + more)) (Err out_of_range))
 
 -- the half-move clock, and the move number behind it
 unfoldable pub half_by : List ℕ → Number → Counters
-half_by s Bad = Wrong bad_roll
-half_by s (Got half size) = cond (leb half last_count) (full_by half size (read_number (drop size s))) (Wrong out_of_range)
+half_by s None = Err bad_roll
+half_by s (Some (half, size)) = cond (leb half last_count) (full_by half size (read_number (drop size s))) (Err out_of_range)
 
 -- an old roll has none and gets 0 and 1
 unfoldable pub read_counters : Bool → List ℕ → Counters
 read_counters true s = half_by s (read_number s)
-read_counters false s = Counts 0 1 0
+read_counters false s = Ok (0, 1, 0)
 
 -- a move's number
-unfoldable pub moved_by : ℕ → Number → Entry
-moved_by size Bad = Stop bad_roll
-moved_by size (Got move more) = cond (leb move last_move) (Move move (size + more)) (Stop bad_roll)
+unfoldable pub moved_by : ℕ → Number → Result Entry ℕ
+moved_by size None = Err bad_roll
+moved_by size (Some (move, more)) = cond (leb move last_move) (Ok (Move move (size + more))) (Err bad_roll)
 
 -- `full` means that no more moves may come: 13 at the move's code, before its number is read
-unfoldable pub coded : Bool → List ℕ → Number → Entry
-coded full s Bad = Stop bad_roll
-coded full s (Got code size) =
-    cond (eqb code 2) (cond full (Stop log_full) (moved_by size (read_number (drop size s))))
-    (cond (is_code code) (Plain code size) (Stop bad_roll))
+unfoldable pub coded : Bool → List ℕ → Number → Result Entry ℕ
+coded full s None = Err bad_roll
+coded full s (Some (code, size)) =
+    cond (eqb code 2) (cond full (Err log_full) (moved_by size (read_number (drop size s))))
+    (cond (is_code code) (Ok (Plain code size)) (Err bad_roll))
 
-abbrev pub read_entry : Bool → List ℕ → Entry
+abbrev pub read_entry : Bool → List ℕ → Result Entry ℕ
 read_entry full s = coded full s (read_number s)
 
 -- the actions' bytes, or a refusal
@@ -156,10 +157,10 @@ put_action bs (halted k) = halted k
 put_action bs (acts cs) = acts (bs ++ cs)
 
 -- `left` moves may come
-unfoldable pub next_action : Entry → ℕ → List ℕ → (ℕ → List ℕ → Acts) → Acts
-next_action (Move move size) left s go = put_action (fields 1 0 move) (go (left - 1) (drop size s))
-next_action (Plain code size) left s go = put_action (fields (code / 2) (code % 2) 0) (go left (drop size s))
-next_action (Stop k) left s go = halted k
+unfoldable pub next_action : Result Entry ℕ → ℕ → List ℕ → (ℕ → List ℕ → Acts) → Acts
+next_action (Ok (Move move size)) left s go = put_action (fields 1 0 move) (go (left - 1) (drop size s))
+next_action (Ok (Plain code size)) left s go = put_action (fields (code / 2) (code % 2) 0) (go left (drop size s))
+next_action (Err k) left s go = halted k
 
 -- n actions, and then the text's end
 unfoldable pub read_actions : ℕ → ℕ → List ℕ → Acts
@@ -178,12 +179,12 @@ with_actions st n (acts bs) = rolled st n bs
 
 -- 17 for what is not a number, before 13 for a count over the limit
 unfoldable pub with_count : Limits → Start → Number → List ℕ → Rolled
-with_count L st Bad s = refusal bad_roll
-with_count L st (Got n size) s = cond (leb n L.most_actions) (with_actions st n (read_actions n L.most_moves (drop size s))) (refusal log_full)
+with_count L st None s = refusal bad_roll
+with_count L st (Some (n, size)) s = cond (leb n L.most_actions) (with_actions st n (read_actions n L.most_moves (drop size s))) (refusal log_full)
 
 unfoldable pub with_counts : Limits → List ℕ → Counters → List ℕ → Rolled
-with_counts L numbers (Wrong k) s = refusal k
-with_counts L numbers (Counts half full size) s =
+with_counts L numbers (Err k) s = refusal k
+with_counts L numbers (Ok (half, full, size)) s =
     with_count L (record { numbers = numbers; half = half; full = full }) (read_number (drop size s)) (drop size s)
 
 unfoldable pub with_front : Bool → Limits → Front → Rolled

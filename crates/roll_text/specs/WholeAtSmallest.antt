@@ -1,10 +1,9 @@
 -- Whole rolls, byte by byte: every kind of action, written, read, and left in the part; each number of the record at its bound and over it; the answers.
 -- Assumes nothing.
-use Rattle.std.specs.Prelude.{ℕ, ◌≡◌, List, [], ◌∷◌, ◌++◌, replicate, set}
+use Rattle.std.specs.Prelude.{ℕ, ◌≡◌, List, [], ◌∷◌, ◌++◌, replicate, set, Some, None}
 use Rattle.board_builder.specs.declared.BoardBuilder.{BoardBuilder}
 use Rattle.board_builder.specs.BoardBuilder.{board, with_counters, no_board}
 use Rattle.game_rules.specs.Limits.{Limits}
-use Rattle.roll_text.specs.declared.Number.TheVariants.{Got, Bad}
 use Rattle.roll_text.specs.Number.{number_text, read_number}
 use Rattle.roll_text.specs.Calls.{roll_answer, roll_over, judged, write_check, game_text}
 
@@ -70,7 +69,7 @@ pub record WholeAtSmallest : Type 0 where
   pub text_127 : number_text 127 ≡ 127 ∷ []
   pub text_128 : number_text 128 ≡ 128 ∷ 1 ∷ []
   pub text_16384 : number_text 16384 ≡ 128 ∷ 128 ∷ 1 ∷ []
-  pub read_127 : read_number (127 ∷ []) ≡ Got 127 1
-  pub read_128 : read_number (128 ∷ 1 ∷ []) ≡ Got 128 2
-  pub five_groups : read_number (128 ∷ 128 ∷ 128 ∷ 128 ∷ 1 ∷ []) ≡ Got 268435456 5
-  pub six_groups : read_number (128 ∷ 128 ∷ 128 ∷ 128 ∷ 128 ∷ 1 ∷ []) ≡ Bad
+  pub read_127 : read_number (127 ∷ []) ≡ Some (127, 1)
+  pub read_128 : read_number (128 ∷ 1 ∷ []) ≡ Some (128, 2)
+  pub five_groups : read_number (128 ∷ 128 ∷ 128 ∷ 128 ∷ 1 ∷ []) ≡ Some (268435456, 5)
+  pub six_groups : read_number (128 ∷ 128 ∷ 128 ∷ 128 ∷ 128 ∷ 1 ∷ []) ≡ None

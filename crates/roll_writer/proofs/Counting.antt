@@ -138,9 +138,3 @@ so_far_more part l out new from n i at t w h r fits e =
 pub so_far_all : (part l out : List ℕ) (from n i at : ℕ) → SoFar part l out from n i at → n ≤ i → out ≡ written l from (actions_text n part)
 so_far_all part l out from n i at w h =
     w.bytes ∙ ap (written l from) (sym (w.split ∙ ap (λ (y : List ℕ). w.done ++ y) (text_end n i (drop (4 * i) part) h) ∙ append-nil w.done))
-
-pub so_far_length : (part l out : List ℕ) (from n i at : ℕ) → SoFar part l out from n i at → from + length (actions_text n part) ≤ length l → length out
-    ≡ length l
-so_far_length part l out from n i at w fits =
-    let a = ap length w.split ∙ length-append w.done (actions_text (n - i) (drop (4 * i) part)) in
-    ap length w.bytes ∙ length_written l from w.done (omega (arith, a))

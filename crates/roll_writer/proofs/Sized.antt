@@ -1,16 +1,19 @@
 -- How long an action's text is, by one look at its bytes.
 -- Assumes nothing.
 use mathlib.Core.Path.{◌≡◌, refl, ap, sym, ◌∙◌}
-use mathlib.Core.Bool.{Bool, true, false, cond, ◌&&◌}
+use mathlib.Core.Bool.{Bool, true, false, cond}
 use mathlib.Core.List.{List}
 use Prim.Native.Nat.{ℕ, zero, suc, ◌+◌, ◌*◌, ◌-◌, ◌≤◌, ◌<◌}
 use native.Mathlib.Omega.{arith}
+use mir.Val.{bool_byte}
 use lib.Dec.{eqb, leb, ltb}
 use lib.ListN.{length, take, drop, get_or, length-append, length-drop}
 use lib.Seq.{get_or-drop}
-use borrow.Author.Tests.{eqb-true, eqb-false, eq-eqb, ne_eqb, le-leb, lt-leb, le-ltb, ltb-true, ltb-false}
+use borrow.Author.Tests.{eqb-true, eqb-false, eq-eqb, ne_eqb, le-ltb, ltb-true, ltb-false}
+use Rattle.std.specs.Prelude.{Option, Some, None, Result, Ok, Err}
+use Rattle.std.proofs.lemmas.Option.{cond_some, none-some}
 use Rattle.answer.specs.declared.Answer.{Answer}
-use Rattle.answer.specs.Answer.{accepted, refused}
+use Rattle.answer.specs.Answer.{refused}
 use Rattle.answer.proofs.Writes.{Written, write_refused}
 use Rattle.chess_move.specs.Number.{last_move, of_bytes}
 use Rattle.action.specs.Layout.{action_size, moves_here, action_of}
@@ -19,7 +22,6 @@ use Rattle.actions.proofs.Held.{held_none, held_turn, held_stop, held_all}
 use Rattle.roll_text.specs.Number.{number_text}
 use Rattle.roll_text.specs.Roll.{code_of, kind_at, colour_at, move_number_at, action_text, actions_text}
 use Rattle.roll_text.specs.Calls.{fields_at, moves_by_kind}
-use Rattle.roll_text.proofs.Numbers.{groups_more}
 use Rattle.roll_text.proofs.ByFields.{action_in_range, held_fields, fields_here}
 use Rattle.roll_text.proofs.ByKind.{by_kind_turn}
 use Rattle.roll_text.proofs.Entries.{plain_here, code_range}
@@ -35,22 +37,7 @@ fields_of acts at pair e =
     let a : get_or acts at 0 ≡ get_or (drop at acts) 0 0 = sym (get_or-drop at acts 0 0 ∙ ap (λ (i : ℕ). get_or acts i 0) here) in
     rw (e, a, ← get_or-drop at acts 1 0, ← get_or-drop at acts 2 0, ← get_or-drop at acts 3 0) refl
 
--- ---- a move
-
-pub move_coloured : (c m : ℕ) → (c ≡ 0 → ⊥) → 0 ≡ move_size c m
-move_coloured c m h = simp (ne_eqb c 0 h)
-
-pub move_large : (c m : ℕ) → c ≡ 0 → last_move < m → 0 ≡ move_size c m
-move_large c m h l = simp (eq-eqb c 0 h, lt-leb m last_move l)
-
-pub move_there : (c m : ℕ) → c ≡ 0 → m ≤ last_move → 1 + length (number_text m) ≡ move_size c m
-move_there c m h l = simp (eq-eqb c 0 h, le-leb m last_move l)
-
 -- ---- at the front of some bytes
-
-move_held_lem : (c m : ℕ) (t : Bool) → (eqb c 0 && leb m last_move) ≡ t → is_held (moves_here c m) ≡ t
-move_held_lem c m true e = simp e
-move_held_lem c m false e = simp e
 
 pub at_move : (bs : List ℕ) → action_size ≤ length bs → kind_at bs ≡ 1 → move_size (colour_at bs) (move_number_at bs) ≡ size_at bs
 unfolding size_at
@@ -67,7 +54,7 @@ at_move bs h one = go (eqb c 0) (leb m last_move) refl refl
 
     go : (t u : Bool) → eqb (colour_at bs) 0 ≡ t → leb (move_number_at bs) last_move ≡ u
         → move_size (colour_at bs) (move_number_at bs)
-        ≡ cond (is_held (action_of (take action_size bs))) (length (action_text (kind_at bs) (colour_at bs) (move_number_at bs))) 0
+        ≡ cond (is_held (action_of (take action_size bs))) (Some (length (action_text (kind_at bs) (colour_at bs) (move_number_at bs)))) None
     go true true e f =
         let code : code_of (kind_at bs) (colour_at bs) ≡ 2 = omega (arith, one, eqb-true (colour_at bs) 0 e) in
         let long = ap length (text_of_move (kind_at bs) (colour_at bs) (move_number_at bs) one)
@@ -82,91 +69,67 @@ pub at_plain : (bs t : List ℕ) → action_size ≤ length bs → (kind_at bs �
 unfolding size_at
 at_plain bs t h not is = rw is (go (is_held (action_of (take action_size bs))) refl)
   where
-    go : (b : Bool) → is_held (action_of (take action_size bs)) ≡ b → cond b 1 0
-        ≡ cond b (length (action_text (kind_at bs) (colour_at bs) (move_number_at bs))) 0
+    go : (b : Bool) → is_held (action_of (take action_size bs)) ≡ b → cond b (Some 1) None
+        ≡ cond b (Some (length (action_text (kind_at bs) (colour_at bs) (move_number_at bs)))) None
     go true e =
         let range : action_in_range (kind_at bs) (colour_at bs) (move_number_at bs) ≡ true =
         sym (ap is_held (fields_here bs h) ∙ held_fields (kind_at bs) (colour_at bs) (move_number_at bs)) ∙ e in
         let p = plain_here (kind_at bs) (colour_at bs) (move_number_at bs) not range in
         let r = code_range (code_of (kind_at bs) (colour_at bs)) p.code in
-        one_byte (code_of (kind_at bs) (colour_at bs)) (omega (arith, r))
-        ∙ sym (ap length (text_of_plain (kind_at bs) (colour_at bs) (move_number_at bs) not))
+        ap (λ (j : ℕ). Some j) (one_byte (code_of (kind_at bs) (colour_at bs)) (omega (arith, r))
+        ∙ sym (ap length (text_of_plain (kind_at bs) (colour_at bs) (move_number_at bs) not)))
     go false e = refl
 
 -- ---- one action after the other
 
-some_groups : (n : ℕ) → 1 ≤ length (number_text n)
-some_groups n = go (ltb n 128) refl
-  where
-    go : (t : Bool) → ltb n 128 ≡ t → 1 ≤ length (number_text n)
-    go true e = omega (arith, one_byte n (ltb-true n 128 e))
-    go false e = omega (arith, ap length (groups_more 4 n (ltb-false n 128 e)))
-
-some_text : (k c m : ℕ) → 1 ≤ length (action_text k c m)
-some_text k c m = go (eqb k 1) refl
-  where
-    go : (t : Bool) → eqb k 1 ≡ t → 1 ≤ length (action_text k c m)
-    go true e =
-        omega (arith, some_groups (code_of k c), ap length (text_of_move k c m (eqb-true k 1 e)) ∙ length-append (number_text (code_of k c)) (number_text m))
-    go false e = omega (arith, some_groups (code_of k c), ap length (text_of_plain k c m (eqb-false k 1 e)))
-
-none_held : (bs : List ℕ) → size_at bs ≡ 0 → is_held (action_of (take action_size bs)) ≡ false
+none_held : (bs : List ℕ) → size_at bs ≡ None → is_held (action_of (take action_size bs)) ≡ false
 unfolding size_at
-none_held bs e = go (is_held (action_of (take action_size bs))) refl
+none_held bs e = go (is_held (action_of (take action_size bs))) e
   where
-    go : (b : Bool) → is_held (action_of (take action_size bs)) ≡ b → b ≡ false
-    go true f = let z : length (action_text (kind_at bs) (colour_at bs) (move_number_at bs)) ≡ 0 = simp f at e in
-        absurd (omega (arith, z, some_text (kind_at bs) (colour_at bs) (move_number_at bs)))
+    go : (b : Bool) → cond b (Some (length (action_text (kind_at bs) (colour_at bs) (move_number_at bs)))) None ≡ None → b ≡ false
+    go true f = absurd (none-some _ (sym f))
     go false f = refl
 
-pub record HeldAt (bs : List ℕ) : Type 0 where
-  pub held : is_held (action_of (take action_size bs)) ≡ true
-  pub long : size_at bs ≡ length (action_text (kind_at bs) (colour_at bs) (move_number_at bs))
-
-one_held : (bs : List ℕ) → (size_at bs ≡ 0 → ⊥) → HeldAt bs
+-- an action in range is there, and its text has `size` bytes
+one_held : (bs : List ℕ) (size : ℕ) → size_at bs ≡ Some size
+    → (is_held (action_of (take action_size bs)) ≡ true) × (length (action_text (kind_at bs) (colour_at bs) (move_number_at bs)) ≡ size)
 unfolding size_at
-one_held bs n = go (is_held (action_of (take action_size bs))) refl
-  where
-    go : (b : Bool) → is_held (action_of (take action_size bs)) ≡ b → HeldAt bs
-    go true f = record { held = f; long = simp f }
-    go false f = absurd (n (simp f))
+one_held bs size e = cond_some (is_held (action_of (take action_size bs))) (length (action_text (kind_at bs) (colour_at bs) (move_number_at bs))) size e
 
--- the first i actions are held, and k is one more than the length of their text
+-- the first i actions are held, and k is the length of their text
 pub record SizedSo (acts : List ℕ) (n i k : ℕ) : Type 0 where
   pub within : i ≤ n
-  pub some : 1 ≤ k
-  pub most : k ≤ 1 + 4 * i
+  pub most : k ≤ 4 * i
   pub held : actions_held acts i ≡ true
-  pub long : 1 + length (actions_text n acts) ≡ k + length (actions_text (n - i) (drop (4 * i) acts))
+  pub long : length (actions_text n acts) ≡ k + length (actions_text (n - i) (drop (4 * i) acts))
 
-pub sized_none : (acts : List ℕ) (n : ℕ) → SizedSo acts n 0 1
+pub sized_none : (acts : List ℕ) (n : ℕ) → SizedSo acts n 0 0
 sized_none acts n =
-    record { within = omega arith; some = omega arith; most = omega arith; held = held_none acts; long = rw (whole n) refl }
+    record { within = omega arith; most = omega arith; held = held_none acts; long = rw (whole n) (omega arith) }
 
-pub sized_more : (acts : List ℕ) (n i k size : ℕ) → SizedSo acts n i k → i < n → size ≡ size_at (drop (4 * i) acts) → size ≤ 4 → (size ≡ 0 → ⊥)
+pub sized_more : (acts : List ℕ) (n i k size : ℕ) → SizedSo acts n i k → i < n → size_at (drop (4 * i) acts) ≡ Some size → size ≤ 4
     → SizedSo acts n (i + 1) (k + size)
-sized_more acts n i k size w h e few some =
+sized_more acts n i k size w h e few =
     let bs : List ℕ = drop (4 * i) acts in
-    let o = one_held bs (λ z. some (e ∙ z)) in
+    let o = one_held bs size e in
     let t = length_turn n i acts bs h refl in
     record {
       within = omega arith;
-      some = omega (arith, w.some);
       most = omega (arith, w.most);
-      held = held_turn acts i w.held o.held;
-      long = omega (arith, w.long, t, e, o.long);
+      held = held_turn acts i w.held o.0;
+      long = omega (arith, w.long, t, o.1);
     }
 
-pub sized_stop : (acts : List ℕ) (n i size : ℕ) → i < n → size ≡ size_at (drop (4 * i) acts) → size ≡ 0 → 0 ≡ actions_size n acts
+pub sized_stop : (acts : List ℕ) (n i : ℕ) → i < n → size_at (drop (4 * i) acts) ≡ None → None ≡ actions_size n acts
 unfolding actions_size
-sized_stop acts n i size h e z = rw (held_stop acts n i h (none_held (drop (4 * i) acts) (sym e ∙ z))) refl
+sized_stop acts n i h e = rw (held_stop acts n i h (none_held (drop (4 * i) acts) e)) refl
 
-pub sized_all : (acts : List ℕ) (n i k : ℕ) → SizedSo acts n i k → n ≤ i → k ≡ actions_size n acts
+pub sized_all : (acts : List ℕ) (n i k : ℕ) → SizedSo acts n i k → n ≤ i → Some k ≡ actions_size n acts
 unfolding actions_size
 sized_all acts n i k w h =
     let e = ap length (text_end n i (drop (4 * i) acts) h) in
-    let long : k ≡ 1 + length (actions_text n acts) = omega (arith, w.long, e) in
-    rw (held_all acts n i h w.within w.held) long
+    let long : k ≡ length (actions_text n acts) = omega (arith, w.long, e) in
+    rw (held_all acts n i h w.within w.held) (ap (λ (j : ℕ). Some j) long)
 
 -- ---- the moves need not be counted where there are few actions
 
@@ -192,7 +155,11 @@ pub kinds_none : (acts : List ℕ) (n : ℕ) → KindsSo acts n 0 0
 unfolding moves_by_kind
 kinds_none acts n = record { within = omega arith; most = omega arith; counted = refl }
 
-pub one_most : (t : Bool) → cond t 1 0 ≤ 1
+pub one_or_none : (t : Bool) → bool_byte t ≡ cond t 1 0
+one_or_none true = refl
+one_or_none false = refl
+
+one_most : (t : Bool) → cond t 1 0 ≤ 1
 one_most true = omega arith
 one_most false = omega arith
 
@@ -206,9 +173,6 @@ kinds_more acts n i k one w h e =
       counted = omega (arith, w.counted, e, by_kind_turn acts i, ap (moves_by_kind acts) next);
     }
 
-pub kinds_all : (acts : List ℕ) (n i k : ℕ) → KindsSo acts n i k → n ≤ i → k ≡ moves_by_kind acts n
-kinds_all acts n i k w h = let same : i ≡ n = omega (arith, w.within) in w.counted ∙ ap (moves_by_kind acts) same
-
 -- ---- bounds
 
 pub small_number : (n : ℕ) → n < 2097152 → length (number_text n) ≤ 3
@@ -219,63 +183,68 @@ small_number n h = go (ltb n 128) (ltb n 16384) refl refl
     go false true e f = omega (arith, two_bytes n (ltb-false n 128 e) (ltb-true n 16384 f))
     go false false e f = omega (arith, three_bytes n (ltb-false n 16384 f) h)
 
-pub plain_few : (bytes : List ℕ) → plain_size bytes ≤ 1
-plain_few bytes = go (is_held (action_of bytes))
-  where
-    go : (t : Bool) → cond t 1 0 ≤ 1
-    go true = omega arith
-    go false = omega arith
-
 pub four_there : (acts : List ℕ) (at : ℕ) → at + 4 ≤ length acts → action_size ≤ length (drop at acts)
 four_there acts at h = rw (length-drop at acts) (omega arith)
 
 -- ---- what the measuring answers
 
-pub size_none : (acts : List ℕ) (n size : ℕ) → size ≡ actions_size n acts → size ≡ 0 → actions_held acts n ≡ false
+pub size_none : (acts : List ℕ) (n : ℕ) → actions_size n acts ≡ None → actions_held acts n ≡ false
 unfolding actions_size
-size_none acts n size e z = go (actions_held acts n) refl
+size_none acts n e = go (actions_held acts n) refl
   where
     go : (t : Bool) → actions_held acts n ≡ t → t ≡ false
-    go true f = let one : size ≡ 1 + length (actions_text n acts) = simp f at e in absurd (omega (arith, one))
+    go true f =
+        let one : ◌≡◌ {A = Option ℕ} (Some (length (actions_text n acts))) None = simp f at e in
+        let z : ◌≡◌ {A = ℕ} 0 1 = cc in absurd (omega arith)
     go false f = refl
 
 pub record AllSized (acts : List ℕ) (n size : ℕ) : Type 0 where
   pub held : actions_held acts n ≡ true
-  pub long : size ≡ 1 + length (actions_text n acts)
+  pub long : size ≡ length (actions_text n acts)
 
-pub size_all : (acts : List ℕ) (n size : ℕ) → size ≡ actions_size n acts → (size ≡ 0 → ⊥) → AllSized acts n size
+pub size_all : (acts : List ℕ) (n size : ℕ) → actions_size n acts ≡ Some size → AllSized acts n size
 unfolding actions_size
-size_all acts n size e some = go (actions_held acts n) refl
+size_all acts n size e = go (actions_held acts n) refl
   where
     go : (t : Bool) → actions_held acts n ≡ t → AllSized acts n size
-    go true f = record { held = f; long = simp f at e }
-    go false f = absurd (some (simp f at e))
+    go true f =
+        let one : ◌≡◌ {A = Option ℕ} (Some (length (actions_text n acts))) (Some size) = simp f at e in
+        record { held = f; long = cc }
+    go false f =
+        let one : ◌≡◌ {A = Option ℕ} None (Some size) = simp f at e in
+        let z : ◌≡◌ {A = ℕ} 0 1 = cc in absurd (omega arith)
 
-pub refused_so : (r : Answer) (k check : ℕ) (text : List ℕ) → r ≡ refused k → k ≡ check → (k ≡ 0 → ⊥) → r ≡ measured check text
-refused_so r k check text e f n = e ∙ ap refused f ∙ simp (ne_eqb check 0 (λ z. n (f ∙ z)))
+pub refused_so : (k check : ℕ) (text : List ℕ) → k ≡ check → (k ≡ 0 → ⊥) → Err k ≡ measured check text
+refused_so k check text f n = simp (ne_eqb check 0 (λ z. n (f ∙ z))) (ap (λ (j : ℕ). Err j) f)
 
-pub accepted_so : (r : Answer) (value check : ℕ) (text : List ℕ) → r ≡ accepted value → 0 ≡ check → value ≡ length text → r ≡ measured check text
-accepted_so r value check text e f g = e ∙ ap accepted g ∙ simp (eq-eqb check 0 (sym f))
+pub accepted_so : (value check : ℕ) (text : List ℕ) → 0 ≡ check → value ≡ length text → Ok value ≡ measured check text
+accepted_so value check text f g = simp (eq-eqb check 0 (sym f)) (ap (λ (j : ℕ). Ok j) g)
 
 -- what a writer does with what was measured
-pub not_accepted : (r : Answer) (check : ℕ) (text out : List ℕ) → r ≡ measured check text → (r.number ≡ 0 → ⊥) → Written check text out r out
-not_accepted r check text out e n = go (eqb check 0) refl
+pub not_accepted : (r : Answer) (k check : ℕ) (text out : List ℕ) → measured check text ≡ Err k → r ≡ refused k → Written check text out r out
+not_accepted r k check text out e is = go (eqb check 0) refl
   where
     go : (t : Bool) → eqb check 0 ≡ t → Written check text out r out
-    go true f = let same : r ≡ accepted (length text) = e ∙ simp f in absurd (n (ap (λ (a : Answer). a.number) same))
+    go true f =
+        let same : ◌≡◌ {A = Result ℕ ℕ} (Ok (length text)) (Err k) = simp f at e in
+        let z : ◌≡◌ {A = ℕ} 0 1 = cc in absurd (omega arith)
     go false f =
+        let same : ◌≡◌ {A = Result ℕ ℕ} (Err check) (Err k) = simp f at e in
+        let number : check ≡ k = cc in
         let w = write_refused check text out (eqb-false check 0 f) in
-        record { answer = e ∙ simp f w.answer; bytes = w.bytes }
+        record { answer = is ∙ ap refused (sym number) ∙ w.answer; bytes = w.bytes }
 
-pub record Measured (r : Answer) (check : ℕ) (text : List ℕ) : Type 0 where
+pub record Measured (value check : ℕ) (text : List ℕ) : Type 0 where
   pub passed : check ≡ 0
-  pub told : r ≡ accepted (length text)
+  pub long : value ≡ length text
 
-pub was_accepted : (r : Answer) (check : ℕ) (text : List ℕ) → r ≡ measured check text → r.number ≡ 0 → Measured r check text
-was_accepted r check text e z = go (eqb check 0) refl
+pub was_accepted : (value check : ℕ) (text : List ℕ) → measured check text ≡ Ok value → Measured value check text
+was_accepted value check text e = go (eqb check 0) refl
   where
-    go : (t : Bool) → eqb check 0 ≡ t → Measured r check text
-    go true f = record { passed = eqb-true check 0 f; told = e ∙ simp f }
+    go : (t : Bool) → eqb check 0 ≡ t → Measured value check text
+    go true f =
+        let same : ◌≡◌ {A = Result ℕ ℕ} (Ok (length text)) (Ok value) = simp f at e in
+        record { passed = eqb-true check 0 f; long = cc }
     go false f =
-        let same : r ≡ refused check = e ∙ simp f in
-        absurd (eqb-false check 0 f (sym (ap (λ (a : Answer). a.number) same) ∙ z))
+        let same : ◌≡◌ {A = Result ℕ ℕ} (Err check) (Ok value) = simp f at e in
+        let z : ◌≡◌ {A = ℕ} 0 1 = cc in absurd (omega arith)

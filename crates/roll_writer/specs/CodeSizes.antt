@@ -1,8 +1,6 @@
--- How many bytes an action takes in a roll, by one look at its four bytes: 0 where they hold no action in range.
+-- How many bytes an action takes in a roll, by one look at its four bytes: none where they hold no action in range.
 -- Assumes nothing.
-use Rattle.std.specs.Prelude.{ℕ, ◌+◌, ◌≤◌, ◌<◌, ◌≡◌, cond, List, ◌++◌, eqb, length, take}
-use Rattle.answer.specs.declared.Answer.{Answer}
-use Rattle.answer.specs.Answer.{accepted, refused}
+use Rattle.std.specs.Prelude.{ℕ, ◌+◌, ◌≤◌, ◌<◌, ◌≡◌, cond, List, ◌++◌, eqb, length, take, Option, Some, None, Result, Ok, Err}
 use Rattle.board_builder.specs.declared.BoardBuilder.{BoardBuilder}
 use Rattle.board_builder.specs.BoardBuilder.{record_size, numbers}
 use Rattle.action.specs.Layout.{action_size, moves_here, action_of}
@@ -18,23 +16,23 @@ start_text b = numbers b ++ (number_text b.half_moves ++ number_text b.full_move
 abbrev pub start_most : ℕ
 start_most = record_size + 10
 
-abbrev pub move_size : ℕ → ℕ → ℕ
-move_size colour move = cond (is_held (moves_here colour move)) (1 + length (number_text move)) 0
+abbrev pub move_size : ℕ → ℕ → Option ℕ
+move_size colour move = cond (is_held (moves_here colour move)) (Some (1 + length (number_text move))) None
 
-abbrev pub plain_size : List ℕ → ℕ
-plain_size bytes = cond (is_held (action_of bytes)) 1 0
+abbrev pub plain_size : List ℕ → Option ℕ
+plain_size bytes = cond (is_held (action_of bytes)) (Some 1) None
 
 -- for the action at the front of some bytes
-unfoldable pub size_at : List ℕ → ℕ
-size_at bs = cond (is_held (action_of (take action_size bs))) (length (action_text (kind_at bs) (colour_at bs) (move_number_at bs))) 0
+unfoldable pub size_at : List ℕ → Option ℕ
+size_at bs = cond (is_held (action_of (take action_size bs))) (Some (length (action_text (kind_at bs) (colour_at bs) (move_number_at bs)))) None
 
--- one more than the length of the text of the first n, or 0 if one of them is not an action in range
-unfoldable pub actions_size : ℕ → List ℕ → ℕ
-actions_size n acts = cond (actions_held acts n) (1 + length (actions_text n acts)) 0
+-- the length of the text of the first n, or none if one of them is not an action in range
+unfoldable pub actions_size : ℕ → List ℕ → Option ℕ
+actions_size n acts = cond (actions_held acts n) (Some (length (actions_text n acts))) None
 
 -- the length of a text, or the refusal of its check
-abbrev pub measured : ℕ → List ℕ → Answer
-measured check text = cond (eqb check 0) (accepted (length text)) (refused check)
+abbrev pub measured : ℕ → List ℕ → Result ℕ ℕ
+measured check text = cond (eqb check 0) (Ok (length text)) (Err check)
 
 -- the fields of a move whose number has two groups
 pub record Short (kind colour move : ℕ) : Type 0 where

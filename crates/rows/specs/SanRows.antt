@@ -1,7 +1,7 @@
 -- SAN texts over positions as FENs and moves as coordinate texts: what document 01's form and the standard's (document 02, order 6) read and write, a row or
 -- more for each word of the rules.
 -- Assumes nothing.
-use Rattle.std.specs.Prelude.{ℕ, ◌≡◌, true, false, List, [], ◌∷◌, ◌++◌, length, replicate}
+use Rattle.std.specs.Prelude.{ℕ, ◌≡◌, true, false, List, [], ◌∷◌, ◌++◌, length, replicate, Some}
 use Prim.Native.String.{String}
 use Rattle.answer.specs.Answer.{accepted, refused, invalid_san_move}
 use Rattle.answer.specs.Ascii.{ascii}
@@ -147,6 +147,6 @@ pub record FormsByFlag : Type 0 where
   pub paper_none : castling_in false (ascii "O-O+") (ascii "O-O") ≡ false
   -- from the destination on: a pawn to a8, by its file and rank
   pub standard_on : dest_in true 0 1 8 false (ascii "=Q")
-      ≡ Move (record { piece = 1; file = 0; rank = 0; takes = false; dest = 56; promotion = 5; mark = false })
+      ≡ Some (Move (record { piece = 1; file = 0; rank = 0; takes = false; dest = 56; promotion = 5; mark = false }))
   pub paper_on : dest_in false 0 1 8 false (ascii "Q e.p.")
-      ≡ Move (record { piece = 1; file = 0; rank = 0; takes = false; dest = 56; promotion = 5; mark = true })
+      ≡ Some (Move (record { piece = 1; file = 0; rank = 0; takes = false; dest = 56; promotion = 5; mark = true }))

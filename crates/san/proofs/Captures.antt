@@ -7,13 +7,14 @@ use mathlib.Core.List.{List}
 use native.Mathlib.Omega.{arith}
 use lib.Dec.{eqb, ltb}
 use borrow.Author.Tests.{eq-eqb, ne_eqb, eqb-true}
+use Rattle.std.specs.Prelude.{Some, None}
 use Rattle.board_builder.specs.declared.BoardBuilder.{BoardBuilder}
 use Rattle.chess_move.specs.Number.{source_of, dest_of}
 use Rattle.move_list.specs.MoveList.{count, first_of}
 use Rattle.move_list.proofs.Counting.{first_passes}
 use Rattle.san_text.specs.declared.San.{San}
-use Rattle.san_text.specs.declared.SanText.{SanText}
-use Rattle.san_text.specs.declared.SanText.TheVariants.{KingSide, QueenSide, Move, Refused}
+use Rattle.san_text.specs.declared.SanText.TheVariants.{KingSide, QueenSide, Move}
+use Rattle.san_text.specs.Text.{Said}
 use Rattle.san_text.specs.Place.{given}
 use Rattle.san_text.specs.Resolve.{kind_on, empty_on, fits, capture_test}
 use Rattle.san_text.specs.Name.{changes_files, takes_of}
@@ -124,10 +125,10 @@ unfolding standard_castles
 castles_with true b = refl
 castles_with false b = refl
 
-pub resolved_with : (form : Bool) (b : BoardBuilder) (l : List ℕ) (said : SanText)
+pub resolved_with : (form : Bool) (b : BoardBuilder) (l : List ℕ) (said : Said)
     → resolved (form_of form) (board_with b.side_to_move b.pieces) l said ≡ resolved (form_of form) b l said
 unfolding resolved castled
-resolved_with form b l KingSide = rw (castles_with form b)
-resolved_with form b l QueenSide = rw (castles_with form b)
-resolved_with form b l (Move t) = refl
-resolved_with form b l Refused = refl
+resolved_with form b l (Some KingSide) = rw (castles_with form b)
+resolved_with form b l (Some QueenSide) = rw (castles_with form b)
+resolved_with form b l (Some (Move t)) = refl
+resolved_with form b l None = refl

@@ -1,15 +1,15 @@
 -- How the reader counts the entries that fit: those that go to the text's square with its promotion first, then the man on the source. For its inner
 -- functions; the public contract does not speak of this.
 -- Assumes nothing.
-use Rattle.std.specs.Prelude.{ℕ, ◌+◌, ◌/◌, ◌%◌, ◌<◌, ◌≡◌, Bool, true, false, cond, ◌&&◌, List, eqb}
+use Rattle.std.specs.Prelude.{ℕ, ◌+◌, ◌/◌, ◌%◌, ◌<◌, ◌≡◌, Bool, true, false, cond, ◌&&◌, List, eqb, Some, None}
 use Rattle.answer.specs.declared.Answer.{Answer}
 use Rattle.board_builder.specs.declared.BoardBuilder.{BoardBuilder}
 use Rattle.board_builder.specs.BoardBuilder.{board}
 use Rattle.chess_move.specs.Number.{source_of}
 use Rattle.move_list.specs.MoveList.{count, first_of}
 use Rattle.san_text.specs.declared.San.{San}
-use Rattle.san_text.specs.declared.SanText.{SanText}
-use Rattle.san_text.specs.declared.SanText.TheVariants.{KingSide, QueenSide, Move, Refused}
+use Rattle.san_text.specs.declared.SanText.TheVariants.{KingSide, QueenSide, Move}
+use Rattle.san_text.specs.Text.{Said}
 use Rattle.san_text.specs.Resolve.{kind_on, agrees, fits, sole_that}
 use Rattle.san_text.specs.Forms.{form_of}
 use Rattle.san.specs.declared.resolve.Fitting.{Fitting}
@@ -38,8 +38,8 @@ abbrev pub sole_move : Bool → List ℕ → San → List ℕ → Answer
 sole_move form pieces t moves = sole_that (fits pieces t) ((form_of form).captures pieces t) moves
 
 -- what a text can say: a destination is a square
-abbrev pub Sayable : SanText → Type 0
-Sayable KingSide = Unit {0}
-Sayable QueenSide = Unit {0}
-Sayable (Move t) = t.dest < 64
-Sayable Refused = Unit {0}
+abbrev pub Sayable : Said → Type 0
+Sayable (Some KingSide) = Unit {0}
+Sayable (Some QueenSide) = Unit {0}
+Sayable (Some (Move t)) = t.dest < 64
+Sayable None = Unit {0}

@@ -9,6 +9,7 @@ use mathlib.Core.Logic.{◌⊎◌, inl, inr}
 use native.Mathlib.Omega.{arith}
 use lib.Dec.{eqb}
 use borrow.Author.Tests.{eq-eqb, eqb-true}
+use Rattle.std.specs.Prelude.{Some, None}
 use Rattle.answer.specs.declared.Answer.{Answer}
 use Rattle.answer.specs.Answer.{accepted, refused, invalid_san_move, bad_list, out_of_range}
 use Rattle.answer.specs.Numbers.{among}
@@ -16,8 +17,8 @@ use Rattle.board_builder.specs.declared.BoardBuilder.{BoardBuilder}
 use Rattle.board_builder.specs.BoardBuilder.{in_range}
 use Rattle.move_list.specs.MoveList.{list_in_range, count, first_of}
 use Rattle.move_list.proofs.Counting.{first_listed, count_listed}
-use Rattle.san_text.specs.declared.SanText.{SanText}
-use Rattle.san_text.specs.declared.SanText.TheVariants.{KingSide, QueenSide, Move, Refused}
+use Rattle.san_text.specs.declared.SanText.TheVariants.{KingSide, QueenSide, Move}
+use Rattle.san_text.specs.Text.{Said}
 use Rattle.san_text.specs.Resolve.{fits, sole_that, castling_move, castle}
 use Rattle.san_text.specs.Form.{Form, castled, resolved, read_answer}
 use Rattle.san_text.proofs.Sole.{refused_not, castle_is, Alone, alone}
@@ -80,19 +81,19 @@ module _ (l k : List ℕ) (w : Within l k) (m : ℕ) (here : among m l ≡ true)
         go true q = castle_added b.side_to_move file q
         go false q = q
 
-    pub text_kept : (t : SanText) → resolved F b k t ≡ accepted m → resolved F b l t ≡ accepted m
+    pub text_kept : (t : Said) → resolved F b k t ≡ accepted m → resolved F b l t ≡ accepted m
     unfolding resolved
-    text_kept KingSide e = castled_kept 6 e
-    text_kept QueenSide e = castled_kept 2 e
-    text_kept (Move u) e = sole_kept (fits b.pieces u) (F.captures b.pieces u) e
-    text_kept Refused e = e
+    text_kept (Some KingSide) e = castled_kept 6 e
+    text_kept (Some QueenSide) e = castled_kept 2 e
+    text_kept (Some (Move u)) e = sole_kept (fits b.pieces u) (F.captures b.pieces u) e
+    text_kept None e = e
 
-    text_added : (t : SanText) → resolved F b l t ≡ accepted m → (resolved F b k t ≡ accepted m) ⊎ (resolved F b k t ≡ refused invalid_san_move)
+    text_added : (t : Said) → resolved F b l t ≡ accepted m → (resolved F b k t ≡ accepted m) ⊎ (resolved F b k t ≡ refused invalid_san_move)
     unfolding resolved
-    text_added KingSide e = inl (castled_added 6 e)
-    text_added QueenSide e = inl (castled_added 2 e)
-    text_added (Move u) e = sole_added (fits b.pieces u) (F.captures b.pieces u) e
-    text_added Refused e = inr refl
+    text_added (Some KingSide) e = inl (castled_added 6 e)
+    text_added (Some QueenSide) e = inl (castled_added 2 e)
+    text_added (Some (Move u)) e = sole_added (fits b.pieces u) (F.captures b.pieces u) e
+    text_added None e = inr refl
 
 -- ---- whole answers
 
@@ -137,12 +138,12 @@ castled_listed F b file l m e = go (F.castles b) e
     go true q = castle_listed b.side_to_move file l m q
     go false q = absurd (refused_not q)
 
-pub text_listed : (F : Form) (b : BoardBuilder) (l : List ℕ) (m : ℕ) (t : SanText) → resolved F b l t ≡ accepted m → among m l ≡ true
+pub text_listed : (F : Form) (b : BoardBuilder) (l : List ℕ) (m : ℕ) (t : Said) → resolved F b l t ≡ accepted m → among m l ≡ true
 unfolding resolved
-text_listed F b l m KingSide e = castled_listed F b 6 l m e
-text_listed F b l m QueenSide e = castled_listed F b 2 l m e
-text_listed F b l m (Move u) e = sole_listed (fits b.pieces u) (F.captures b.pieces u) l m e
-text_listed F b l m Refused e = absurd (refused_not e)
+text_listed F b l m (Some KingSide) e = castled_listed F b 6 l m e
+text_listed F b l m (Some QueenSide) e = castled_listed F b 2 l m e
+text_listed F b l m (Some (Move u)) e = sole_listed (fits b.pieces u) (F.captures b.pieces u) l m e
+text_listed F b l m None e = absurd (refused_not e)
 
 -- with the checks 5 and 6 passed
 reads_as : (F : Form) (b : BoardBuilder) (l text : List ℕ) → in_range b ≡ true → list_in_range l ≡ true → read_answer F b l text ≡ resolved F b l (F.read text)

@@ -7,14 +7,15 @@ use mathlib.Core.List.{List}
 use native.Mathlib.Omega.{arith}
 use lib.Dec.{eqb}
 use borrow.Author.Tests.{eqb-true}
+use Rattle.std.specs.Prelude.{Some, None}
 use Rattle.answer.specs.declared.Answer.{Answer}
 use Rattle.answer.specs.Answer.{accepted, refused, invalid_san_move}
 use Rattle.answer.specs.Numbers.{among}
 use Rattle.board_builder.specs.declared.BoardBuilder.{BoardBuilder}
 use Rattle.move_list.specs.MoveList.{count, first_of}
 use Rattle.move_list.proofs.Counting.{first_passes, first_listed}
-use Rattle.san_text.specs.declared.SanText.{SanText}
-use Rattle.san_text.specs.declared.SanText.TheVariants.{KingSide, QueenSide, Move, Refused}
+use Rattle.san_text.specs.declared.SanText.TheVariants.{KingSide, QueenSide, Move}
+use Rattle.san_text.specs.Text.{Said}
 use Rattle.san_text.specs.Resolve.{fits, sole_that, castle}
 use Rattle.san_text.specs.Form.{Form, castled, resolved, read_answer}
 use Rattle.san_text.specs.Name.{is_this_move, names, name_of, name_text, name_check}
@@ -48,12 +49,12 @@ module _ (l k : List ℕ) (r : Reordered l k) where
     unfolding castled castle
     castled_same file = rw (reordered_listed l k r)
 
-    text_same : (t : SanText) → resolved F b l t ≡ resolved F b k t
+    text_same : (t : Said) → resolved F b l t ≡ resolved F b k t
     unfolding resolved
-    text_same KingSide = castled_same 6
-    text_same QueenSide = castled_same 2
-    text_same (Move u) = sole_same (fits b.pieces u) (F.captures b.pieces u)
-    text_same Refused = refl
+    text_same (Some KingSide) = castled_same 6
+    text_same (Some QueenSide) = castled_same 2
+    text_same (Some (Move u)) = sole_same (fits b.pieces u) (F.captures b.pieces u)
+    text_same None = refl
 
     -- the same move
     read_same : (text : List ℕ) → read_answer F b l text ≡ read_answer F b k text

@@ -2,11 +2,11 @@
 // reading from left to right, and so only few branches; any other is left to text.rt.
 ghost use Rattle.std.specs.Prelude.{◌≡◌, ◌≤◌, length};
 ghost use Rattle.san_text.specs.Place.{file_place, rank_place, square_at};
-ghost use Rattle.san_reader.specs.CodeShort.{no_short, short_two, short_three, pawn_takes, short_four, short_of, short_text};
+ghost use Rattle.san_reader.specs.CodeShort.{short_two, short_three, pawn_takes, short_four, short_of, short_text};
 
 use crate::text::{is_check, piece_kind, place_from};
 
-// What such a text says. Its square counts from 1; 0 says nothing about the text.
+// What such a text says. Its square counts from 1; 0 says nothing about the text, as FormsAgree of specs/Promises.antt has it: no Option.
 #[derive(Clone, Copy)]
 pub struct Short {
     pub piece: u8,
@@ -16,7 +16,7 @@ pub struct Short {
     pub square: u8,
 }
 
-// The square of two bytes, counted from 1, or 0 if they are not one.
+// The square of two bytes, counted from 1, or 0 if they are not one, as `square_at` of san_text has it.
 fn square_of(a: u8, b: u8) -> u8
     ensures { result ≡ square_at (file_place a) (rank_place b) }
 {
@@ -29,28 +29,21 @@ fn square_of(a: u8, b: u8) -> u8
     }
 }
 
-fn nothing() -> Short
-    ensures { result ≡ no_short }
-{
-    Short {
-        piece: 1,
-        file: 0,
-        rank: 0,
-        takes: false,
-        square: 0,
-    }
-}
+const NOTHING: Short = Short {
+    piece: 1,
+    file: 0,
+    rank: 0,
+    takes: false,
+    square: 0,
+};
 
 // A pawn's square, as `e4`.
 fn read_two(a: u8, b: u8) -> Short
     ensures { result ≡ short_two a b }
 {
     Short {
-        piece: 1,
-        file: 0,
-        rank: 0,
-        takes: false,
         square: square_of(a, b),
+        ..NOTHING
     }
 }
 
@@ -60,14 +53,12 @@ fn read_three(a: u8, b: u8, c: u8) -> Short
 {
     let piece = piece_kind(a);
     if piece == 0 {
-        return nothing();
+        return NOTHING;
     }
     Short {
         piece,
-        file: 0,
-        rank: 0,
-        takes: false,
         square: square_of(b, c),
+        ..NOTHING
     }
 }
 
@@ -77,17 +68,16 @@ fn pawn_takes(a: u8, b: u8, c: u8, d: u8) -> Short
 {
     let file = place_from(96, a);
     if file == 0 {
-        return nothing();
+        return NOTHING;
     }
     if b != b'x' {
-        return nothing();
+        return NOTHING;
     }
     Short {
-        piece: 1,
         file,
-        rank: 0,
         takes: true,
         square: square_of(c, d),
+        ..NOTHING
     }
 }
 
@@ -103,16 +93,15 @@ fn read_four(a: u8, b: u8, c: u8, d: u8) -> Short
     if b == b'x' {
         return Short {
             piece,
-            file: 0,
-            rank: 0,
             takes: true,
             square,
+            ..NOTHING
         };
     }
     let file = place_from(96, b);
     let rank = place_from(48, b);
     if file + rank == 0 {
-        return nothing();
+        return NOTHING;
     }
     Short {
         piece,
@@ -137,7 +126,7 @@ fn read_first(s: &[u8], n: usize) -> Short
     if n == 2 {
         return read_two(s[0], s[1]);
     }
-    nothing()
+    NOTHING
 }
 
 pub fn read_short(s: &[u8]) -> Short
@@ -145,7 +134,7 @@ pub fn read_short(s: &[u8]) -> Short
 {
     let n = s.len();
     if n == 0 {
-        return nothing();
+        return NOTHING;
     }
     if is_check(s[n - 1]) {
         return read_first(s, n - 1);

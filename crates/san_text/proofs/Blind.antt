@@ -8,6 +8,7 @@ use mathlib.Core.List.{List}
 use native.Mathlib.Omega.{arith}
 use lib.Dec.{eqb}
 use borrow.Author.Tests.{eqb-true}
+use Rattle.std.specs.Prelude.{Some, None}
 use Rattle.answer.specs.declared.Answer.{Answer}
 use Rattle.answer.specs.Answer.{accepted, refused, invalid_san_move}
 use Rattle.answer.specs.Numbers.{among}
@@ -15,9 +16,8 @@ use Rattle.board_builder.specs.declared.BoardBuilder.{BoardBuilder}
 use Rattle.move_list.specs.MoveList.{count, first_of}
 use Rattle.move_list.proofs.Counting.{count_same, first_listed}
 use Rattle.san_text.specs.declared.San.{San}
-use Rattle.san_text.specs.declared.SanText.{SanText}
-use Rattle.san_text.specs.declared.SanText.TheVariants.{KingSide, QueenSide, Move, Refused}
-use Rattle.san_text.specs.Text.{read_text}
+use Rattle.san_text.specs.declared.SanText.TheVariants.{KingSide, QueenSide, Move}
+use Rattle.san_text.specs.Text.{Said, read_text}
 use Rattle.san_text.specs.Resolve.{fits, capture_test, sole_that}
 use Rattle.san_text.specs.Form.{castled, resolved, read_answer}
 use Rattle.san_text.specs.Paper.{paper}
@@ -49,13 +49,13 @@ module _ (b c : BoardBuilder) (l : List ℕ) (a : BoardsAlike b c l) where
   unfolding capture_test
   capture_same u m h = rw (a.empty m h)
 
-  text_same : (t : SanText) → resolved paper b l t ≡ resolved paper c l t
+  text_same : (t : Said) → resolved paper b l t ≡ resolved paper c l t
   unfolding resolved castled
-  text_same KingSide = rw a.side
-  text_same QueenSide = rw a.side
-  text_same (Move u) =
+  text_same (Some KingSide) = rw a.side
+  text_same (Some QueenSide) = rw a.side
+  text_same (Some (Move u)) =
       sole_alike (fits b.pieces u) (fits c.pieces u) (capture_test b.pieces u) (capture_test c.pieces u) l (fits_same u) (capture_same u)
-  text_same Refused = refl
+  text_same None = refl
 
 pub same_san_answer : SameSanAnswer
 unfolding read_answer

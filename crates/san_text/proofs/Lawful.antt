@@ -5,6 +5,7 @@ use mathlib.Core.Path.{◌≡◌}
 use mathlib.Core.Bool.{Bool, true}
 use mathlib.Core.List.{List}
 use mathlib.Core.Option.{Option, none}
+use Rattle.std.specs.Prelude.{Some}
 use Rattle.board_builder.specs.declared.BoardBuilder.{BoardBuilder}
 use Rattle.chess_move.specs.Number.{source_of, promotion_of}
 use Rattle.san_text.specs.declared.SanText.TheVariants.{KingSide, QueenSide, Move}
@@ -28,12 +29,12 @@ pub data Castling (F : Form) (b : BoardBuilder) : Type 0 where
 pub record Both (F : Form) (pieces : List ℕ) (m : ℕ) : Type 0 where
   pub takes : Bool
   pub mark : Bool
-  pub reads : F.read (F.text pieces m true true) ≡ Move (both_with pieces m takes mark)
+  pub reads : F.read (F.text pieces m true true) ≡ Some (Move (both_with pieces m takes mark))
   pub passes : F.captures pieces (both_with pieces m takes mark) m ≡ true
 
 pub record Lawful (F : Form) : Type 0 where
   pub says : (s : List ℕ) → Says (F.read s)
   pub both : (pieces : List ℕ) (m : ℕ) → Moves (kind_on pieces (source_of m)) → Promotes (promotion_of m) → Both F pieces m
-  pub king_side : F.read king_side_text ≡ KingSide
-  pub queen_side : F.read queen_side_text ≡ QueenSide
+  pub king_side : F.read king_side_text ≡ Some KingSide
+  pub queen_side : F.read queen_side_text ≡ Some QueenSide
   pub castling : (b : BoardBuilder) → Castling F b

@@ -9,15 +9,15 @@ use mathlib.Core.Option.{Option, none, some}
 use native.Mathlib.Omega.{arith}
 use lib.Dec.{eqb}
 use borrow.Author.Tests.{eq-eqb, eqb-true}
+use Rattle.std.specs.Prelude.{Some, None}
 use Rattle.answer.specs.Answer.{accepted, refused, invalid_san_move}
 use Rattle.answer.specs.Numbers.{among}
 use Rattle.board_builder.specs.declared.BoardBuilder.{BoardBuilder}
 use Rattle.chess_move.specs.Number.{source_of}
 use Rattle.chess_move.proofs.Numbers.{source_of_number}
 use Rattle.san_text.specs.declared.San.{San}
-use Rattle.san_text.specs.declared.SanText.{SanText}
-use Rattle.san_text.specs.declared.SanText.TheVariants.{KingSide, QueenSide, Move, Refused}
-use Rattle.san_text.specs.Text.{king_side_text, queen_side_text}
+use Rattle.san_text.specs.declared.SanText.TheVariants.{KingSide, QueenSide, Move}
+use Rattle.san_text.specs.Text.{Said, king_side_text, queen_side_text}
 use Rattle.san_text.specs.Resolve.{kind_on, fits, sole_that, castling_move, castle}
 use Rattle.san_text.specs.Form.{Form, castled, resolved}
 use Rattle.san_text.specs.Name.{changes_files, candidates, names, castling_name, first_name, king_first, name_of}
@@ -152,11 +152,11 @@ module _ (F : Form) (law : Lawful F) (b : BoardBuilder) (l : List ℕ) (m : ℕ)
   unfolding resolved
   named t e = go (F.read t) (law.says t) e
     where
-      go : (T : SanText) → Says T → resolved F b l T ≡ accepted m → Named (name_of F b l m)
-      go KingSide Says.king_side q = let c = castled_is 6 q in named_castling c.0 (inl c.1)
-      go QueenSide Says.queen_side q = let c = castled_is 2 q in named_castling c.0 (inr c.1)
-      go (Move u) (Says.move k p) q = named_move (F.captures b.pieces u) u k p q
-      go Refused Says.nothing_said q = absurd (refused_not q)
+      go : (T : Said) → Says T → resolved F b l T ≡ accepted m → Named (name_of F b l m)
+      go (Some KingSide) Says.king_side q = let c = castled_is 6 q in named_castling c.0 (inl c.1)
+      go (Some QueenSide) Says.queen_side q = let c = castled_is 2 q in named_castling c.0 (inr c.1)
+      go (Some (Move u)) (Says.move k p) q = named_move (F.captures b.pieces u) u k p q
+      go None Says.nothing_said q = absurd (refused_not q)
 
   -- ---- a name resolves to its move
 

@@ -6,6 +6,7 @@ use mathlib.Core.Bool.{Bool, true, false, cond, not, ◌&&◌, ◌||◌}
 use mathlib.Core.List.{List, [], ◌∷◌, ◌++◌}
 use native.Mathlib.Omega.{arith}
 use lib.ListN.{get_or, drop}
+use Rattle.std.specs.Prelude.{Some}
 use Rattle.answer.specs.Numbers.{same}
 use Rattle.chess_move.specs.Number.{source_of, dest_of, promotion_of}
 use Rattle.san_text.specs.declared.SanText.TheVariants.{Move}
@@ -44,7 +45,7 @@ read_dest_lem k f r x sq s h = rw (square_back sq h, there sq)
 
 read_tail : (k f r : ℕ) (x : Bool) (sq : ℕ) {p : ℕ} → Promotes p → (mark : Bool)
     → read_promotion k f r x (sq + 1) (promotion_letter p ++ optional mark mark_text)
-    ≡ Move (record { piece = piece_or k; file = f; rank = r; takes = x; dest = sq; promotion = p; mark = mark })
+    ≡ Some (Move (record { piece = piece_or k; file = f; rank = r; takes = x; dest = sq; promotion = p; mark = mark }))
 unfolding read_promotion read_end promotion_letter promotion_kind is_check after same optional
 read_tail k f r x sq Promotes.nothing true = rw (less sq)
 read_tail k f r x sq Promotes.nothing false = rw (less sq)
@@ -58,7 +59,7 @@ read_tail k f r x sq Promotes.queen true = rw (less sq)
 read_tail k f r x sq Promotes.queen false = rw (less sq)
 
 read_both : (pieces : List ℕ) (m : ℕ) → Moves (kind_on pieces (source_of m)) → Promotes (promotion_of m)
-    → read_text (san_text pieces m true true) ≡ Move (both_with pieces m (takes_of pieces m) (mark_of pieces m))
+    → read_text (san_text pieces m true true) ≡ Some (Move (both_with pieces m (takes_of pieces m) (mark_of pieces m)))
 unfolding read_text san_text end_of
 read_both pieces m k p =
     rw (text, no_castling k src (after_file pieces m tail) (45 ∷ 79 ∷ []), no_castling k src (after_file pieces m tail) (45 ∷ 79 ∷ 45 ∷ 79 ∷ []))

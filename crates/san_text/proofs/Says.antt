@@ -4,10 +4,10 @@ use Prim.Native.Nat.{ℕ}
 use mathlib.Core.Bool.{Bool, true, false, cond}
 use mathlib.Core.List.{List}
 use lib.Dec.{eqb}
+use Rattle.std.specs.Prelude.{Some, None}
 use Rattle.san_text.specs.declared.San.{San}
-use Rattle.san_text.specs.declared.SanText.{SanText}
-use Rattle.san_text.specs.declared.SanText.TheVariants.{KingSide, QueenSide, Move, Refused}
-use Rattle.san_text.specs.Text.{Dest, promotion_kind, piece_kind, first_byte, piece_or, read_takes, read_rank, read_file, read_piece}
+use Rattle.san_text.specs.declared.SanText.TheVariants.{KingSide, QueenSide, Move}
+use Rattle.san_text.specs.Text.{Said, Dest, promotion_kind, piece_kind, first_byte, piece_or, read_takes, read_rank, read_file, read_piece}
 
 -- 0, or 2 to 5: nothing, N B R Q
 pub data Promotes : ℕ → Type 0 where
@@ -54,13 +54,13 @@ moves b = go (eqb b 75)
     go false = moves_or (promotes b)
 
 -- a move with a kind and a promotion that a text can say, castling, or nothing
-pub data Says : SanText → Type 0 where
-  king_side : Says KingSide
-  queen_side : Says QueenSide
-  move : {u : San} → Moves u.piece → Promotes u.promotion → Says (Move u)
-  nothing_said : Says Refused
+pub data Says : Said → Type 0 where
+  king_side : Says (Some KingSide)
+  queen_side : Says (Some QueenSide)
+  move : {u : San} → Moves u.piece → Promotes u.promotion → Says (Some (Move u))
+  nothing_said : Says None
 
-pub says_cond : (b : Bool) {x y : SanText} → Says x → Says y → Says (cond b x y)
+pub says_cond : (b : Bool) {x y : Said} → Says x → Says y → Says (cond b x y)
 says_cond true p q = p
 says_cond false p q = q
 

@@ -10,14 +10,15 @@ use mathlib.Core.Option.{Option, none, some}
 use native.Mathlib.Omega.{arith}
 use lib.Dec.{eqb, leb}
 use lib.ListN.{length}
+use Rattle.std.specs.Prelude.{Some, None}
 use Rattle.answer.specs.Answer.{out_of_range, bad_list, not_listed, no_name, accepted, write_answer}
 use Rattle.answer.specs.Numbers.{among}
 use Rattle.board_builder.specs.declared.BoardBuilder.{BoardBuilder}
 use Rattle.board_builder.specs.BoardBuilder.{in_range}
 use Rattle.board_builder.proofs.Ranges.{in_range_lem}
 use Rattle.move_list.specs.MoveList.{list_in_range}
-use Rattle.san_text.specs.declared.SanText.{SanText}
-use Rattle.san_text.specs.declared.SanText.TheVariants.{KingSide, QueenSide, Move, Refused}
+use Rattle.san_text.specs.declared.SanText.TheVariants.{KingSide, QueenSide, Move}
+use Rattle.san_text.specs.Text.{Said}
 use Rattle.san_text.specs.Form.{Form, resolved}
 use Rattle.san_text.specs.Name.{none_is8, name_of, name_text, name_check}
 use Rattle.san_text.specs.Paper.{paper}
@@ -32,12 +33,12 @@ use Rattle.san_text.proofs.Named.{Named, castled_is, named_castling, named_move,
 
 module _ (F G : Form) (f : Lawful F) (g : Lawful G) (b : BoardBuilder) (l : List ℕ) (m : ℕ) (low : b.side_to_move ≤ 1) (h : among m l ≡ true)
     (castles : F.castles b ≡ true → G.castles b ≡ true) where
-  named_by : (T : SanText) → Says T → resolved F b l T ≡ accepted m → Named (name_of G b l m)
+  named_by : (T : Said) → Says T → resolved F b l T ≡ accepted m → Named (name_of G b l m)
   unfolding resolved
-  named_by KingSide Says.king_side q = let c = castled_is F f b l m low h 6 q in named_castling G g b l m low h (castles c.0) (inl c.1)
-  named_by QueenSide Says.queen_side q = let c = castled_is F f b l m low h 2 q in named_castling G g b l m low h (castles c.0) (inr c.1)
-  named_by (Move u) (Says.move k p) q = named_move G g b l m low h (F.captures b.pieces u) u k p q
-  named_by Refused Says.nothing_said q = absurd (refused_not q)
+  named_by (Some KingSide) Says.king_side q = let c = castled_is F f b l m low h 6 q in named_castling G g b l m low h (castles c.0) (inl c.1)
+  named_by (Some QueenSide) Says.queen_side q = let c = castled_is F f b l m low h 2 q in named_castling G g b l m low h (castles c.0) (inr c.1)
+  named_by (Some (Move u)) (Says.move k p) q = named_move G g b l m low h (F.captures b.pieces u) u k p q
+  named_by None Says.nothing_said q = absurd (refused_not q)
 
   pub unnamed_too : name_of G b l m ≡ none → name_of F b l m ≡ none
   unnamed_too e = go (name_of F b l m) refl

@@ -2,10 +2,10 @@
 -- pawn); optional file; optional rank; optional `x`; and from there on as the form has it. 0 stands for no kind, no place, and a byte past the
 -- end, which begins no part.
 -- Assumes nothing.
-use Rattle.std.specs.Prelude.{ℕ, ◌-◌, Bool, true, false, cond, ◌||◌, List, [], ◌∷◌, eqb, get_or, drop}
+use Rattle.std.specs.Prelude.{ℕ, ◌-◌, Bool, true, false, cond, ◌||◌, List, [], ◌∷◌, eqb, get_or, drop, Option, Some, None}
 use Rattle.answer.specs.Numbers.{same}
 use Rattle.san_text.specs.declared.SanText.{SanText}
-use Rattle.san_text.specs.declared.SanText.TheVariants.{KingSide, QueenSide, Move, Refused}
+use Rattle.san_text.specs.declared.SanText.TheVariants.{KingSide, QueenSide, Move}
 use Rattle.san_text.specs.Place.{given, file_place, rank_place, square_at}
 
 -- `O-O`, `O-O-O` and ` e.p.`
@@ -42,31 +42,35 @@ after false s = s
 unfoldable pub piece_or : ℕ → ℕ
 piece_or kind = cond (eqb kind 0) 1 kind
 
+-- what a text says, if the form takes it
+abbrev pub Said : Type 0
+Said = Option SanText
+
 -- how a form reads on from the destination, given the kind, the places of the source's file and rank, and whether `x` stood
 abbrev pub Dest : Type 0
-Dest = ℕ → ℕ → ℕ → Bool → List ℕ → SanText
+Dest = ℕ → ℕ → ℕ → Bool → List ℕ → Said
 
 -- optional `x`
-unfoldable pub read_takes : Dest → ℕ → ℕ → ℕ → List ℕ → SanText
+unfoldable pub read_takes : Dest → ℕ → ℕ → ℕ → List ℕ → Said
 read_takes dest kind file rank s = let takes = eqb (first_byte s) 120 in dest kind file rank takes (after takes s)
 
 -- optional rank, optional file
-unfoldable pub read_rank : Dest → ℕ → ℕ → List ℕ → SanText
+unfoldable pub read_rank : Dest → ℕ → ℕ → List ℕ → Said
 read_rank dest kind file s = let rank = rank_place (first_byte s) in read_takes dest kind file rank (after (given rank) s)
 
-unfoldable pub read_file : Dest → ℕ → List ℕ → SanText
+unfoldable pub read_file : Dest → ℕ → List ℕ → Said
 read_file dest kind s = let file = file_place (first_byte s) in read_rank dest kind file (after (given file) s)
 
 -- optional N B R Q K
-unfoldable pub read_piece : Dest → List ℕ → SanText
+unfoldable pub read_piece : Dest → List ℕ → Said
 read_piece dest s = let kind = piece_kind (first_byte s) in read_file dest kind (after (given kind) s)
 
 -- ---- the form of document 01
 
 -- then optional N B R Q, optional `+` or `#`, and a mark if what is left is exactly ` e.p.`; any other tail is dropped
-unfoldable pub read_end : ℕ → ℕ → ℕ → Bool → ℕ → ℕ → List ℕ → SanText
+unfoldable pub read_end : ℕ → ℕ → ℕ → Bool → ℕ → ℕ → List ℕ → Said
 read_end kind file rank takes square promotion s =
-    Move (record {
+    Some (Move (record {
       piece = piece_or kind;
       file = file;
       rank = rank;
@@ -74,9 +78,9 @@ read_end kind file rank takes square promotion s =
       dest = square - 1;
       promotion = promotion;
       mark = same (after (is_check (first_byte s)) s) mark_text;
-    })
+    }))
 
-unfoldable pub read_promotion : ℕ → ℕ → ℕ → Bool → ℕ → List ℕ → SanText
+unfoldable pub read_promotion : ℕ → ℕ → ℕ → Bool → ℕ → List ℕ → Said
 read_promotion kind file rank takes square s =
     let promotion = promotion_kind (first_byte s) in
     read_end kind file rank takes square promotion (after (given promotion) s)
@@ -86,7 +90,7 @@ unfoldable pub read_dest : Dest
 read_dest kind file rank takes s =
     let square = square_at (file_place (first_byte s)) (rank_place (get_or s 1 0)) in
     cond (given square) (read_promotion kind file rank takes square (drop 2 s))
-    (cond (given (square_at file rank)) (read_promotion kind 0 0 takes (square_at file rank) s) Refused)
+    (cond (given (square_at file rank)) (read_promotion kind 0 0 takes (square_at file rank) s) None)
 
-unfoldable pub read_text : List ℕ → SanText
-read_text s = cond (same s king_side_text) KingSide (cond (same s queen_side_text) QueenSide (read_piece read_dest s))
+unfoldable pub read_text : List ℕ → Said
+read_text s = cond (same s king_side_text) (Some KingSide) (cond (same s queen_side_text) (Some QueenSide) (read_piece read_dest s))

@@ -2,7 +2,8 @@
 // them is in crates san_reader, san, san_writer and namer.
 #![tactic(auto)]
 
-// What a text says about a move. A kind is 1 to 6; a file and a rank of the source are 1 to 8, or 0 where the text has none.
+// What a text says about a move. A kind is 1 to 6; a file and a rank of the source are 1 to 8, or 0 where the text has none,
+// as the definitions of this crate have them (place_from, square_at).
 #[derive(Clone, Copy)]
 pub struct San {
     pub piece: u8,
@@ -14,10 +15,10 @@ pub struct San {
     pub mark: bool,
 }
 
+// What a text says, where it says anything: castling, or a move.
 #[derive(Clone, Copy)]
 pub enum SanText {
     KingSide,
     QueenSide,
     Move(San),
-    Refused,
 }

@@ -7,31 +7,28 @@ use native.Mathlib.Omega.{arith}
 use lib.ListN.{length, get_or}
 use lib.Dec.{eqb, eqb→eq}
 use Rattle.answer.specs.declared.Placed.{Placed}
-use Rattle.square.specs.declared.Pair.{Pair}
-use Rattle.square.specs.declared.Pair.TheVariants.{Square, BadFile, BadRank, Missing}
+use Rattle.std.specs.Prelude.{Result, Ok, Err}
+use Rattle.square.specs.declared.PairError.{PairError}
+use Rattle.square.specs.declared.PairError.TheVariants.{BadFile, BadRank, Missing}
 use Rattle.square.specs.Square.{read_square, square_named, square_text, pair_told}
 use Rattle.square.specs.Promises.{SquareReadsBack, ToldApart}
 use Rattle.answer.proofs.Below.{below}
 
 -- a square as one number, one more than its own, so that sixty-four can be computed
-abbrev code : Pair → ℕ
-code (Square s) = suc s
-code BadFile = 0
-code BadRank = 0
-code Missing = 0
+abbrev code : Result ℕ PairError → ℕ
+code (Ok s) = suc s
+code (Err e) = 0
 
-of_code : (p : Pair) (s : ℕ) → code p ≡ suc s → p ≡ Square s
-of_code (Square t) s e = let same : t ≡ s = omega arith in ap Square same
-of_code BadFile s e = absurd (omega arith)
-of_code BadRank s e = absurd (omega arith)
-of_code Missing s e = absurd (omega arith)
+of_code : (p : Result ℕ PairError) (s : ℕ) → code p ≡ suc s → p ≡ Ok s
+of_code (Ok t) s e = let same : t ≡ s = omega arith in ap Ok same
+of_code (Err w) s e = absurd (omega arith)
 
 pub square_reads_back : SquareReadsBack
 unfolding read_square
 square_reads_back square h =
     of_code _ _ (eqb→eq _ _ (below (λ (s : ℕ). eqb (code (read_square (square_text s))) (suc s)) 64 tt square h))
 
-pub read_short : (s : List ℕ) → length s < 2 → read_square s ≡ Missing
+pub read_short : (s : List ℕ) → length s < 2 → read_square s ≡ Err Missing
 unfolding read_square
 read_short [] h = refl
 read_short (a ∷ []) h = refl
@@ -51,19 +48,19 @@ offset e = ap (λ (r : Placed). r.offset) e
 
 pub told_apart : ToldApart
 unfolding pair_told
-told_apart start long (Square s) (Square t) e = ap (λ (r : Placed). Square r.value) e
-told_apart start long (Square s) BadFile e = absurd (omega (arith, number e))
-told_apart start long (Square s) BadRank e = absurd (omega (arith, number e))
-told_apart start long (Square s) Missing e = absurd (omega (arith, number e))
-told_apart start long BadFile (Square t) e = absurd (omega (arith, number e))
-told_apart start long BadFile BadFile e = refl
-told_apart start long BadFile BadRank e = absurd (omega (arith, offset e))
-told_apart start long BadFile Missing e = absurd (omega (arith, number e))
-told_apart start long BadRank (Square t) e = absurd (omega (arith, number e))
-told_apart start long BadRank BadFile e = absurd (omega (arith, offset e))
-told_apart start long BadRank BadRank e = refl
-told_apart start long BadRank Missing e = absurd (omega (arith, number e))
-told_apart start long Missing (Square t) e = absurd (omega (arith, number e))
-told_apart start long Missing BadFile e = absurd (omega (arith, number e))
-told_apart start long Missing BadRank e = absurd (omega (arith, number e))
-told_apart start long Missing Missing e = refl
+told_apart start long (Ok s) (Ok t) e = ap (λ (r : Placed). Ok r.value) e
+told_apart start long (Ok s) (Err BadFile) e = absurd (omega (arith, number e))
+told_apart start long (Ok s) (Err BadRank) e = absurd (omega (arith, number e))
+told_apart start long (Ok s) (Err Missing) e = absurd (omega (arith, number e))
+told_apart start long (Err BadFile) (Ok t) e = absurd (omega (arith, number e))
+told_apart start long (Err BadFile) (Err BadFile) e = refl
+told_apart start long (Err BadFile) (Err BadRank) e = absurd (omega (arith, offset e))
+told_apart start long (Err BadFile) (Err Missing) e = absurd (omega (arith, number e))
+told_apart start long (Err BadRank) (Ok t) e = absurd (omega (arith, number e))
+told_apart start long (Err BadRank) (Err BadFile) e = absurd (omega (arith, offset e))
+told_apart start long (Err BadRank) (Err BadRank) e = refl
+told_apart start long (Err BadRank) (Err Missing) e = absurd (omega (arith, number e))
+told_apart start long (Err Missing) (Ok t) e = absurd (omega (arith, number e))
+told_apart start long (Err Missing) (Err BadFile) e = absurd (omega (arith, number e))
+told_apart start long (Err Missing) (Err BadRank) e = absurd (omega (arith, number e))
+told_apart start long (Err Missing) (Err Missing) e = refl

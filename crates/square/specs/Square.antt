@@ -1,11 +1,11 @@
 -- Squares and colours, as document 01, "Port order" 1, numbers them: a square is a rank of 0 to 7 times 8 plus a file of 0 to 7, A1 = 0.
 -- Assumes nothing.
-use Rattle.std.specs.Prelude.{ℕ, ◌+◌, ◌*◌, ◌-◌, ◌/◌, ◌%◌, cond, ◌&&◌, List, [], ◌∷◌, ltb}
+use Rattle.std.specs.Prelude.{ℕ, ◌+◌, ◌*◌, ◌-◌, ◌/◌, ◌%◌, cond, ◌&&◌, List, [], ◌∷◌, ltb, Result, Ok, Err}
 use Rattle.answer.specs.declared.Answer.{Answer}
 use Rattle.answer.specs.declared.Placed.{Placed}
 use Rattle.answer.specs.Numbers.{between}
-use Rattle.square.specs.declared.Pair.{Pair}
-use Rattle.square.specs.declared.Pair.TheVariants.{Square, BadFile, BadRank, Missing}
+use Rattle.square.specs.declared.PairError.{PairError}
+use Rattle.square.specs.declared.PairError.TheVariants.{BadFile, BadRank, Missing}
 use Rattle.answer.specs.Answer.{read_as, fault_at, in_range_or5, out_of_range, invalid_square, invalid_uci_move}
 
 abbrev pub square_of : ℕ → ℕ → ℕ
@@ -25,22 +25,22 @@ abbrev pub back_rank : ℕ → Answer
 back_rank colour = in_range_or5 (ltb colour 2) (colour * 7)
 
 -- the square that a letter a to h and a digit 1 to 8 name; otherwise the file is wrong, or only the rank
-abbrev pub square_named : ℕ → ℕ → Pair
-square_named a b = cond (between 97 104 a) (cond (between 49 56 b) (Square (square_of (b - 49) (a - 97))) BadRank) BadFile
+abbrev pub square_named : ℕ → ℕ → Result ℕ PairError
+square_named a b = cond (between 97 104 a) (cond (between 49 56 b) (Ok (square_of (b - 49) (a - 97))) (Err BadRank)) (Err BadFile)
 
 -- the square that the first two bytes of a text name (`Square::from_str`)
-unfoldable pub read_square : List ℕ → Pair
-read_square [] = Missing
-read_square (a ∷ []) = Missing
+unfoldable pub read_square : List ℕ → Result ℕ PairError
+read_square [] = Err Missing
+read_square (a ∷ []) = Err Missing
 read_square (a ∷ b ∷ rest) = square_named a b
 
 -- order 3: what is said about a pair that starts at a place in a text of a length: the faulty byte's place with 2, the text's length with 3 where the pair
 -- is not there
-unfoldable pub pair_told : ℕ → ℕ → Pair → Placed
-pair_told start long (Square s) = read_as s
-pair_told start long BadFile = fault_at invalid_square start
-pair_told start long BadRank = fault_at invalid_square (start + 1)
-pair_told start long Missing = fault_at invalid_uci_move long
+unfoldable pub pair_told : ℕ → ℕ → Result ℕ PairError → Placed
+pair_told start long (Ok s) = read_as s
+pair_told start long (Err BadFile) = fault_at invalid_square start
+pair_told start long (Err BadRank) = fault_at invalid_square (start + 1)
+pair_told start long (Err Missing) = fault_at invalid_uci_move long
 
 -- a square's text: its file's letter, its rank's digit
 abbrev pub square_text : ℕ → List ℕ

@@ -8,16 +8,15 @@ ghost use Rattle.square.specs.Piece.{letter_of, kind_of};
 
 use answer::{Answer, INVALID_SQUARE, INVALID_UCI_MOVE, OUT_OF_RANGE, Placed};
 
-// The kinds of men that have rules of their own.
+// The kinds of men that have rules of their own. Kinds, colours and squares are numbers and no enums: a host's record holds them as they are (C interface).
 
 pub const PAWN: u8 = 1;
 
 pub const KING: u8 = 6;
 
-// A pair of bytes read as a square: the square, or what is wrong with it.
+// What is wrong with a pair of bytes that names no square.
 #[derive(Clone, Copy)]
-pub enum Pair {
-    Square(u8),
+pub enum PairError {
     BadFile,
     BadRank,
     Missing,
@@ -35,6 +34,7 @@ pub fn make_square(rank: u8, file: u8) -> Answer
     answer::accepted_byte(rank * 8 + file)
 }
 
+// Alike but for the operator, as `get_file` is: each is a name that a host calls (C interface).
 pub fn get_rank(square: u8) -> Answer
     ensures { result ≡ rank_of square }
 {
@@ -63,37 +63,37 @@ pub fn to_my_backrank(color: u8) -> Answer
 }
 
 // The square that the file letter `a` and the rank digit `b` name. If both are wrong, the file is reported.
-pub fn from_bytes(a: u8, b: u8) -> Pair
+pub fn from_bytes(a: u8, b: u8) -> Result<u8, PairError>
     ensures { result ≡ square_named a b }
 {
     match a {
         b'a'..=b'h' => match b {
-            b'1'..=b'8' => Pair::Square((b - b'1') * 8 + (a - b'a')),
-            _ => Pair::BadRank,
+            b'1'..=b'8' => Ok((b - b'1') * 8 + (a - b'a')),
+            _ => Err(PairError::BadRank),
         },
-        _ => Pair::BadFile,
+        _ => Err(PairError::BadFile),
     }
 }
 
 // The square that the first two bytes of a text name; the rest is dropped.
-pub fn from_str(text: &[u8]) -> Pair
+pub fn from_str(text: &[u8]) -> Result<u8, PairError>
     ensures { result ≡ read_square text.now }
 {
     if text.len() < 2 {
-        return Pair::Missing;
+        return Err(PairError::Missing);
     }
     from_bytes(text[0], text[1])
 }
 
 // What is said about a pair that starts at `start` in a text of `long` bytes.
-pub fn told(start: u8, long: usize, pair: Pair) -> Placed
+pub fn told(start: u8, long: usize, pair: Result<u8, PairError>) -> Placed
     ensures { result ≡ pair_told start long pair }
 {
     match pair {
-        Pair::Square(s) => answer::read_as(s as u64),
-        Pair::BadFile => answer::fault_at(INVALID_SQUARE, start as u64),
-        Pair::BadRank => answer::fault_at(INVALID_SQUARE, start as u64 + 1),
-        Pair::Missing => answer::fault_at(INVALID_UCI_MOVE, long as u64),
+        Ok(s) => answer::read_as(s as u64),
+        Err(PairError::BadFile) => answer::fault_at(INVALID_SQUARE, start as u64),
+        Err(PairError::BadRank) => answer::fault_at(INVALID_SQUARE, start as u64 + 1),
+        Err(PairError::Missing) => answer::fault_at(INVALID_UCI_MOVE, long as u64),
     }
 }
 

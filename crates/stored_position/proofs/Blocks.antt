@@ -14,7 +14,7 @@ use Rattle.answer.specs.Numbers.{all_at_most, among}
 use Rattle.answer.proofs.Numbers.{both_left}
 use Rattle.answer.proofs.Bounds.{gather, bound_at, bound_parts, bound_overlap}
 use Rattle.chess_move.specs.Number.{last_move, of_bytes}
-use Rattle.position.specs.Layout.{moves_at, moves_from}
+use Rattle.position.specs.Layout.{moves_at, position_size, moves_from}
 use Rattle.stored_position.specs.CodeParts.{list_fits, list_fits_with}
 use Rattle.stored_position.proofs.Listing.{moves_left, move_here, one_less, lists_end}
 
@@ -36,8 +36,8 @@ unfolding all_at_most moves_from
 range_end n s k i h = let e : k - i ≡ 0 = omega arith in rw e
 
 -- the part that a slice from a place on is
-pub part_to_end : (s : List ℕ) (at : ℕ) → take (length s - at) (drop at s) ≡ drop at s
-part_to_end s at = take_all (length s - at) (drop at s) (rw (length-drop at s) (omega arith))
+pub part_to_end : (s : List ℕ) (at : ℕ) → length s ≡ position_size → take (position_size - at) (drop at s) ≡ drop at s
+part_to_end s at long = take_all (position_size - at) (drop at s) (rw (length-drop at s) (omega arith))
 
 -- a list does not fit if what is past it is not 0, and otherwise its moves decide
 module _ (s : List ℕ) (entries : ℕ) where

@@ -1,14 +1,15 @@
 -- Bytes recognised as those of a position: what is left to look at once the checks pass.
 -- Assumes nothing.
+use Rattle.std.specs.Array.{IsWholeChunk}
 use mathlib.Core.Path.{◌≡◌, refl, ap, ap₂, sym, ◌∙◌}
 use mathlib.Core.Bool.{Bool, true, false, ◌&&◌, and_comm, false≢true}
 use mathlib.Core.List.{List, [], ◌∷◌, ◌++◌}
-use Prim.Native.Nat.{ℕ, zero, suc, ◌+◌, ◌*◌, ◌-◌, ◌≤◌}
+use Prim.Native.Nat.{ℕ, zero, suc, ◌+◌, ◌*◌, ◌-◌, ◌<◌, ◌≤◌}
 use native.Mathlib.Omega.{arith}
 use lib.Dec.{eqb, leb, eqb-suc-zero, leb-suc-zero}
 use lib.ListN.{length, take, drop, get_or, replicate, length-drop, take-append-drop}
 use lib.Seq.{drop-cons, drop-drop}
-use borrow.Author.Tests.{eq-eqb, eqb-true, eqb-false, le-leb, leb-true, leb-false}
+use borrow.Author.Tests.{eq-eqb, eqb-true, eqb-false, le-leb, lt-leb, leb-true, leb-false}
 use Rattle.answer.specs.Numbers.{all_at_most, same, among}
 use Rattle.answer.proofs.Numbers.{both_left, both_right}
 use Rattle.answer.proofs.Same.{same_lengths}
@@ -192,3 +193,26 @@ module _ (s : List ℕ) where
   pub no_record : record_fits s ≡ false → is_position s ≡ false
   unfolding position_of
   no_record e = not_in_range s 4 (bad_board (position_of s) e)
+
+-- the rest, where bytes are seen as those of a position
+module _ {s p : List ℕ} (e : IsWholeChunk s p position_size) (m : ℕ) where
+  pub rest_of : get_or p check_at 0 ≤ 1 → list_fits_with p (get_or p length_at 0) m ≡ rest_fits_with s m
+  unfolding rest_fits_with
+  rest_of h = rw (e.same) (rw (eq-eqb _ _ e.long, le-leb _ _ (rw e.same at h)))
+
+  pub not_rest : 1 < get_or p check_at 0 → rest_fits_with s m ≡ false
+  unfolding rest_fits_with
+  not_rest h = rw (eq-eqb _ _ e.long, lt-leb _ _ (rw e.same at h)) refl
+
+-- and the whole, where its record comes first
+module _ {s p : List ℕ} (e : IsWholeChunk s p position_size) where
+  pub not_record : record_fits p ≡ false → is_position s ≡ false
+  unfolding position_of
+  not_record h = ap is_position (sym e.same) ∙ not_in_range p 4 (bad_board (position_of p) h)
+
+  pub not_check : record_fits p ≡ true → 1 < get_or p check_at 0 → is_position s ≡ false
+  unfolding position_of
+  not_check h k = ap is_position (sym e.same) ∙ not_in_range p 4 (bad_check (position_of p) h k)
+
+  pub by_parts : AllBytes s → record_fits p ≡ true → get_or p check_at 0 ≤ 1 → is_position s ≡ list_fits p (get_or p length_at 0)
+  by_parts b h k = rw e.same (by_its_list s b e.long (rw e.same at h) (rw e.same at k))

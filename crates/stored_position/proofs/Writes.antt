@@ -1,21 +1,38 @@
 -- What the writer of a position answers and leaves in its room, in its three cases; and the bytes it writes, piece by piece.
 -- Assumes nothing.
-use mathlib.Core.Path.{◌≡◌, ap, sym, ◌∙◌}
+use mathlib.Core.Path.{◌≡◌, refl, ap, sym, ◌∙◌}
 use mathlib.Core.List.{List, [], ◌∷◌, ◌++◌, append_assoc}
-use Prim.Native.Nat.{ℕ, ◌+◌, ◌*◌, ◌-◌, ◌<◌, ◌≤◌}
+use Prim.Native.Nat.{ℕ, ◌+◌, ◌*◌, ◌-◌, ◌/◌, ◌%◌, ◌<◌, ◌≤◌}
 use native.Mathlib.Omega.{arith}
-use lib.ListN.{length, replicate, length-append, length-replicate}
+use borrow.Rule.Slice.PartMut.{put_mid}
+use lib.ListN.{length, take, drop, set, replicate, length-append, length-replicate}
+use lib.Seq.{drop-drop}
+use Rattle.std.specs.Int.{to_le_bytes, w16}
 use Rattle.answer.specs.Answer.{accepted, refused, too_short}
 use Rattle.answer.specs.Parts.{written}
-use Rattle.answer.proofs.Parts.{written_behind}
+use Rattle.answer.proofs.Parts.{set_written, written_behind, written_next}
 use Rattle.answer.proofs.Writes.{Written, write_refused, write_short, write_fits}
 use Rattle.board_builder.specs.declared.BoardBuilder.{BoardBuilder}
 use Rattle.board_builder.specs.BoardBuilder.{squares, side_at, record_size, numbers}
+use Rattle.chess_move.specs.Number.{low_byte, high_byte}
 use Rattle.move_list.specs.MoveList.{longest_list}
 use Rattle.position.specs.Layout.{Position, check_at, moves_at, position_size}
 use Rattle.stored_position.specs.Bytes.{move_bytes, counter_bytes, position_bytes, position_check}
 use Rattle.stored_position.proofs.Bytes.{length_move_bytes, length_position}
 use Rattle.stored_position.proofs.Checks.{position_fits}
+
+-- a part of a slice that was lent, and holds other bytes now
+pub put_written : (l bytes : List ℕ) (at k : ℕ) → length bytes ≡ k → put_mid at k l bytes ≡ written l at bytes
+put_written l bytes at k h = rw (← h, drop-drop (length bytes) at l) (sym (append_assoc (take at l) bytes (drop (at + length bytes) l)))
+
+-- two bytes, written one after the other
+pub two_written : (l : List ℕ) (i x y : ℕ) → i + 2 ≤ length l → set (set l i x) (i + 1) y ≡ written l i (x ∷ y ∷ [])
+two_written l i x y h =
+    ap (λ (w : List ℕ). set w (i + 1) y) (set_written l i x (omega arith)) ∙ written_next l i (x ∷ []) (omega arith) (i + 1) y refl (omega arith)
+
+-- a counter's two bytes, low first
+pub counter_two : (n : ℕ) {r : List ℕ} → r ≡ to_le_bytes w16 n → n < 65536 → r ≡ low_byte n ∷ high_byte n ∷ []
+counter_two n e h = let high : n / 256 % 256 ≡ n / 256 = omega arith in e ∙ ap (λ (x : ℕ). low_byte n ∷ x ∷ []) high
 
 -- the squares, and the four numbers and the counters behind them
 abbrev pub rest_of : BoardBuilder → List ℕ

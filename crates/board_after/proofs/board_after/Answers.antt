@@ -24,4 +24,4 @@ returns c =
     let at-if2 = c.if-m-gt-LAST_MOVE in
     c.stepped-2.ensures
     ∙ simp (sym at-in-range.ensures ∙ at-if1.false, le-leb _ _ at-if2.false)
-    (ap (stepped 0) c.counted_after.ensures)
+    (ap (stepped 0) (rw (c.of.ensures.source, c.of.ensures.dest, c.of.ensures.promotion) at c.counted_after.ensures))

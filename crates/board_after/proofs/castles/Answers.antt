@@ -11,11 +11,10 @@ pub returns : goal.returns
 unfolding castles
 returns c =
     let a = c.args in
-    let at_pre = c.requires in
     let at-two-apart = c.two_apart-two in
     let at-kind-of = c.kind_of in
     c.both-2.ensures
     ∙ ap₂ (λ (x : ℕ) (t : Bool). eqb x 6 && t) at-kind-of.ensures
     (c.both.ensures
-    ∙ ap (λ (t : Bool). eqb (a.source / 8) (a.dest / 8) && t) at-two-apart.ensures
-    ∙ two_on_rank a.source a.dest at_pre.0 at_pre.1)
+    ∙ ap (λ (t : Bool). eqb (a.way.source / 8) (a.way.dest / 8) && t) at-two-apart.ensures
+    ∙ two_on_rank a.way.source a.way.dest a.way.on_board.0 a.way.on_board.1)

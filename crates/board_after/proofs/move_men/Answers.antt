@@ -1,14 +1,6 @@
 -- `move_men` of lib.rt meets its contract: now squares.exit ≡ squares_after (now squares.entry) source dest promotion.
-use borrow.Author.Rules.{rules}
 use Rattle.move_rules.specs.After.{squares_after}
-use lib.ListN.{length-set}
 use Rattle.board_after.proofs.move_men.Goals as goal
-
-pub bounds-squares-dest : goal.bounds-squares-dest
-bounds-squares-dest c = simp length-set (search rules)
-
-pub shape_of-squares : goal.shape_of-squares
-shape_of-squares c = simp length-set (search rules)
 
 pub returns : goal.returns
 unfolding squares_after

@@ -3,7 +3,6 @@ use mathlib.Core.Path.{sym, ◌∙◌}
 use native.Mathlib.Omega.{arith}
 use Rattle.move_rules.specs.After.{rook_moved}
 use Rattle.move_rules.proofs.Squares.{corner_below}
-use lib.ListN.{length-set}
 use Rattle.board_after.proofs.move_rook.Goals as goal
 
 pub returns-then-not-castles : goal.returns-then-not-castles
@@ -12,15 +11,13 @@ returns-then-not-castles c = simp (sym c.castles.ensures ∙ c.if-not-castles.tr
 
 pub bounds-squares-from : goal.bounds-squares-from
 bounds-squares-from c =
-    let a = c.args in
-    let at_pre = c.requires in
-    omega (arith, c.corner-from.ensures, corner_below a.source a.dest at_pre.1, at_pre.0)
+    let way = c.args.way in
+    omega (arith, c.corner-from.ensures, corner_below way.source way.dest way.on_board.0)
 
 pub bounds-squares-from-2 : goal.bounds-squares-from-2
 bounds-squares-from-2 c =
-    let a = c.args in
-    let at_pre = c.requires in
-    simp length-set (omega (arith, c.corner-from.ensures, corner_below a.source a.dest at_pre.1, at_pre.0))
+    let way = c.args.way in
+    omega (arith, c.corner-from.ensures, corner_below way.source way.dest way.on_board.0)
 
 pub returns : goal.returns
 unfolding rook_moved

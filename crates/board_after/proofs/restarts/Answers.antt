@@ -10,7 +10,7 @@ unfolding restarts
 returns-then-kind_of-eq-PAWN c =
     let a = c.args in
     let at-kind-of = c.kind_of in
-    let e : kind_of (man_on a.squares.now a.source) ≡ pawn = sym at-kind-of.ensures ∙ c.if-kind_of-eq-PAWN.true in
+    let e : kind_of (man_on a.squares.now a.way.source) ≡ pawn = sym at-kind-of.ensures ∙ c.if-kind_of-eq-PAWN.true in
     simp (eq-eqb _ _ e)
 
 pub returns : goal.returns
@@ -19,5 +19,5 @@ returns c =
     let a = c.args in
     let at-kind-of = c.kind_of in
     let at-if1 = c.if-kind_of-eq-PAWN in
-    let n : kind_of (man_on a.squares.now a.source) ≡ pawn → ⊥ = λ e. at-if1.false (at-kind-of.ensures ∙ e) in
+    let n : kind_of (man_on a.squares.now a.way.source) ≡ pawn → ⊥ = λ e. at-if1.false (at-kind-of.ensures ∙ e) in
     sym (simp (ne_eqb _ _ n))

@@ -8,4 +8,4 @@ pub returns : goal.returns
 unfolding rights_after
 returns c =
     let a = c.args in
-    c.rights_without-2.ensures ∙ ap (λ (x : ℕ). rights_without a.color x a.dest) c.rights_without.ensures
+    c.rights_without-2.ensures ∙ ap (λ (x : ℕ). rights_without a.color x a.way.dest) c.rights_without.ensures

@@ -12,4 +12,4 @@ returns c =
     let at-takes-in-passing = c.takes_in_passing-passing in
     let at-castles = c.castles in
     c.either-2.ensures
-    ∙ ap₂ ◌||◌ at-castles.ensures (c.either.ensures ∙ ap (λ (t : Bool). t || eqb a.source a.dest) at-takes-in-passing.ensures)
+    ∙ ap₂ ◌||◌ at-castles.ensures (c.either.ensures ∙ ap (λ (t : Bool). t || eqb a.way.source a.way.dest) at-takes-in-passing.ensures)

@@ -11,15 +11,15 @@ pub returns-then-new-from-ne0 : goal.returns-then-new-from-ne0
 returns-then-new-from-ne0 c =
     let a = c.args in
     let at_pre = c.requires in
-    sym (source_left a.old.now a.new.now a.source a.dest a.man (at_pre.0 ∙ sym at_pre.1) (omega (arith, at_pre.0, at_pre.2))
-    (omega (arith, at_pre.0, at_pre.3)) at_pre.4 c.if-new-from-ne0.true)
+    sym (source_left a.old.now a.new.now a.way.source a.way.dest a.man (omega arith) (omega arith)
+    (omega arith) at_pre c.if-new-from-ne0.true)
 
 pub returns-then-new-to : goal.returns-then-new-to
 returns-then-new-to c =
     let a = c.args in
     let at_pre = c.requires in
-    sym (dest_other a.old.now a.new.now a.source a.dest a.man (at_pre.0 ∙ sym at_pre.1) (omega (arith, at_pre.0, at_pre.2))
-    (omega (arith, at_pre.0, at_pre.3)) at_pre.4 c.if-new-to.true)
+    sym (dest_other a.old.now a.new.now a.way.source a.way.dest a.man (omega arith) (omega arith)
+    (omega arith) at_pre c.if-new-to.true)
 
 pub overflow_add-result : goal.overflow_add-result
 overflow_add-result c =
@@ -29,8 +29,8 @@ overflow_add-result c =
       arith,
       at-differs.ensures,
       c.differs-2.ensures,
-      differs_most (get_or a.old.now a.source 0) 0,
-      differs_most (get_or a.old.now a.dest 0) a.man,
+      differs_most (get_or a.old.now a.way.source 0) 0,
+      differs_most (get_or a.old.now a.way.dest 0) a.man,
     )
 
 pub returns : goal.returns
@@ -42,5 +42,5 @@ returns c =
     let at-differing = c.differing in
     let at-differs = c.differs in
     ap₂ eqb at-differing.ensures (ap₂ ◌+◌ at-differs.ensures c.differs-2.ensures)
-    ∙ two_tell a.old.now a.new.now a.source a.dest a.man (at_pre.0 ∙ sym at_pre.1) (omega (arith, at_pre.0, at_pre.2))
-    (omega (arith, at_pre.0, at_pre.3)) at_pre.4 at-if1.false at-if2.false
+    ∙ two_tell a.old.now a.new.now a.way.source a.way.dest a.man (omega arith) (omega arith)
+    (omega arith) at_pre at-if1.false at-if2.false

@@ -1,15 +1,9 @@
 -- `add` of lib.rt meets its contract: r ≡ add_rights rights add.
-use borrow.Author.Tests.{lt-ltb, le-ltb}
+use borrow.Author.Tests.{lt-ltb}
 use mathlib.Core.Path.{◌∙◌, ap}
 use Rattle.answer.specs.Answer.{accepted}
 use Rattle.castle_rights.proofs.Bits.{or_adds}
 use Rattle.castle_rights.proofs.add.Goals as goal
-
-pub returns-then-rights-ge4 : goal.returns-then-rights-ge4
-returns-then-rights-ge4 c = c.refused.ensures ∙ simp (le-ltb _ _ c.if-rights-ge4.true)
-
-pub returns-then-add-ge4 : goal.returns-then-add-ge4
-returns-then-add-ge4 c = c.refused-then-add-ge4.ensures ∙ simp (lt-ltb _ _ c.if-rights-ge4.false, le-ltb _ _ c.if-add-ge4.true)
 
 pub returns : goal.returns
 returns c =

@@ -1,15 +1,9 @@
 -- `remove` of lib.rt meets its contract: r ≡ remove_rights rights remove.
-use borrow.Author.Tests.{lt-ltb, le-ltb}
+use borrow.Author.Tests.{lt-ltb}
 use mathlib.Core.Path.{◌∙◌, ap}
 use Rattle.answer.specs.Answer.{accepted}
 use Rattle.castle_rights.proofs.Bits.{and_not_removes}
 use Rattle.castle_rights.proofs.remove.Goals as goal
-
-pub returns-then-rights-ge4 : goal.returns-then-rights-ge4
-returns-then-rights-ge4 c = c.refused.ensures ∙ simp (le-ltb _ _ c.if-rights-ge4.true)
-
-pub returns-then-remove-ge4 : goal.returns-then-remove-ge4
-returns-then-remove-ge4 c = c.refused-then-remove-ge4.ensures ∙ simp (lt-ltb _ _ c.if-rights-ge4.false, le-ltb _ _ c.if-remove-ge4.true)
 
 pub returns : goal.returns
 returns c =

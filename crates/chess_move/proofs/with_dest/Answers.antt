@@ -1,23 +1,12 @@
 -- `with_dest` of lib.rt meets its contract: r ≡ with_dest (now text.entry) source dest.
+use mathlib.Core.Path.{sym, ◌∙◌}
 use Rattle.chess_move.specs.Coordinate.{with_dest}
+use Rattle.chess_move.proofs.Ways.{bad_dest}
 use Rattle.chess_move.proofs.with_dest.Goals as goal
 
--- src/lib.rt:79:1
-pub returns-in-Square : goal.returns-in-Square
+pub returns-in-Ok : goal.returns-in-Ok
 unfolding with_dest
-returns-in-Square c = rw c.in-Square.is c.ended.ensures
+returns-in-Ok c = rw c.in-Ok.is c.ended.ensures
 
--- src/lib.rt:79:1
-pub returns-in-BadFile : goal.returns-in-BadFile
-unfolding with_dest
-returns-in-BadFile c = rw c.in-BadFile.is c.told.ensures
-
--- src/lib.rt:79:1
-pub returns-in-BadRank : goal.returns-in-BadRank
-unfolding with_dest
-returns-in-BadRank c = rw c.in-BadRank.is c.told-in-BadRank.ensures
-
--- src/lib.rt:79:1
-pub returns-in-Missing : goal.returns-in-Missing
-unfolding with_dest
-returns-in-Missing c = rw c.in-Missing.is c.told-in-Missing.ensures
+pub returns-in-Err : goal.returns-in-Err
+returns-in-Err c = rw c.in-Err.is (c.told.ensures ∙ sym (bad_dest c.args.text.now c.args.source _))

@@ -1,9 +1,8 @@
 use borrow.Author.Rules.{rules}
 use mathlib.Core.Path.{◌≡◌, refl, ap, sym, ◌∙◌}
-use mathlib.Core.Bool.{false}
 use mathlib.Core.List.{List}
 use native.Mathlib.Omega.{arith}
-use Prim.Native.Nat.{ℕ, ◌+◌, ◌-◌, ◌<◌}
+use Prim.Native.Nat.{ℕ, ◌+◌, ◌-◌}
 use Rattle.actions.specs.Part.{moves_in}
 use Rattle.actions.proofs.Counting.{one_more_lem, no_more}
 use Rattle.position.specs.Layout.{position_of, position_at}
@@ -28,14 +27,6 @@ overflow_sub-k c =
     let e : at-loop.i ≡ j + 1 = omega (arith, c.loop-i-test.true) in
     let counted : k ≡ moves_in acts (j + 1) = at-loop.invariant.0 ∙ ap (moves_in acts) e in
     omega (arith, one_more_lem acts j m c.move_at-m.ensures c.if-m-le-LAST_MOVE.true)
-
-pub overflow_add-result : goal.overflow_add-result
-overflow_add-result c =
-    let a = c.args in
-    let at-loop = c.loop-i in
-    let at-loop-test = c.loop-i-test in
-    let long : a.n < 18446744073709551616 = search rules in
-    omega (arith, at-loop.invariant.3, at-loop-test.true)
 
 pub returns-then-empties : goal.returns-then-empties
 returns-then-empties c =
@@ -73,9 +64,6 @@ overflow_sub-k-then-m-le-LAST_MOVE c =
     let counted : k ≡ moves_in acts (j + 1) = at-loop.invariant.0 ∙ ap (moves_in acts) e in
     omega (arith, one_more_lem acts j m at-move-at.ensures c.if-m-le-LAST_MOVE.true)
 
-pub loop-i-smaller-then-m-le-LAST_MOVE : goal.loop-i-smaller-then-m-le-LAST_MOVE
-loop-i-smaller-then-m-le-LAST_MOVE c = omega (arith, c.loop-i-test.true)
-
 pub loop-i-preserved-then-m-le-LAST_MOVE : goal.loop-i-preserved-then-m-le-LAST_MOVE
 loop-i-preserved-then-m-le-LAST_MOVE c =
     let a = c.args in
@@ -101,9 +89,6 @@ loop-i-preserved-then-m-le-LAST_MOVE c =
     let same = same_before acts ps j m at-move-at.ensures at-if1.true k counted (position_of at_at.result.now) at-loop.invariant.2
     at-empties.result told c.if-empties.false in
     (omega (arith, one_more_lem acts j m at-move-at.ensures at-if1.true), sym before ∙ was, same, omega (arith, at-loop.invariant.3))
-
-pub loop-i-smaller : goal.loop-i-smaller
-loop-i-smaller c = omega (arith, c.loop-i-test.true)
 
 pub loop-i-preserved : goal.loop-i-preserved
 loop-i-preserved c =

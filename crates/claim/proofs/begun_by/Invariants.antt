@@ -3,7 +3,7 @@
 -- Assumes nothing.
 use mathlib.Core.Path.{◌≡◌}
 use mathlib.Core.Bool.{false}
-use Prim.Native.Nat.{◌-◌, ◌≤◌}
+use Prim.Native.Nat.{◌≤◌}
 use Rattle.actions.specs.Part.{moves_in}
 use Rattle.position.specs.Layout.{position_of, position_at}
 use Rattle.claim.specs.Emptying.{rights_differ}
@@ -14,6 +14,3 @@ abbrev pub invariant-loop-i : goal.invariant-loop-i
 invariant-loop-i l =
     (l.k ≡ moves_in l.acts l.i) × (begun_by l.acts l.ps l.i ≡ begun_by l.acts l.ps l.n) × (rights_differ (position_at l.ps l.k) (position_of l.last) ≡ false)
     × (l.i ≤ l.n)
-
-abbrev pub decreases-loop-i : goal.decreases-loop-i
-decreases-loop-i l = l.i

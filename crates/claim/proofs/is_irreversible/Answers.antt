@@ -1,4 +1,5 @@
 -- `is_irreversible` of lib.rt meets its contract: r ≡ irreversible (positionOf (now p.entry)) m.
+use borrow.Author.Tests.{eq-eqb}
 use mathlib.Core.Path.{ap, sym, ◌∙◌}
 use mathlib.Core.Bool.{not}
 use Prim.Native.Nat.{ℕ}
@@ -12,10 +13,11 @@ returns-then-kind_of-eq-PAWN c =
     let a = c.args in
     let at-byte-at = c.byte_at-moved in
     let at-kind-of = c.kind_of in
-    sym (by_pawn a.p.now a.m (ap kind_of (sym at-byte-at.ensures) ∙ sym at-kind-of.ensures ∙ c.if-kind_of-eq-PAWN.true))
+    eq-eqb _ _ c.if-kind_of-eq-PAWN.true
+    ∙ sym (by_pawn a.p.now a.m (ap kind_of (sym at-byte-at.ensures) ∙ sym at-kind-of.ensures ∙ c.if-kind_of-eq-PAWN.true))
 
-pub returns : goal.returns
-returns c =
+pub returns-else-kind_of-eq-PAWN : goal.returns-else-kind_of-eq-PAWN
+returns-else-kind_of-eq-PAWN c =
     let at-args = c.args in
     let at-byte-at = c.byte_at-moved in
     let at-kind-of = c.kind_of in

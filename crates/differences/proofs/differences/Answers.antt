@@ -97,48 +97,6 @@ push_actions-all-requires c =
     let whole = action_asked a.first.now a.second.now at-check.result at-check2.result one two _ _ at-actions-text.ensures c.actions_text-2.ensures
     (replicate longest 0) at-push-counters.new.bytes at-push-counters.result refl begun in record { counted_bound = whole.0; second_in_bounds = whole.1 }
 
-pub slice_bounds-text-end : goal.slice_bounds-text-end
-slice_bounds-text-end c =
-    let a = c.args in
-    let at-check = c.check-game in
-    let at-if1 = c.if-game-ne-ACCEPTED in
-    let at-check2 = c.check-other in
-    let at-if3 = c.if-other-ne-ACCEPTED in
-    let at-push-starts = c.push_starts-numbers in
-    let at-push-counters = c.push_counters-start in
-    let at-actions-text = c.actions_text in
-    let at-actions-text2 = c.actions_text-2 in
-    let at-push-actions = c.push_actions-all in
-    let one = known a.first.now at-check.result at-check.ensures (λ j. search rules) at-if1.false in
-    let two = known a.second.now at-check2.result at-check2.ensures (λ j. search rules) at-if3.false in
-    let begun = start_put a.first.now a.second.now at-check.result at-check2.result one two (replicate longest 0)
-    at-push-starts.new.bytes at-push-starts.result refl at-push-starts.ensures at-push-counters.new.bytes at-push-counters.result
-    at-push-counters.ensures in
-    whole_within (both_put a.first.now a.second.now at-check.result at-check2.result one two _ _ at-actions-text.ensures
-    at-actions-text2.ensures (replicate longest 0) at-push-counters.new.bytes at-push-counters.result refl begun at-push-actions.new.bytes
-    at-push-actions.result at-push-actions.ensures)
-
-pub slice_bounds-write_text-end : goal.slice_bounds-write_text-end
-slice_bounds-write_text-end c =
-    let a = c.args in
-    let at-check = c.check-game in
-    let at-if1 = c.if-game-ne-ACCEPTED in
-    let at-check2 = c.check-other in
-    let at-if3 = c.if-other-ne-ACCEPTED in
-    let at-push-starts = c.push_starts-numbers in
-    let at-push-counters = c.push_counters-start in
-    let at-actions-text = c.actions_text in
-    let at-actions-text2 = c.actions_text-2 in
-    let at-push-actions = c.push_actions-all in
-    let one = known a.first.now at-check.result at-check.ensures (λ j. search rules) at-if1.false in
-    let two = known a.second.now at-check2.result at-check2.ensures (λ j. search rules) at-if3.false in
-    let begun = start_put a.first.now a.second.now at-check.result at-check2.result one two (replicate longest 0)
-    at-push-starts.new.bytes at-push-starts.result refl at-push-starts.ensures at-push-counters.new.bytes at-push-counters.result
-    at-push-counters.ensures in
-    whole_count (both_put a.first.now a.second.now at-check.result at-check2.result one two _ _ at-actions-text.ensures
-    at-actions-text2.ensures (replicate longest 0) at-push-counters.new.bytes at-push-counters.result refl begun at-push-actions.new.bytes
-    at-push-actions.result at-push-actions.ensures)
-
 pub returns : goal.returns
 returns c =
     let a = c.args in

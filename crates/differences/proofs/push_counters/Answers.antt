@@ -6,14 +6,14 @@ pub push_start-behind-requires : goal.push_start-behind-requires
 push_start-behind-requires c =
     let a = c.args in
     let at_pre = c.requires in
-    half_fits a.bytes.now a.n a.half a.full a.clock a.number (at_pre)
+    half_fits a.bytes.now a.n a.game.half_moves a.game.full_moves a.other.half_moves a.other.full_moves (at_pre)
 
 pub push_start-requires : goal.push_start-requires
 push_start-requires c =
     let a = c.args in
     let at_pre = c.requires in
     let at-push-start = c.push_start-behind in
-    full_fits a.bytes.now a.n a.half a.full a.clock a.number (at_pre) at-push-start.new.bytes at-push-start.result
+    full_fits a.bytes.now a.n a.game.half_moves a.game.full_moves a.other.half_moves a.other.full_moves (at_pre) at-push-start.new.bytes at-push-start.result
     at-push-start.ensures
 
 pub returns : goal.returns
@@ -22,5 +22,5 @@ returns c =
     let at_pre = c.requires in
     let at-push-start = c.push_start-behind in
     let at-push-start2 = c.push_start in
-    counters_put a.bytes.now a.n a.half a.full a.clock a.number (at_pre) at-push-start.new.bytes at-push-start.result
+    counters_put a.bytes.now a.n a.game.half_moves a.game.full_moves a.other.half_moves a.other.full_moves (at_pre) at-push-start.new.bytes at-push-start.result
     at-push-start.ensures at-push-start2.new.bytes at-push-start2.result at-push-start2.ensures

@@ -1,143 +1,48 @@
 -- `push_key` of lib.rt meets its contract: PutIn (now bytes.entry) n (start_key i) (now bytes.exit) r.
 use mathlib.Core.Path.{sym}
+use native.Mathlib.Omega.{arith}
 use Rattle.answer.proofs.Pushes.{put_as}
 use Rattle.differences.proofs.Keys.{key_square, key_side, key_white, key_black, key_file, key_half, key_full, fits_as}
 use Rattle.differences.proofs.push_key.Goals as goal
 
 pub push_number-requires : goal.push_number-requires
-push_number-requires c =
-    let a = c.args in
-    let at_pre = c.requires in
-    let at-if1 = c.if-i-lt64 in
-    fits_as a.n _ (key_square a.i at-if1.true) (at_pre)
+push_number-requires c = fits_as c.args.n _ (key_square c.args.i (omega arith)) c.requires
 
-pub returns-then-i-lt64 : goal.returns-then-i-lt64
-returns-then-i-lt64 c =
-    let a = c.args in
-    let at-if1 = c.if-i-lt64 in
-    let at-push-number = c.push_number in
-    put_as (sym (key_square a.i at-if1.true)) at-push-number.ensures
+pub returns-in-0-to-63 : goal.returns-in-0-to-63
+returns-in-0-to-63 c = put_as (sym (key_square c.args.i (omega arith))) c.push_number.ensures
 
 pub push_word-requires : goal.push_word-requires
-push_word-requires c =
-    let a = c.args in
-    let at_pre = c.requires in
-    let at-if1 = c.if-i-lt64 in
-    let at-if2 = c.if-i-eq64 in
-    fits_as a.n _ (key_side a.i at-if1.false at-if2.true) (at_pre)
+push_word-requires c = fits_as c.args.n _ (key_side c.args.i c.in-64.is) c.requires
 
-pub returns-then-i-eq64 : goal.returns-then-i-eq64
-returns-then-i-eq64 c =
-    let a = c.args in
-    let at-if1 = c.if-i-lt64 in
-    let at-if2 = c.if-i-eq64 in
-    let at-push-word = c.push_word in
-    put_as (sym (key_side a.i at-if1.false at-if2.true)) at-push-word.ensures
+pub returns-in-64 : goal.returns-in-64
+returns-in-64 c = put_as (sym (key_side c.args.i c.in-64.is)) c.push_word.ensures
 
-pub push_word-requires-then-i-eq65 : goal.push_word-requires-then-i-eq65
-push_word-requires-then-i-eq65 c =
-    let a = c.args in
-    let at_pre = c.requires in
-    let at-if1 = c.if-i-lt64 in
-    let at-if2 = c.if-i-eq64 in
-    let at-if3 = c.if-i-eq65 in
-    fits_as a.n _ (key_white a.i at-if1.false at-if2.false at-if3.true) (at_pre)
+pub push_word-requires-in-65 : goal.push_word-requires-in-65
+push_word-requires-in-65 c = fits_as c.args.n _ (key_white c.args.i c.in-65.is) c.requires
 
-pub returns-then-i-eq65 : goal.returns-then-i-eq65
-returns-then-i-eq65 c =
-    let a = c.args in
-    let at-if1 = c.if-i-lt64 in
-    let at-if2 = c.if-i-eq64 in
-    let at-if3 = c.if-i-eq65 in
-    let at-push-word2 = c.push_word-then-i-eq65 in
-    put_as (sym (key_white a.i at-if1.false at-if2.false at-if3.true)) at-push-word2.ensures
+pub returns-in-65 : goal.returns-in-65
+returns-in-65 c = put_as (sym (key_white c.args.i c.in-65.is)) c.push_word-in-65.ensures
 
-pub push_word-requires-then-i-eq66 : goal.push_word-requires-then-i-eq66
-push_word-requires-then-i-eq66 c =
-    let a = c.args in
-    let at_pre = c.requires in
-    let at-if1 = c.if-i-lt64 in
-    let at-if2 = c.if-i-eq64 in
-    let at-if3 = c.if-i-eq65 in
-    let at-if4 = c.if-i-eq66 in
-    fits_as a.n _ (key_black a.i at-if1.false at-if2.false at-if3.false at-if4.true) (at_pre)
+pub push_word-requires-in-66 : goal.push_word-requires-in-66
+push_word-requires-in-66 c = fits_as c.args.n _ (key_black c.args.i c.in-66.is) c.requires
 
-pub returns-then-i-eq66 : goal.returns-then-i-eq66
-returns-then-i-eq66 c =
-    let a = c.args in
-    let at-if1 = c.if-i-lt64 in
-    let at-if2 = c.if-i-eq64 in
-    let at-if3 = c.if-i-eq65 in
-    let at-if4 = c.if-i-eq66 in
-    let at-push-word3 = c.push_word-then-i-eq66 in
-    put_as (sym (key_black a.i at-if1.false at-if2.false at-if3.false at-if4.true)) at-push-word3.ensures
+pub returns-in-66 : goal.returns-in-66
+returns-in-66 c = put_as (sym (key_black c.args.i c.in-66.is)) c.push_word-in-66.ensures
 
-pub push_word-requires-then-i-eq67 : goal.push_word-requires-then-i-eq67
-push_word-requires-then-i-eq67 c =
-    let a = c.args in
-    let at_pre = c.requires in
-    let at-if1 = c.if-i-lt64 in
-    let at-if2 = c.if-i-eq64 in
-    let at-if3 = c.if-i-eq65 in
-    let at-if4 = c.if-i-eq66 in
-    let at-if5 = c.if-i-eq67 in
-    fits_as a.n _ (key_file a.i at-if1.false at-if2.false at-if3.false at-if4.false at-if5.true) (at_pre)
+pub push_word-requires-in-67 : goal.push_word-requires-in-67
+push_word-requires-in-67 c = fits_as c.args.n _ (key_file c.args.i c.in-67.is) c.requires
 
-pub returns-then-i-eq67 : goal.returns-then-i-eq67
-returns-then-i-eq67 c =
-    let a = c.args in
-    let at-if1 = c.if-i-lt64 in
-    let at-if2 = c.if-i-eq64 in
-    let at-if3 = c.if-i-eq65 in
-    let at-if4 = c.if-i-eq66 in
-    let at-if5 = c.if-i-eq67 in
-    let at-push-word4 = c.push_word-then-i-eq67 in
-    put_as (sym (key_file a.i at-if1.false at-if2.false at-if3.false at-if4.false at-if5.true)) at-push-word4.ensures
+pub returns-in-67 : goal.returns-in-67
+returns-in-67 c = put_as (sym (key_file c.args.i c.in-67.is)) c.push_word-in-67.ensures
 
-pub push_word-requires-then-i-eq68 : goal.push_word-requires-then-i-eq68
-push_word-requires-then-i-eq68 c =
-    let a = c.args in
-    let at_pre = c.requires in
-    let at-if1 = c.if-i-lt64 in
-    let at-if2 = c.if-i-eq64 in
-    let at-if3 = c.if-i-eq65 in
-    let at-if4 = c.if-i-eq66 in
-    let at-if5 = c.if-i-eq67 in
-    let at-if6 = c.if-i-eq68 in
-    fits_as a.n _ (key_half a.i at-if1.false at-if2.false at-if3.false at-if4.false at-if5.false at-if6.true) (at_pre)
+pub push_word-requires-in-68 : goal.push_word-requires-in-68
+push_word-requires-in-68 c = fits_as c.args.n _ (key_half c.args.i c.in-68.is) c.requires
 
-pub returns-then-i-eq68 : goal.returns-then-i-eq68
-returns-then-i-eq68 c =
-    let a = c.args in
-    let at-if1 = c.if-i-lt64 in
-    let at-if2 = c.if-i-eq64 in
-    let at-if3 = c.if-i-eq65 in
-    let at-if4 = c.if-i-eq66 in
-    let at-if5 = c.if-i-eq67 in
-    let at-if6 = c.if-i-eq68 in
-    let at-push-word5 = c.push_word-then-i-eq68 in
-    put_as (sym (key_half a.i at-if1.false at-if2.false at-if3.false at-if4.false at-if5.false at-if6.true)) at-push-word5.ensures
+pub returns-in-68 : goal.returns-in-68
+returns-in-68 c = put_as (sym (key_half c.args.i c.in-68.is)) c.push_word-in-68.ensures
 
-pub push_word-requires-2 : goal.push_word-requires-2
-push_word-requires-2 c =
-    let a = c.args in
-    let at_pre = c.requires in
-    let at-if1 = c.if-i-lt64 in
-    let at-if2 = c.if-i-eq64 in
-    let at-if3 = c.if-i-eq65 in
-    let at-if4 = c.if-i-eq66 in
-    let at-if5 = c.if-i-eq67 in
-    let at-if6 = c.if-i-eq68 in
-    fits_as a.n _ (key_full a.i at-if1.false at-if2.false at-if3.false at-if4.false at-if5.false at-if6.false) (at_pre)
+pub push_word-requires-in_default : goal.push_word-requires-in_default
+push_word-requires-in_default c = fits_as c.args.n _ (key_full c.args.i (omega arith)) c.requires
 
-pub returns : goal.returns
-returns c =
-    let a = c.args in
-    let at-if1 = c.if-i-lt64 in
-    let at-if2 = c.if-i-eq64 in
-    let at-if3 = c.if-i-eq65 in
-    let at-if4 = c.if-i-eq66 in
-    let at-if5 = c.if-i-eq67 in
-    let at-if6 = c.if-i-eq68 in
-    let at-push-word6 = c.push_word-2 in
-    put_as (sym (key_full a.i at-if1.false at-if2.false at-if3.false at-if4.false at-if5.false at-if6.false)) at-push-word6.ensures
+pub returns-in_default : goal.returns-in_default
+returns-in_default c = put_as (sym (key_full c.args.i (omega arith))) c.push_word-in_default.ensures

@@ -1,22 +1,7 @@
 use lib.ListN.{length}
 use mathlib.Core.Path.{refl}
-use native.Mathlib.Omega.{arith}
 use Rattle.differences.proofs.Starts.{start_none, line_fits, start_more, start_all}
 use Rattle.differences.proofs.push_starts.Goals as goal
-
-pub loop-i-init : goal.loop-i-init
-loop-i-init c =
-    let a = c.args in
-    start_none a.first.now a.second.now a.bytes.now
-
-pub bounds-first-i : goal.bounds-first-i
-bounds-first-i c = omega (arith, c.requires.record_size_in_bounds.0, c.loop-i-test.true)
-
-pub bounds-second-i : goal.bounds-second-i
-bounds-second-i c =
-    let at_pre = c.requires in
-    let at-loop-test = c.loop-i-test in
-    omega (arith, at_pre.record_size_in_bounds.1, at-loop-test.true)
 
 pub push_start-n-requires : goal.push_start-n-requires
 push_start-n-requires c =
@@ -28,12 +13,6 @@ push_start-n-requires c =
     at_pre.second_in_bounds
     at-loop.invariant at-loop-test.true
 
-pub overflow_add-i : goal.overflow_add-i
-overflow_add-i c = omega (arith, c.loop-i-test.true)
-
-pub loop-i-smaller : goal.loop-i-smaller
-loop-i-smaller c = omega (arith, c.loop-i-test.true)
-
 pub loop-i-preserved : goal.loop-i-preserved
 loop-i-preserved c =
     let a = c.args in
@@ -44,9 +23,6 @@ loop-i-preserved c =
     start_more a.first.now a.second.now (length a.bytes.now) at-loop.bytes at-loop.n at-loop.i at_pre.record_size_in_bounds.0 at_pre.record_size_in_bounds.1
     at_pre.second_in_bounds
     at-loop.invariant at-loop-test.true at-push-start.new.bytes at-push-start.result at-push-start.ensures
-
-pub shape_of-bytes : goal.shape_of-bytes
-shape_of-bytes c = c.loop-i.invariant.long
 
 pub returns : goal.returns
 returns c =

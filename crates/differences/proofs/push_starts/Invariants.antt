@@ -1,12 +1,7 @@
 -- `push_starts` of lib.rt meets its contract: PutIn (now bytes.entry) 0 (start_lines (now first.entry) (now second.entry)) (now bytes.exit) r.
-use Prim.Native.Nat.{◌-◌}
 use lib.ListN.{length}
-use Rattle.board_builder.specs.BoardBuilder.{record_size}
 use Rattle.differences.proofs.Starts.{Started}
 use Rattle.differences.proofs.push_starts.Given as goal
 
 abbrev pub invariant-loop-i : goal.invariant-loop-i
 invariant-loop-i l = Started l.first l.second (length l.initial.bytes) l.bytes l.n l.i
-
-abbrev pub decreases-loop-i : goal.decreases-loop-i
-decreases-loop-i l = record_size - l.i

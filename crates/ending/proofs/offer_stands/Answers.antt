@@ -1,4 +1,6 @@
 -- `offer_stands` of lib.rt meets its contract: r ≡ offer_at (now acts.entry) (now ps.entry) n m.
+use Rattle.std.proofs.Common.{rules}
+use borrow.Author.Tests.{tests}
 use mathlib.Core.Path.{◌≡◌, ap, ap₂, sym, ◌∙◌}
 use mathlib.Core.List.{List}
 use Prim.Native.Nat.{ℕ, ◌-◌}
@@ -36,11 +38,12 @@ returns c =
     let at-if1 = c.if-is_offer in
     let at_at = c.at in
     let at-byte-at = c.byte_at-side in
-    let at-other-side = c.other_side in
+    let s = at-byte-at.result in
+    let other : c.from-other_side.result ≡ 1 - s = search (rules, tests) in
     let before = last_action a.acts.now (a.n - 1) in
     let side_is : at-byte-at.result ≡ side (position_at a.ps.now a.m) =
     at-byte-at.ensures ∙ ap (λ (p : List ℕ). get_or p side_at 0) at_at.ensures ∙ sym (side_at_fact _) in
     c.is_offer_by.ensures
-    ∙ ap₂ is_offer_by (at-other-side.ensures ∙ ap (λ (s : ℕ). 1 - s) side_is) c.last-2.ensures
+    ∙ ap₂ is_offer_by (other ∙ ap (λ (s : ℕ). 1 - s) side_is) c.last-2.ensures
     ∙ sym (stands_before (position_at a.ps.now a.m) (last_action a.acts.now a.n) before
     (ap is_offer (sym at_last.ensures) ∙ sym at-is-offer.ensures ∙ at-if1.false))

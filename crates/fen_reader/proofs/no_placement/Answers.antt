@@ -23,5 +23,5 @@ returns c =
     let s = a.text.now in
     let enough : 4 ≤ length (tokens s) = omega (arith, c.if-spaces-lt3.false, c.spaces.ensures) in
     c.refused_at-2.ensures
-    ∙ ap (refused_at bad_placement) (c.first_bad.ensures ∙ ap first_bad c.up_to.ensures)
+    ∙ ap (refused_at bad_placement) (c.first_bad.ensures ∙ ap first_bad c.front.ensures)
     ∙ sym (bad_first s a.end c.requires enough)

@@ -1,23 +1,11 @@
 -- `read_fen` of lib.rt meets its contract: r ≡ read_fen (now text.entry).
-use mathlib.Core.Path.{◌≡◌, refl, sym, ◌∙◌}
-use mathlib.Core.Bool.{true}
+use mathlib.Core.Path.{refl, sym, ◌∙◌}
 use Prim.Native.Nat.{◌≤◌}
 use native.Mathlib.Omega.{arith}
-use lib.ListN.{length, take}
-use borrow.Author.Tests.{le-ltb, lt-ltb}
-use Rattle.fen_text.specs.Placement.{start, place_all}
-use Rattle.fen_reader.specs.CodeWalk.{bad_seen}
+use lib.ListN.{length}
 use Rattle.fen_reader.proofs.Placing.{good_placement}
 use Rattle.fen_reader.proofs.Reading.{one_token, two_tokens, three_tokens, four_tokens}
 use Rattle.fen_reader.proofs.read_fen.Goals as goal
-
-pub no_placement-requires : goal.no_placement-requires
-no_placement-requires c = record {
-  place = c.place-walked.ensures.place;
-  bad =
-      let at_place = c.place-walked in
-      at_place.ensures.good ∙ le-ltb at_place.result.seen bad_seen c.if-walked-ge-REFUSED.true;
-}
 
 pub returns-then-text-end : goal.returns-then-text-end
 returns-then-text-end c = c.refused_at.ensures ∙ sym (one_token (record {
@@ -59,7 +47,6 @@ pub returns : goal.returns
 returns c =
     let a = c.args in
     let at_place = c.place-walked in
-    let at-if1 = c.if-walked-ge-REFUSED in
     let at-if2 = c.if-text-end in
     let at_after = c.after-from_side in
     let at-find = c.find-side_end in
@@ -69,15 +56,15 @@ returns c =
     let at-if4 = c.if-from_rights-rights_end in
     let at-after3 = c.after-from_ep in
     let at-find3 = c.find-ep_end in
-    let at-up-to = c.up_to in
-    let at-up-to2 = c.up_to-2 in
-    let at-up-to3 = c.up_to-3 in
+    let at-up-to = c.front in
+    let at-up-to2 = c.front-2 in
+    let at-up-to3 = c.front-3 in
     let s = a.text.now in
     let w = at_place.result in
     let inside : w.end ≤ length s = omega (arith, at-if2.false) in
-    let good : (place_all start (take w.end s)).good ≡ true = at_place.ensures.good ∙ lt-ltb w.seen bad_seen at-if1.false in
+    let good = rw c.in-Some.is at at_place.ensures.pieces in
     c.assemble.ensures
-    ∙ sym (good_placement s w.end w.pieces _ _ _ inside good at_place.ensures.pieces)
+    ∙ sym (good_placement s w.end _ _ _ _ inside good.0 good.1)
     ∙ sym
     (four_tokens
     (record { place = at_place.ensures.place; within = at-if2.false; rest = at_after.ensures })

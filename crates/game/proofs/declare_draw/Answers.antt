@@ -6,7 +6,7 @@ use Rattle.action.specs.declared.Action.TheVariants.{DeclareDraw}
 use Rattle.game_rules.specs.Rules.{declare_draw}
 use Rattle.game_rules.specs.Calls.{counts_after, actions_after}
 use Rattle.game.specs.CodeAnswers.{other_counts, other_actions}
-use Rattle.game.proofs.Answers.{other-is}
+use Rattle.game.proofs.Answers.{other_is}
 use Rattle.game.proofs.declare_draw.Goals as goal
 
 pub returns : goal.returns
@@ -14,7 +14,7 @@ unfolding counts_after actions_after
 returns c =
     let a = c.args in
     let at-act = c.act in
-    let e = other-is a.acts.now a.ps.now a.n a.m declare_draw refl in
+    let e = other_is a.acts.now a.ps.now a.n a.m declare_draw refl in
     record {
       counts = at-act.ensures.counts ∙ ap (λ (x : ℕ). other_counts x a.n a.m) e;
       actions = at-act.ensures.actions ∙ ap (λ (x : ℕ). other_actions x a.acts.now a.n DeclareDraw) e;

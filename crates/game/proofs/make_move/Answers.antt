@@ -17,7 +17,7 @@ use Rattle.stored_position.specs.Bytes.{position_given}
 use Rattle.game_rules.specs.Limits.{limits}
 use Rattle.game_rules.specs.Rules.{make_move, result}
 use Rattle.game_rules.specs.Calls.{call_answer}
-use Rattle.game.proofs.Answers.{move-found}
+use Rattle.game.proofs.Answers.{move_found}
 use Rattle.game.proofs.Ways as ways
 use Rattle.game.proofs.make_move.Goals as goal
 
@@ -34,7 +34,7 @@ pub overflow_cast-x : goal.overflow_cast-x
 overflow_cast-x c =
     let a = c.args in
     let q : Position = position_given a.next a.in_check a.list.now in
-    let f = move-found a.acts.now a.ps.now a.n a.m a.x q (sym c.move_answer-number.ensures ∙ c.if-number-ne-ACCEPTED.false) in
+    let f = move_found a.acts.now a.ps.now a.n a.m a.x q (sym c.move_answer-number.ensures ∙ c.if-number-ne-ACCEPTED.false) in
     omega (arith, f.number)
 
 pub put_action-requires : goal.put_action-requires
@@ -44,7 +44,7 @@ put_action-requires c =
     let at-move-answer = c.move_answer-number in
     let at-if1 = c.if-number-ne-ACCEPTED in
     let q : Position = position_given a.next a.in_check a.list.now in
-    let f = move-found a.acts.now a.ps.now a.n a.m a.x q (sym at-move-answer.ensures ∙ at-if1.false) in
+    let f = move_found a.acts.now a.ps.now a.n a.m a.x q (sym at-move-answer.ensures ∙ at-if1.false) in
     (f.room, ap (λ (x : ChessMove). action_check (MakeMove x)) c.from_number.ensures ∙ ap (λ (x : Answer). x.number) (number_of_parts a.x f.number))
 
 pub overflow_add-moves : goal.overflow_add-moves
@@ -53,7 +53,7 @@ overflow_add-moves c =
     let at-move-answer = c.move_answer-number in
     let at-if1 = c.if-number-ne-ACCEPTED in
     let q : Position = position_given a.next a.in_check a.list.now in
-    let f = move-found a.acts.now a.ps.now a.n a.m a.x q (sym at-move-answer.ensures ∙ at-if1.false) in
+    let f = move_found a.acts.now a.ps.now a.n a.m a.x q (sym at-move-answer.ensures ∙ at-if1.false) in
     omega (arith, f.some)
 
 pub put_position-requires : goal.put_position-requires
@@ -62,7 +62,7 @@ put_position-requires c =
     let at-move-answer = c.move_answer-number in
     let at-if1 = c.if-number-ne-ACCEPTED in
     let q : Position = position_given a.next a.in_check a.list.now in
-    let f = move-found a.acts.now a.ps.now a.n a.m a.x q (sym at-move-answer.ensures ∙ at-if1.false) in
+    let f = move_found a.acts.now a.ps.now a.n a.m a.x q (sym at-move-answer.ensures ∙ at-if1.false) in
     (omega (arith, f.place), f.check)
 
 pub overflow_add-actions : goal.overflow_add-actions
@@ -71,7 +71,7 @@ overflow_add-actions c =
     let at-move-answer = c.move_answer-number in
     let at-if1 = c.if-number-ne-ACCEPTED in
     let q : Position = position_given a.next a.in_check a.list.now in
-    let f = move-found a.acts.now a.ps.now a.n a.m a.x q (sym at-move-answer.ensures ∙ at-if1.false) in
+    let f = move_found a.acts.now a.ps.now a.n a.m a.x q (sym at-move-answer.ensures ∙ at-if1.false) in
     omega (arith, f.few)
 
 pub overflow_add-moves-2 : goal.overflow_add-moves-2
@@ -80,7 +80,7 @@ overflow_add-moves-2 c =
     let at-move-answer = c.move_answer-number in
     let at-if1 = c.if-number-ne-ACCEPTED in
     let q : Position = position_given a.next a.in_check a.list.now in
-    let f = move-found a.acts.now a.ps.now a.n a.m a.x q (sym at-move-answer.ensures ∙ at-if1.false) in
+    let f = move_found a.acts.now a.ps.now a.n a.m a.x q (sym at-move-answer.ensures ∙ at-if1.false) in
     omega (arith, f.some)
 
 pub returns : goal.returns

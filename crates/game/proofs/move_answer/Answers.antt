@@ -8,7 +8,7 @@ use Prim.Native.Nat.{ℕ}
 use lib.ListN.{length}
 use Rattle.position.specs.Layout.{Position}
 use Rattle.stored_position.specs.Bytes.{position_given, lists_move}
-use Rattle.game.proofs.Answers.{record_there, listed-number}
+use Rattle.game.proofs.Answers.{record_there, listed_number}
 use Rattle.game.proofs.Ways as ways
 use Rattle.game.proofs.move_answer.Goals as goal
 
@@ -74,7 +74,7 @@ overflow_cast-x c =
     let at-lists = c.lists in
     let at-if2 = c.if-not-lists in
     let listed = ap (λ (s : List ℕ). lists_move s a.x) (sym at_at.ensures) ∙ sym at-lists.ensures ∙ at-if2.false in
-    let n = listed-number a.acts.now a.ps.now a.n a.m a.x (sym at-open-check.ensures ∙ at-if1.false) listed in
+    let n = listed_number a.acts.now a.ps.now a.n a.m a.x (sym at-open-check.ensures ∙ at-if1.false) listed in
     omega arith
 
 pub returns-then-not-moves_on_to : goal.returns-then-not-moves_on_to

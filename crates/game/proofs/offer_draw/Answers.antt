@@ -7,7 +7,7 @@ use Rattle.action.specs.declared.Action.TheVariants.{OfferDraw}
 use Rattle.game_rules.specs.Rules.{offer_draw}
 use Rattle.game_rules.specs.Calls.{counts_after, actions_after}
 use Rattle.game.specs.CodeAnswers.{other_counts, other_actions}
-use Rattle.game.proofs.Answers.{other-is}
+use Rattle.game.proofs.Answers.{other_is}
 use Rattle.game.proofs.offer_draw.Goals as goal
 
 pub returns : goal.returns
@@ -15,7 +15,7 @@ unfolding counts_after actions_after
 returns c =
     let a = c.args in
     let at-act = c.act in
-    let e = other-is a.acts.now a.ps.now a.n a.m (offer_draw a.colour) refl in
+    let e = other_is a.acts.now a.ps.now a.n a.m (offer_draw a.colour) refl in
     record {
       counts = at-act.ensures.counts ∙ ap (λ (x : ℕ). other_counts x a.n a.m) e;
       actions = at-act.ensures.actions ∙ ap (λ (x : ℕ). other_actions x a.acts.now a.n (OfferDraw a.colour)) e;

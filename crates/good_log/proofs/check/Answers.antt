@@ -25,9 +25,6 @@ returns-then-m-gt-MAX_MOVES c =
     let at-if2 = c.if-ps-lt-POSITIONS_LENGTH in
     rw (le-leb _ _ at-if1.false, le-leb _ _ at-if2.false, le-leb _ _ c.if-n-gt-MAX_ACTIONS.false, lt-leb _ _ c.if-m-gt-MAX_MOVES.true)
 
-pub is_good-requires : goal.is_good-requires
-is_good-requires c = (c.if-n-gt-MAX_ACTIONS.false, c.if-m-gt-MAX_MOVES.false, c.if-acts-lt-ACTIONS_LENGTH.false, c.if-ps-lt-POSITIONS_LENGTH.false)
-
 pub returns-then-is_good : goal.returns-then-is_good
 unfolding log_check first_refusal
 returns-then-is_good c =

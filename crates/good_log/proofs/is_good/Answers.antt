@@ -1,8 +1,5 @@
 use mathlib.Core.Path.{◌≡◌, refl, ap, sym, ◌∙◌}
-use mathlib.Core.Bool.{true}
-use native.Mathlib.Omega.{arith}
 use borrow.Author.Tests.{eq-eqb, ne_eqb}
-use Prim.Native.Nat.{◌-◌}
 use Rattle.stored_position.specs.Bytes.{is_position}
 use Rattle.stored_position.specs.CodeParts.{record_fits}
 use Rattle.good_log.proofs.Pass.{Given, pass_start, pass_end, leave_out, leave_on, leads_on, stay_out, stay_on, no_start}
@@ -25,17 +22,6 @@ loop-i-init c =
     let has-record = sym (ap record_fits at_at.ensures) ∙ sym at-has-record.ensures ∙ c.if-not-has_record.false in
     (pass_start a.acts.now a.ps.now a.n a.m, has-record)
 
-pub returns-then-acts-i : goal.returns-then-acts-i
-returns-then-acts-i c =
-    let at_pre = c.requires in
-    absurd (omega (arith, at_pre.0, at_pre.2, c.loop-i-test.true, c.if-acts-i.true))
-
-pub move_may_stand-requires : goal.move_may_stand-requires
-move_may_stand-requires c =
-    let at_pre = c.requires in
-    let at-loop = c.loop-i in
-    (at_pre.1, c.if-x-le-LAST_MOVE.true, at-loop.invariant.1)
-
 pub returns-then-not-move_may_stand : goal.returns-then-not-move_may_stand
 returns-then-not-move_may_stand c =
     let a = c.args in
@@ -52,18 +38,6 @@ returns-then-not-move_may_stand c =
     sym (leave_out a.acts.now a.ps.now a.n a.m loop.i loop.k log loop.invariant.0 loop-test.true (λ j. (known.given j).fits)
     read.result read.ensures at-if3.true may-not)
 
-pub overflow_add-k : goal.overflow_add-k
-overflow_add-k c =
-    let at_pre = c.requires in
-    let at-loop = c.loop-i in
-    omega (arith, at-loop.invariant.0.within, at_pre.1)
-
-pub other_may_stand-requires : goal.other_may_stand-requires
-other_may_stand-requires c =
-    let at_pre = c.requires in
-    let at-loop-test = c.loop-i-test in
-    omega (arith, at_pre.0, at-loop-test.true)
-
 pub returns-then-not-other_may_stand : goal.returns-then-not-other_may_stand
 returns-then-not-other_may_stand c =
     let a = c.args in
@@ -79,12 +53,6 @@ returns-then-not-other_may_stand c =
     let may-not = sym may.ensures ∙ c.if-not-other_may_stand.true in
     sym (stay_out a.acts.now a.ps.now a.n a.m loop.i loop.k log loop.invariant.0 loop-test.true (λ j. (known.given j).fits)
     read.result read.ensures at-if3.false may-not)
-
-pub overflow_add-i : goal.overflow_add-i
-overflow_add-i c = omega (arith, c.requires.0, c.loop-i-test.true)
-
-pub loop-i-smaller : goal.loop-i-smaller
-loop-i-smaller c = omega (arith, c.loop-i-test.true)
 
 pub loop-i-preserved : goal.loop-i-preserved
 loop-i-preserved c =
@@ -110,19 +78,17 @@ loop-i-preserved c =
           rw w.k-is (stays w.if-x-le-LAST_MOVE.false may, loop.invariant.1)
     ]
 
+pub returns-else-k-m : goal.returns-else-k-m
+returns-else-k-m c =
+    let a = c.args in
+    let loop = c.loop-i in
+    let end = pass_end a.acts.now a.ps.now a.n a.m loop.i loop.k c.loop-i-test.false loop.invariant.0 in
+    ne_eqb loop.k a.m c.if-k-m.false ∙ (rw (ne_eqb a.m loop.k (λ e. c.if-k-m.false (sym e))) at end)
+
 pub returns-then-k-m : goal.returns-then-k-m
 returns-then-k-m c =
     let a = c.args in
     let loop = c.loop-i in
+    let all-met : loop.k ≡ a.m = c.if-k-m.true in
     let end = pass_end a.acts.now a.ps.now a.n a.m loop.i loop.k c.loop-i-test.false loop.invariant.0 in
-    rw (ne_eqb a.m loop.k (λ e. c.if-k-m.true (sym e))) at end
-
-pub returns : goal.returns
-returns c =
-    let a = c.args in
-    let loop = c.loop-i in
-    let loop-test = c.loop-i-test in
-    let at-if6 = c.if-k-m in
-    let all-met : loop.k ≡ a.m = at-if6.false in
-    let end = pass_end a.acts.now a.ps.now a.n a.m loop.i loop.k loop-test.false loop.invariant.0 in
-    c.is_position.ensures ∙ ap is_position c.at-2.ensures ∙ (rw (all-met, eq-eqb a.m a.m refl) at end)
+    c.is_position.ensures ∙ ap is_position c.at-then-k-m.ensures ∙ (rw (all-met, eq-eqb a.m a.m refl) at end)

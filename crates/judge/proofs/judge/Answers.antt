@@ -1,86 +1,36 @@
 -- `judge` of lib.rt meets its contract: r ≡ judgement owed given (now legal.entry) (now list.entry).
-use borrow.Author.Tests.{eq-eqb, ne_eqb}
-use mathlib.Core.Path.{ap, sym, ◌∙◌}
-use Prim.Native.Nat.{ℕ, ◌-◌}
-use lib.ListN.{length}
-use Rattle.move_laws.specs.Judge.{judged_as, judgement}
+use mathlib.Core.Path.{◌∙◌}
+use Rattle.judge.proofs.Found.{told_stray, told_again, told_missing, told_byte, told_right}
 use Rattle.judge.proofs.judge.Goals as goal
 
-pub returns-then-stray-ne0 : goal.returns-then-stray-ne0
-unfolding judgement
-returns-then-stray-ne0 c =
+pub returns-in-Some : goal.returns-in-Some
+returns-in-Some c =
     let a = c.args in
-    let at-outside = c.outside-stray in
-    let at-if1 = c.if-stray-ne0 in
-    c.finding.ensures
-    ∙ ap (λ (x : ℕ). judged_as 0 a.owed (length a.legal.now) 1 (x - 1)) at-outside.ensures
-    ∙ simp (ne_eqb _ _ (λ e. at-if1.true (at-outside.ensures ∙ e)))
+    c.finding.ensures ∙ told_stray a.owed a.given a.legal.now a.list.now c.in-Some.stray c.in-Some.ensures
 
-pub returns-then-again-ne0 : goal.returns-then-again-ne0
-unfolding judgement
-returns-then-again-ne0 c =
+pub returns-in-Some-twice : goal.returns-in-Some-twice
+returns-in-Some-twice c =
     let a = c.args in
-    let at-outside = c.outside-stray in
-    let at-if1 = c.if-stray-ne0 in
-    let at-twice = c.twice-again in
-    let at-if2 = c.if-again-ne0 in
-    c.finding-then-again-ne0.ensures
-    ∙ ap (λ (x : ℕ). judged_as 0 a.owed (length a.legal.now) 2 (x - 1)) at-twice.ensures
-    ∙ simp (eq-eqb _ _ (sym at-outside.ensures ∙ at-if1.false), ne_eqb _ _ (λ e. at-if2.true (at-twice.ensures ∙ e)))
+    c.finding-in-Some-twice.ensures
+    ∙ told_again a.owed a.given a.legal.now a.list.now c.in_default.ensures c.in-Some-twice.again c.in-Some-twice.ensures
 
-pub returns-then-missing-ne0 : goal.returns-then-missing-ne0
-unfolding judgement
-returns-then-missing-ne0 c =
+pub returns-in-Some-outside : goal.returns-in-Some-outside
+returns-in-Some-outside c =
     let a = c.args in
-    let at-outside = c.outside-stray in
-    let at-if1 = c.if-stray-ne0 in
-    let at-twice = c.twice-again in
-    let at-if2 = c.if-again-ne0 in
-    let at-outside2 = c.outside-missing in
-    let at-if3 = c.if-missing-ne0 in
-    c.finding-then-missing-ne0.ensures
-    ∙ ap (λ (x : ℕ). judged_as 0 a.owed (length a.legal.now) 3 (x - 1)) at-outside2.ensures
-    ∙ simp (
-      eq-eqb _ _ (sym at-outside.ensures ∙ at-if1.false),
-      eq-eqb _ _ (sym at-twice.ensures ∙ at-if2.false),
-      ne_eqb _ _
-          (λ e. at-if3.true (at-outside2.ensures ∙ e)),
-    )
+    c.finding-in-Some-outside.ensures
+    ∙ told_missing a.owed a.given a.legal.now a.list.now c.in_default.ensures c.in_default-twice.ensures
+    c.in-Some-outside.missing c.in-Some-outside.ensures
 
 pub returns-then-given-owed : goal.returns-then-given-owed
-unfolding judgement
 returns-then-given-owed c =
-    let at-outside = c.outside-stray in
-    let at-if1 = c.if-stray-ne0 in
-    let at-twice = c.twice-again in
-    let at-if2 = c.if-again-ne0 in
-    let at-outside2 = c.outside-missing in
-    let at-if3 = c.if-missing-ne0 in
-    let at-if4 = c.if-given-owed in
+    let a = c.args in
     c.finding-then-given-owed.ensures
-    ∙ simp (
-      eq-eqb _ _ (sym at-outside.ensures ∙ at-if1.false),
-      eq-eqb _ _ (sym at-twice.ensures ∙ at-if2.false),
-      eq-eqb _ _
-          (sym at-outside2.ensures ∙ at-if3.false),
-      ne_eqb _ _ at-if4.true,
-    )
+    ∙ told_byte a.owed a.given a.legal.now a.list.now c.in_default.ensures c.in_default-twice.ensures c.in_default-outside.ensures
+    c.if-given-owed.true
 
 pub returns : goal.returns
-unfolding judgement
 returns c =
-    let at-outside = c.outside-stray in
-    let at-if1 = c.if-stray-ne0 in
-    let at-twice = c.twice-again in
-    let at-if2 = c.if-again-ne0 in
-    let at-outside2 = c.outside-missing in
-    let at-if3 = c.if-missing-ne0 in
-    let at-if4 = c.if-given-owed in
+    let a = c.args in
     c.finding-2.ensures
-    ∙ simp (
-      eq-eqb _ _ (sym at-outside.ensures ∙ at-if1.false),
-      eq-eqb _ _ (sym at-twice.ensures ∙ at-if2.false),
-      eq-eqb _ _
-          (sym at-outside2.ensures ∙ at-if3.false),
-      eq-eqb _ _ at-if4.false,
-    )
+    ∙ told_right a.owed a.given a.legal.now a.list.now c.in_default.ensures c.in_default-twice.ensures c.in_default-outside.ensures
+    c.if-given-owed.false

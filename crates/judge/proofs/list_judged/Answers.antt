@@ -3,6 +3,8 @@ use borrow.Author.Tests.{le-leb, lt-leb}
 use mathlib.Core.Path.{◌≡◌, refl, ap, ap₂, sym, ◌∙◌}
 use Prim.Native.Nat.{ℕ}
 use lib.ListN.{length}
+use lib.Seq.{length-take-le}
+use native.Mathlib.Omega.{arith}
 use mathlib.Core.List.{List}
 use Rattle.move_laws.specs.Judge.{judgement, judged_answer}
 use Rattle.judge.proofs.Owed.{owed_answer, owed_few, owed_many, owed_room, owed_byte}
@@ -57,6 +59,26 @@ returns-then-written-ne0 c =
       owed_many a.b at-legal-list.result ok at-legal-list.ensures.answer at-if4.true,
     )
 
+pub slice_bounds-room-end : goal.slice_bounds-room-end
+slice_bounds-room-end c =
+    let b = c.args.b in
+    let written = c.legal_list-written in
+    let ok = sym c.in_range.ensures ∙ c.if-not-in_range.false in
+    let few = owed_few b written.result ok written.ensures.answer c.if-written-ne0.false in
+    let long : written.result.value ≡ length (legal_moves b) =
+    ap (λ (a : Answer). a.value) (owed_answer b written.result ok written.ensures.answer few) in
+    omega (arith, few, long)
+
+pub slice_bounds-judge-end : goal.slice_bounds-judge-end
+slice_bounds-judge-end c =
+    let b = c.args.b in
+    let written = c.legal_list-written in
+    let ok = sym c.in_range.ensures ∙ c.if-not-in_range.false in
+    let few = owed_few b written.result ok written.ensures.answer c.if-written-ne0.false in
+    let long : written.result.value ≡ length (legal_moves b) =
+    ap (λ (a : Answer). a.value) (owed_answer b written.result ok written.ensures.answer few) in
+    sym (length-take-le _ _ (omega (arith, few, long)))
+
 pub returns : goal.returns
 unfolding judged_answer
 returns c =
@@ -69,15 +91,14 @@ returns c =
     let at-legal-list = c.legal_list-written in
     let at-if4 = c.if-written-ne0 in
     let at-in-check = c.in_check-owed in
-    let at_front = c.front in
     let ok = sym at-in-range.ensures ∙ at-if1.false in
     let few = owed_few at-args.b at-legal-list.result ok at-legal-list.ensures.answer at-if4.false in
     let long : at-legal-list.result.value ≡ length (legal_moves at-args.b) =
     ap (λ (a : Answer). a.value) (owed_answer at-args.b at-legal-list.result ok at-legal-list.ensures.answer few) in
-    c.judge.ensures
+    rw c.from.ensures at c.judge.ensures
     ∙ ap₂ (λ (x : ℕ) (l : List ℕ). judgement x at-args.in_check l at-args.list.now)
     (owed_byte at-args.b at-in-check.result ok at-in-check.ensures)
-    (at_front.ensures ∙ owed_room at-args.b _ _ at-legal-list.result.value ok refl few at-legal-list.ensures.bytes long)
+    (owed_room at-args.b _ _ at-legal-list.result.value ok refl few at-legal-list.ensures.bytes long)
     ∙ simp (
       ok,
       le-leb _ _ at-if2.false,

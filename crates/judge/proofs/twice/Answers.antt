@@ -1,41 +1,24 @@
 use native.Mathlib.Omega.{arith}
-use mathlib.Core.Path.{refl, ap, ap₂, sym, ◌∙◌}
-use Prim.Native.Nat.{ℕ, ◌+◌, ◌-◌, zero-le}
-use mathlib.Core.List.{List}
-use Rattle.answer.specs.Numbers.{among}
+use mathlib.Core.Path.{ap, sym, ◌∙◌}
+use Prim.Native.Nat.{ℕ, ◌+◌, ◌-◌}
+use lib.ListN.{length, drop, length-drop}
+use lib.Seq.{take_all}
 use Rattle.judge.proofs.Found.{twice_turn, twice_stop, twice_end}
 use Rattle.judge.proofs.twice.Goals as goal
 
-pub loop-i-init : goal.loop-i-init
-loop-i-init c = (zero-le, refl)
-
-pub overflow_add-result : goal.overflow_add-result
-overflow_add-result c = omega (arith, c.wide-entry.ensures.small)
-
 pub returns-then-is_listed : goal.returns-then-is_listed
 returns-then-is_listed c =
-    let a = c.args in
-    let at-loop = c.loop-i in
-    let at-loop-test = c.loop-i-test in
-    let at_wide = c.wide-entry in
-    let at_rest = c.rest in
-    let at-is-listed = c.is_listed in
-    ap (λ (x : ℕ). x + 1) at_wide.ensures.same
-    ∙ sym (at-loop.invariant.1 ∙ twice_stop a.list.now at-loop.i at-loop-test.true
-    (sym (at-is-listed.ensures ∙ ap₂ (λ (x : ℕ) (l : List ℕ). among x l) at_wide.ensures.same at_rest.ensures) ∙ c.if-is_listed.true))
+    let l = c.args.list.now in
+    let at = c.loop-i in
+    let listed = rw (c.from-entry.ensures, take_all (length l - (at.i + 1)) (drop (at.i + 1) l) (simp length-drop (omega arith))) at c.is_listed.ensures in
+    at.invariant ∙ twice_stop l at.i c.loop-i-test.true (sym listed ∙ c.if-is_listed.true) ∙ ap (λ (x : ℕ). x + 1) (sym c.from-entry.ensures)
 
 pub loop-i-preserved : goal.loop-i-preserved
 loop-i-preserved c =
-    let a = c.args in
-    let at-loop = c.loop-i in
-    let at-loop-test = c.loop-i-test in
-    let at_wide = c.wide-entry in
-    let at_rest = c.rest in
-    let at-is-listed = c.is_listed in (
-      omega arith,
-      at-loop.invariant.1 ∙ twice_turn a.list.now at-loop.i at-loop-test.true
-          (sym (at-is-listed.ensures ∙ ap₂ (λ (x : ℕ) (l : List ℕ). among x l) at_wide.ensures.same at_rest.ensures) ∙ c.if-is_listed.false),
-    )
+    let l = c.args.list.now in
+    let at = c.loop-i in
+    let listed = rw (c.from-entry.ensures, take_all (length l - (at.i + 1)) (drop (at.i + 1) l) (simp length-drop (omega arith))) at c.is_listed.ensures in
+    at.invariant ∙ twice_turn l at.i c.loop-i-test.true (sym listed ∙ c.if-is_listed.false)
 
 pub returns : goal.returns
-returns c = sym (c.loop-i.invariant.1 ∙ twice_end c.args.list.now c.loop-i.i c.loop-i-test.false)
+returns c = c.loop-i.invariant ∙ twice_end c.args.list.now c.loop-i.i c.loop-i-test.false

@@ -19,17 +19,6 @@ bounds-bytes-a c =
     let a = space_within n o c.push_number-a.result 0 c.push_number-a.new.bytes [] small first in
     omega arith
 
-pub overflow_add-a : goal.overflow_add-a
-overflow_add-a c =
-    let at-args = c.args in
-    let n = at-args.number in
-    let o = at-args.offset in
-    let small : n < 18446744073709551616 = search rules in
-    let near : o < 18446744073709551616 = search rules in
-    let first = c.push_number-a.ensures in
-    let a = space_within n o c.push_number-a.result 0 c.push_number-a.new.bytes [] small first in
-    omega arith
-
 pub push_number-b-requires : goal.push_number-b-requires
 push_number-b-requires c =
     let at-args = c.args in
@@ -39,25 +28,10 @@ push_number-b-requires c =
     let near : o < 18446744073709551616 = search rules in
     let first = c.push_number-a.ensures in
     let a = space_within n o c.push_number-a.result 0 c.push_number-a.new.bytes [] small first in
-    record { bytes_len = search rules; n_bound = omega arith }
+    omega arith
 
 pub bounds-bytes-b : goal.bounds-bytes-b
 bounds-bytes-b c =
-    let at-args = c.args in
-    let at-push-number = c.push_number-a in
-    let at-push-number2 = c.push_number-b in
-    let n = at-args.number in
-    let o = at-args.offset in
-    let small : n < 18446744073709551616 = search rules in
-    let near : o < 18446744073709551616 = search rules in
-    let first = at-push-number.ensures in
-    let a = space_within n o at-push-number.result 0 at-push-number.new.bytes [] small first in
-    let second = at-push-number2.ensures in
-    let b = newline_within n o at-push-number.result at-push-number2.result at-push-number.new.bytes at-push-number2.new.bytes near a second in
-    omega arith
-
-pub overflow_add-bytes : goal.overflow_add-bytes
-overflow_add-bytes c =
     let at-args = c.args in
     let at-push-number = c.push_number-a in
     let at-push-number2 = c.push_number-b in

@@ -24,9 +24,6 @@ returns-then-result-ne-GOES_ON c =
     ∙ laws_over at-args.acts.now at-args.ps.now at-args.n at-args.m at-check.result at-check.ensures at-if1.false at-result.result
     at-result.ensures at-if2.true
 
-pub stands-requires : goal.stands-requires
-stands-requires c = sym c.check-number.ensures ∙ c.if-number-ne-ACCEPTED.false
-
 pub returns-then-stands : goal.returns-then-stands
 returns-then-stands c =
     let at-args = c.args in

@@ -11,9 +11,6 @@ returns-then-number-ne-ACCEPTED c =
     c.not_ruled.ensures
     ∙ ruling_refused at-args.acts.now at-args.ps.now at-args.n at-args.m at-check.result at-check.ensures at-if1.true
 
-pub rule-requires : goal.rule-requires
-rule-requires c = sym c.check-number.ensures ∙ c.if-number-ne-ACCEPTED.false
-
 pub returns : goal.returns
 returns c =
     let at-args = c.args in

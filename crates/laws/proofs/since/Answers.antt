@@ -7,9 +7,6 @@ use Rattle.laws.specs.CodeSince.{laws_since}
 use Rattle.laws.proofs.Back.{since_start, since_by_none, since_found, since_passed}
 use Rattle.laws.proofs.since.Goals as goal
 
-pub loop-i-init : goal.loop-i-init
-loop-i-init c = (c.moves_in-k.ensures, refl)
-
 pub overflow_sub-k : goal.overflow_sub-k
 overflow_sub-k c =
     let at-loop = c.loop-i in
@@ -55,9 +52,6 @@ overflow_sub-k-then-m-le-LAST_MOVE c =
     let counted : k ≡ moves_in acts (j + 1) = at-loop.invariant.0 ∙ ap (moves_in acts) e in
     omega (arith, one_more_lem acts j m at-move-at.ensures c.if-m-le-LAST_MOVE.true)
 
-pub loop-i-smaller-then-m-le-LAST_MOVE : goal.loop-i-smaller-then-m-le-LAST_MOVE
-loop-i-smaller-then-m-le-LAST_MOVE c = omega (arith, c.loop-i-test.true)
-
 pub loop-i-preserved-then-m-le-LAST_MOVE : goal.loop-i-preserved-then-m-le-LAST_MOVE
 loop-i-preserved-then-m-le-LAST_MOVE c =
     let a = c.args in
@@ -79,9 +73,6 @@ loop-i-preserved-then-m-le-LAST_MOVE c =
     since_passed acts ps j m at-move-at.ensures at-if1.true k counted at_at.result.now at_at.ensures at-is-irreversible.result
     at-is-irreversible.ensures c.if-is_irreversible.false in
     (omega (arith, one_more_lem acts j m at-move-at.ensures at-if1.true), sym passed ∙ was)
-
-pub loop-i-smaller : goal.loop-i-smaller
-loop-i-smaller c = omega (arith, c.loop-i-test.true)
 
 pub loop-i-preserved : goal.loop-i-preserved
 loop-i-preserved c =

@@ -1,5 +1,5 @@
 -- `adjoining` of lib.rt meets its contract: r ≡ adjoining s t.
-use Rattle.move_laws.specs.Apart.{distance, adjoining}
+use Rattle.move_laws.specs.Apart.{adjoining}
 use Rattle.legal.proofs.adjoining.Goals as goal
 
 pub returns : goal.returns

@@ -1,30 +1,15 @@
--- `calm_king` of lib.rt meets its contract: r < 64 → Calm (now squares.entry) side r.
-use native.Mathlib.Omega.{arith}
+-- `calm_king` of lib.rt meets its contract: a king's square that is handed out is calm.
 use mathlib.Core.Path.{sym, ◌∙◌}
-use Prim.Native.Nat.{◌+◌, ◌*◌}
-use Rattle.legal.proofs.OffLines.{last_under, calm}
+use Rattle.std.specs.Prelude.{unwrap_or}
+use Rattle.legal.proofs.OffLines.{calm, none_past}
 use Rattle.legal.proofs.calm_king.Goals as goal
-
-pub returns-then-checked : goal.returns-then-checked
-returns-then-checked c = λ h. absurd (omega (arith, h))
-
-pub last_of-requires : goal.last_of-requires
-last_of-requires c =
-    let a = c.args in
-    let at_pre = c.requires in
-    let at-last-of = c.last_of-king in
-    (at_pre.0, (let z = last_under a.squares.now (6 + 6 * a.side) 64 (omega arith) in omega (arith, at-last-of.ensures, z)))
-
-pub returns-then-last_of-lt64 : goal.returns-then-last_of-lt64
-returns-then-last_of-lt64 c = λ h. absurd (omega (arith, h))
 
 pub returns : goal.returns
 returns c =
-    let a = c.args in
-    let at-checked = c.checked in
-    let at-if1 = c.if-checked in
-    let at-last-of = c.last_of-king in
-    let at-last-of2 = c.last_of in
-    let at-if2 = c.if-last_of-lt64 in
-    calm a.squares.now a.side at-last-of.result at-last-of2.result (sym at-checked.ensures ∙ at-if1.false)
-    at-last-of.ensures at-last-of2.ensures at-if2.false
+    let king = c.in_ok-king in
+    let last = rw c.man-man.ensures at king.ensures.last in
+    let next = rw c.man-man.ensures at c.last_of-2.ensures.last in (
+      king.ensures.below,
+      calm c.args.squares.now c.args.side.number king.king (unwrap_or c.last_of-2.result 64) (sym c.checked.ensures ∙ c.if-checked.false)
+          last next (none_past c.last_of-2.result (sym c.is_some.ensures ∙ c.if-is_some.false)) king.ensures.below,
+    )

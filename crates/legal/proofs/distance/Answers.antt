@@ -1,13 +1,9 @@
 -- `distance` of lib.rt meets its contract: r ≡ distance s t.
-use borrow.Author.Tests.{lt-ltb, le-ltb}
-use mathlib.Core.Path.{sym}
+use mathlib.Core.Path.{◌∙◌}
 use Rattle.move_laws.specs.Apart.{distance}
+use Rattle.legal.proofs.Lines.{larger_by}
 use Rattle.legal.proofs.distance.Goals as goal
 
-pub returns-then-files-ranks : goal.returns-then-files-ranks
+pub returns : goal.returns
 unfolding distance
-returns-then-files-ranks c = simp (sym c.files_apart-files.ensures, sym c.ranks_apart-ranks.ensures, lt-ltb _ _ c.if-files-ranks.true)
-
-pub returns-else-files-ranks : goal.returns-else-files-ranks
-unfolding distance
-returns-else-files-ranks c = simp (sym c.files_apart-files.ensures, sym c.ranks_apart-ranks.ensures, le-ltb _ _ c.if-files-ranks.false)
+returns c = c.max.ensures ∙ larger_by _ _ ∙ simp (c.files_apart.ensures, c.ranks_apart.ensures)

@@ -20,7 +20,7 @@ returns-then-not-promotes c =
     simp (
       sym at-of-side.ensures ∙ at-if1.false,
       sym
-          (at-promotes.ensures ∙ ap (λ (k : ℕ). promotes a.side k a.t a.promotion) at-kind-of.ensures) ∙ c.if-not-promotes.true,
+          (at-promotes.ensures ∙ ap (λ (k : ℕ). promotes a.side.number k a.way.dest a.promotion) at-kind-of.ensures) ∙ c.if-not-promotes.true,
     )
 
 pub returns : goal.returns
@@ -33,9 +33,9 @@ returns c =
     let at-promotes = c.promotes in
     let at-if2 = c.if-not-promotes in
     c.kind_moves.ensures
-    ∙ ap (λ (k : ℕ). kind_moves a.squares.now a.side a.rights a.marked k a.s a.t) at-kind-of.ensures
+    ∙ ap (λ (k : ℕ). kind_moves a.squares.now a.side.number a.rights a.marked k a.way.source a.way.dest) at-kind-of.ensures
     ∙ simp (
       sym at-of-side.ensures ∙ at-if1.false,
       sym
-          (at-promotes.ensures ∙ ap (λ (k : ℕ). promotes a.side k a.t a.promotion) at-kind-of.ensures) ∙ at-if2.false,
+          (at-promotes.ensures ∙ ap (λ (k : ℕ). promotes a.side.number k a.way.dest a.promotion) at-kind-of.ensures) ∙ at-if2.false,
     )

@@ -8,9 +8,6 @@ pub returns-then-not-in_range : goal.returns-then-not-in_range
 unfolding check_answer
 returns-then-not-in_range c = c.refused.ensures ∙ simp (sym c.in_range.ensures ∙ c.if-not-in_range.true)
 
-pub check_byte-requires : goal.check_byte-requires
-check_byte-requires c = sym c.in_range.ensures ∙ c.if-not-in_range.false
-
 pub returns : goal.returns
 unfolding check_answer
 returns c =

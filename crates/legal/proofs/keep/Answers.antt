@@ -4,10 +4,6 @@ use borrow.Author.Tests.{le-leb, lt-leb}
 use Rattle.legal.specs.CodeList.{counted_to, put_at}
 use Rattle.legal.proofs.keep.Goals as goal
 
-pub returns-then-not-legal : goal.returns-then-not-legal
-unfolding counted_to put_at
-returns-then-not-legal c = record { count = simp c.if-not-legal.true; room = simp c.if-not-legal.true }
-
 pub returns-then-count-ge255 : goal.returns-then-count-ge255
 unfolding counted_to put_at
 returns-then-count-ge255 c =

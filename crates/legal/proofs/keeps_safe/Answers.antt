@@ -1,33 +1,27 @@
--- `keeps_safe` of lib.rt meets its contract: r ≡ keeps_safe (now squares.entry) king s t.
-use mathlib.Core.Path.{ap, sym, ◌∙◌}
+-- `keeps_safe` of lib.rt meets its contract: r ≡ keeps_safe (now squares.entry) king s t, of a king on no square for none.
+use borrow.Author.Tests.{lt-ltb, eq-eqb, ne_eqb}
+use mathlib.Core.Path.{refl, ap, sym, ◌∙◌}
 use mathlib.Core.Bool.{not}
-use borrow.Author.Tests.{eq-eqb, ne_eqb, le-ltb, lt-ltb}
 use Rattle.legal.specs.CodeList.{keeps_safe}
 use Rattle.legal.proofs.keeps_safe.Goals as goal
 
-pub returns-then-king-ge64 : goal.returns-then-king-ge64
+pub returns-in_default : goal.returns-in_default
 unfolding keeps_safe
-returns-then-king-ge64 c = simp (le-ltb _ _ c.if-king-ge64.true)
+returns-in_default c = rw c.in_default.is refl
 
-pub returns-then-s-king : goal.returns-then-s-king
+pub returns-then-source-king : goal.returns-then-source-king
 unfolding keeps_safe
-returns-then-s-king c = simp (lt-ltb _ _ c.if-king-ge64.false, eq-eqb _ _ c.if-s-king.true)
+returns-then-source-king c = rw c.in-Some.is (simp (lt-ltb _ _ (rw c.in-Some.is at c.requires), eq-eqb _ _ c.if-source-king.true))
 
 pub returns-then-on_line : goal.returns-then-on_line
 unfolding keeps_safe
 returns-then-on_line c =
-    let at-if1 = c.if-king-ge64 in
-    let at-if2 = c.if-s-king in
-    let at-on-line = c.on_line in
-    let at-if3 = c.if-on_line in
-    simp (lt-ltb _ _ at-if1.false, ne_eqb _ _ at-if2.false, sym at-on-line.ensures ∙ at-if3.true)
+    rw c.in-Some.is
+    (simp (lt-ltb _ _ (rw c.in-Some.is at c.requires), ne_eqb _ _ c.if-source-king.false, sym c.on_line.ensures ∙ c.if-on_line.true))
 
 pub returns : goal.returns
 unfolding keeps_safe
 returns c =
-    let at-if1 = c.if-king-ge64 in
-    let at-if2 = c.if-s-king in
-    let at-on-line = c.on_line in
-    let at-if3 = c.if-on_line in
-    let at-in-passing = c.in_passing in
-    ap not at-in-passing.ensures ∙ simp (lt-ltb _ _ at-if1.false, ne_eqb _ _ at-if2.false, sym at-on-line.ensures ∙ at-if3.false)
+    rw c.in-Some.is
+    (ap not c.takes_in_passing.ensures
+    ∙ simp (lt-ltb _ _ (rw c.in-Some.is at c.requires), ne_eqb _ _ c.if-source-king.false, sym c.on_line.ensures ∙ c.if-on_line.false))

@@ -1,79 +1,56 @@
 -- `kind_attacks` of lib.rt meets its contract: r ≡ kind_attacks (now squares.entry) side kind s t.
-use borrow.Author.Tests.{eq-eqb, ne_eqb}
-use mathlib.Core.Path.{◌∙◌}
-use Rattle.move_laws.specs.Attack.{kind_attacks}
+use native.Mathlib.Omega.{arith}
+use borrow.Author.Tests.{ne_eqb}
+use mathlib.Core.Path.{sym, ◌∙◌}
+use Rattle.move_laws.specs.Apart.{file_or_rank, diagonal}
+use Rattle.move_laws.specs.Attack.{bishop_attacks, rook_attacks, queen_attacks, kind_attacks}
+use Rattle.legal.specs.CodeList.{on_line}
+use Rattle.legal.proofs.Lines.{straight_apart, diagonal_apart, line_apart, either_clear}
 use Rattle.legal.proofs.kind_attacks.Goals as goal
 
-pub returns-then-kind-eq-PAWN : goal.returns-then-kind-eq-PAWN
-unfolding kind_attacks
-returns-then-kind-eq-PAWN c = c.pawn_attacks.ensures ∙ simp (eq-eqb _ _ c.if-kind-eq-PAWN.true)
+pub slides-requires : goal.slides-requires
+slides-requires c = λ e. diagonal_apart c.args.way.source c.args.way.dest (sym c.diagonal.ensures ∙ e)
 
-pub returns-then-kind-eq-KNIGHT : goal.returns-then-kind-eq-KNIGHT
-unfolding kind_attacks
-returns-then-kind-eq-KNIGHT c = c.knights_move.ensures ∙ simp (ne_eqb _ _ c.if-kind-eq-PAWN.false, eq-eqb _ _ c.if-kind-eq-KNIGHT.true)
+pub slides-requires-in-4 : goal.slides-requires-in-4
+slides-requires-in-4 c = λ e. straight_apart c.args.way.source c.args.way.dest (sym c.straight.ensures ∙ e)
 
-pub returns-then-kind-eq-BISHOP : goal.returns-then-kind-eq-BISHOP
-unfolding kind_attacks
-returns-then-kind-eq-BISHOP c =
-    let at-if1 = c.if-kind-eq-PAWN in
-    let at-if2 = c.if-kind-eq-KNIGHT in
-    let at-if3 = c.if-kind-eq-BISHOP in
-    c.bishop_attacks.ensures ∙ simp (ne_eqb _ _ at-if1.false, ne_eqb _ _ at-if2.false, eq-eqb _ _ at-if3.true)
+pub slides-requires-in-5 : goal.slides-requires-in-5
+slides-requires-in-5 c = λ e. line_apart c.args.way.source c.args.way.dest (sym c.on_line.ensures ∙ e)
 
-pub returns-then-kind-eq-ROOK : goal.returns-then-kind-eq-ROOK
+pub returns-in-1 : goal.returns-in-1
 unfolding kind_attacks
-returns-then-kind-eq-ROOK c =
-    let at-if1 = c.if-kind-eq-PAWN in
-    let at-if2 = c.if-kind-eq-KNIGHT in
-    let at-if3 = c.if-kind-eq-BISHOP in
-    let at-if4 = c.if-kind-eq-ROOK in
-    c.rook_attacks.ensures ∙ simp (ne_eqb _ _ at-if1.false, ne_eqb _ _ at-if2.false, ne_eqb _ _ at-if3.false, eq-eqb _ _ at-if4.true)
+returns-in-1 c = rw c.in-1.is c.pawn_attacks.ensures
 
-pub returns-then-kind-eq-QUEEN : goal.returns-then-kind-eq-QUEEN
+pub returns-in-2 : goal.returns-in-2
 unfolding kind_attacks
-returns-then-kind-eq-QUEEN c =
-    let at-if1 = c.if-kind-eq-PAWN in
-    let at-if2 = c.if-kind-eq-KNIGHT in
-    let at-if3 = c.if-kind-eq-BISHOP in
-    let at-if4 = c.if-kind-eq-ROOK in
-    let at-if5 = c.if-kind-eq-QUEEN in
-    c.queen_attacks.ensures
-    ∙ simp (ne_eqb _ _ at-if1.false, ne_eqb _ _ at-if2.false, ne_eqb _ _ at-if3.false, ne_eqb _ _ at-if4.false, eq-eqb _ _ at-if5.true)
+returns-in-2 c = rw c.in-2.is c.knights_move.ensures
 
-pub returns-then-kind-eq-KING : goal.returns-then-kind-eq-KING
-unfolding kind_attacks
-returns-then-kind-eq-KING c =
-    let at-if1 = c.if-kind-eq-PAWN in
-    let at-if2 = c.if-kind-eq-KNIGHT in
-    let at-if3 = c.if-kind-eq-BISHOP in
-    let at-if4 = c.if-kind-eq-ROOK in
-    let at-if5 = c.if-kind-eq-QUEEN in
-    let at-if6 = c.if-kind-eq-KING in
-    c.adjoining.ensures
-    ∙ simp (
-      ne_eqb _ _ at-if1.false,
-      ne_eqb _ _ at-if2.false,
-      ne_eqb _ _ at-if3.false,
-      ne_eqb _ _ at-if4.false,
-      ne_eqb _ _ at-if5.false,
-      eq-eqb _ _
-          at-if6.true,
-    )
+pub returns-in-3 : goal.returns-in-3
+unfolding kind_attacks bishop_attacks
+returns-in-3 c = rw c.in-3.is (rw c.diagonal.ensures at c.slides.ensures)
 
-pub returns : goal.returns
+pub returns-in-4 : goal.returns-in-4
+unfolding kind_attacks rook_attacks
+returns-in-4 c = rw c.in-4.is (rw c.straight.ensures at c.slides-in-4.ensures)
+
+pub returns-in-5 : goal.returns-in-5
+unfolding kind_attacks queen_attacks rook_attacks bishop_attacks on_line
+returns-in-5 c =
+    let way = c.args.way in
+    rw c.in-5.is (rw c.on_line.ensures at c.slides-in-5.ensures ∙ either_clear (file_or_rank way.source way.dest) (diagonal way.source way.dest) _)
+
+pub returns-in-6 : goal.returns-in-6
 unfolding kind_attacks
-returns c =
-    let at-if1 = c.if-kind-eq-PAWN in
-    let at-if2 = c.if-kind-eq-KNIGHT in
-    let at-if3 = c.if-kind-eq-BISHOP in
-    let at-if4 = c.if-kind-eq-ROOK in
-    let at-if5 = c.if-kind-eq-QUEEN in
+returns-in-6 c = rw c.in-6.is c.adjoining.ensures
+
+pub returns-in_default : goal.returns-in_default
+unfolding kind_attacks
+returns-in_default c =
     simp (
-      ne_eqb _ _ at-if1.false,
-      ne_eqb _ _ at-if2.false,
-      ne_eqb _ _ at-if3.false,
-      ne_eqb _ _ at-if4.false,
-      ne_eqb _ _ at-if5.false,
-      ne_eqb _ _
-          c.if-kind-eq-KING.false,
+      ne_eqb c.args.kind 1 (omega arith),
+      ne_eqb c.args.kind 2 (omega arith),
+      ne_eqb c.args.kind 3 (omega arith),
+      ne_eqb c.args.kind 4 (omega arith),
+      ne_eqb c.args.kind 5 (omega arith),
+      ne_eqb c.args.kind 6 (omega arith),
     )

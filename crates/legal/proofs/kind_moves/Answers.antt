@@ -1,17 +1,18 @@
 -- `kind_moves` of lib.rt meets its contract: r ≡ kind_moves (now squares.entry) side rights marked kind s t.
-use borrow.Author.Tests.{eq-eqb, ne_eqb}
+use native.Mathlib.Omega.{arith}
+use borrow.Author.Tests.{ne_eqb}
 use mathlib.Core.Path.{◌∙◌}
 use Rattle.move_laws.specs.Move.{kind_moves}
 use Rattle.legal.proofs.kind_moves.Goals as goal
 
-pub returns-then-kind-eq-PAWN : goal.returns-then-kind-eq-PAWN
+pub returns-in-1 : goal.returns-in-1
 unfolding kind_moves
-returns-then-kind-eq-PAWN c = c.pawn_moves.ensures ∙ simp (eq-eqb _ _ c.if-kind-eq-PAWN.true)
+returns-in-1 c = rw c.in-1.is c.pawn_moves.ensures
 
-pub returns-then-kind-eq-KING : goal.returns-then-kind-eq-KING
+pub returns-in-6 : goal.returns-in-6
 unfolding kind_moves
-returns-then-kind-eq-KING c = c.king_moves.ensures ∙ simp (ne_eqb _ _ c.if-kind-eq-PAWN.false, eq-eqb _ _ c.if-kind-eq-KING.true)
+returns-in-6 c = rw c.in-6.is (rw c.in-6.is at c.king_moves.ensures)
 
-pub returns : goal.returns
+pub returns-in_default : goal.returns-in_default
 unfolding kind_moves
-returns c = c.piece_moves.ensures ∙ simp (ne_eqb _ _ c.if-kind-eq-PAWN.false, ne_eqb _ _ c.if-kind-eq-KING.false)
+returns-in_default c = c.piece_moves.ensures ∙ simp (ne_eqb c.args.kind 1 (omega arith), ne_eqb c.args.kind 6 (omega arith))

@@ -10,18 +10,18 @@ use Rattle.legal.proofs.Castle.{corner_under, home_corner}
 use Rattle.move_laws.specs.Apart.{clear}
 use Rattle.legal.proofs.king_castles.Goals as goal
 
-pub returns-then-s-side : goal.returns-then-s-side
+pub returns-then-way-side : goal.returns-then-way-side
 unfolding king_castles
-returns-then-s-side c = simp (ne_eqb _ _ c.if-s-side.true)
+returns-then-way-side c = simp (ne_eqb _ _ c.if-way-side.true)
 
 pub returns-then-not-two_apart : goal.returns-then-not-two_apart
 unfolding king_castles
-returns-then-not-two_apart c = simp (eq-eqb _ _ c.if-s-side.false, sym c.two_apart.ensures ∙ c.if-not-two_apart.true)
+returns-then-not-two_apart c = simp (eq-eqb _ _ c.if-way-side.false, sym c.two_apart.ensures ∙ c.if-not-two_apart.true)
 
 pub returns-then-not-right_held : goal.returns-then-not-right_held
 unfolding king_castles
 returns-then-not-right_held c =
-    let at-if1 = c.if-s-side in
+    let at-if1 = c.if-way-side in
     let at-two-apart = c.two_apart in
     let at-if2 = c.if-not-two_apart in
     let at-right-held = c.right_held in
@@ -34,15 +34,14 @@ returns-then-not-right_held c =
 pub bounds-squares-from : goal.bounds-squares-from
 bounds-squares-from c =
     let a = c.args in
-    let at_pre = c.requires in
     let at_corner = c.corner-from in
-    omega (arith, at_pre.0, at_corner.ensures, corner_under a.s a.t at_pre.2)
+    omega (arith, at_corner.ensures, corner_under a.way.source a.way.dest a.way.on_board.0)
 
 pub returns-then-squares-from : goal.returns-then-squares-from
 unfolding king_castles
 returns-then-squares-from c =
     let a = c.args in
-    let at-if1 = c.if-s-side in
+    let at-if1 = c.if-way-side in
     let at-two-apart = c.two_apart in
     let at-if2 = c.if-not-two_apart in
     let at-right-held = c.right_held in
@@ -52,28 +51,22 @@ returns-then-squares-from c =
       eq-eqb _ _ at-if1.false,
       sym at-two-apart.ensures ∙ at-if2.false,
       sym at-right-held.ensures ∙ at-if3.false,
-      sym (ap (λ (x : ℕ). eqb (get_or a.squares.now x 0) (4 + 6 * a.side)) at_corner.ensures) ∙ ne_eqb _ _
-          c.if-squares-from.true,
+      sym (ap (λ (x : ℕ). eqb (get_or a.squares.now x 0) (4 + 6 * a.side.number)) at_corner.ensures) ∙ ne_eqb _ _
+          (rw c.man.ensures at c.if-squares-from.true),
     )
 
 pub clear-requires : goal.clear-requires
 clear-requires c =
     let a = c.args in
-    let at_pre = c.requires in
-    let at-if1 = c.if-s-side in
-    let at_corner = c.corner-from in (
-      at_pre.0,
-      at_pre.2,
-      omega (arith, at_corner.ensures, corner_under a.s a.t at_pre.2),
-      λ e. home_corner a.side a.s a.t at_pre.1
-          at-if1.false (e ∙ at_corner.ensures),
-    )
+    let at-if1 = c.if-way-side in
+    let at_corner = c.corner-from in
+    λ e. home_corner a.side.number a.way.source a.way.dest a.side.known at-if1.false (e ∙ at_corner.ensures)
 
 pub returns-then-not-clear : goal.returns-then-not-clear
 unfolding king_castles
 returns-then-not-clear c =
     let a = c.args in
-    let at-if1 = c.if-s-side in
+    let at-if1 = c.if-way-side in
     let at-two-apart = c.two_apart in
     let at-if2 = c.if-not-two_apart in
     let at-right-held = c.right_held in
@@ -85,16 +78,16 @@ returns-then-not-clear c =
       eq-eqb _ _ at-if1.false,
       sym at-two-apart.ensures ∙ at-if2.false,
       sym at-right-held.ensures ∙ at-if3.false,
-      sym (ap (λ (x : ℕ). eqb (get_or a.squares.now x 0) (4 + 6 * a.side)) at_corner.ensures) ∙ eq-eqb _ _
-          at-if4.false,
-      sym (at_clear.ensures ∙ ap (λ (x : ℕ). clear a.squares.now a.s x) at_corner.ensures) ∙ c.if-not-clear.true,
+      sym (ap (λ (x : ℕ). eqb (get_or a.squares.now x 0) (4 + 6 * a.side.number)) at_corner.ensures) ∙ eq-eqb _ _
+          (rw c.man.ensures at at-if4.false),
+      sym (at_clear.ensures ∙ ap (λ (x : ℕ). clear a.squares.now a.way.source x) at_corner.ensures) ∙ c.if-not-clear.true,
     )
 
 pub returns : goal.returns
 unfolding king_castles
 returns c =
     let a = c.args in
-    let at-if1 = c.if-s-side in
+    let at-if1 = c.if-way-side in
     let at-two-apart = c.two_apart in
     let at-if2 = c.if-not-two_apart in
     let at-right-held = c.right_held in
@@ -107,8 +100,8 @@ returns c =
       eq-eqb _ _ at-if1.false,
       sym at-two-apart.ensures ∙ at-if2.false,
       sym at-right-held.ensures ∙ at-if3.false,
-      sym (ap (λ (x : ℕ). eqb (get_or a.squares.now x 0) (4 + 6 * a.side)) at_corner.ensures) ∙ eq-eqb _ _
-          at-if4.false,
-      sym (at_clear.ensures ∙ ap (λ (x : ℕ). clear a.squares.now a.s x) at_corner.ensures) ∙ at-if5.false,
+      sym (ap (λ (x : ℕ). eqb (get_or a.squares.now x 0) (4 + 6 * a.side.number)) at_corner.ensures) ∙ eq-eqb _ _
+          (rw c.man.ensures at at-if4.false),
+      sym (at_clear.ensures ∙ ap (λ (x : ℕ). clear a.squares.now a.way.source x) at_corner.ensures) ∙ at-if5.false,
       c.way_attacked.ensures,
     )

@@ -3,7 +3,4 @@ use Rattle.legal.proofs.Skipping.{Marking}
 use Rattle.legal.proofs.mark_steps.Given as goal
 
 abbrev pub invariant-loop-s : goal.invariant-loop-s
-invariant-loop-s l = Marking l.squares l.side l.s l.step l.steps
-
-abbrev pub decreases-loop-s : goal.decreases-loop-s
-decreases-loop-s l = l.s
+invariant-loop-s l = Marking l.squares l.side.number l.s l.step l.steps

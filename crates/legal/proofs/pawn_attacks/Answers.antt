@@ -1,6 +1,6 @@
 -- `pawn_attacks` of lib.rt meets its contract: r ≡ pawn_attacks side s t.
 use mathlib.Core.Path.{sym, ◌∙◌}
-use Rattle.move_laws.specs.Attack.{ahead, pawn_attacks}
+use Rattle.move_laws.specs.Attack.{pawn_attacks}
 use Rattle.legal.proofs.pawn_attacks.Goals as goal
 
 pub returns-then-not-ahead : goal.returns-then-not-ahead

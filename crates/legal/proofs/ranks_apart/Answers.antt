@@ -1,7 +1,9 @@
 -- `ranks_apart` of lib.rt meets its contract: r ≡ ranks_apart s t.
-use Rattle.move_laws.specs.Apart.{apart, ranks_apart}
+use mathlib.Core.Path.{◌∙◌}
+use Rattle.move_laws.specs.Apart.{ranks_apart}
+use Rattle.legal.proofs.Lines.{apart_by}
 use Rattle.legal.proofs.ranks_apart.Goals as goal
 
 pub returns : goal.returns
 unfolding ranks_apart
-returns c = c.apart.ensures
+returns c = c.abs_diff.ensures ∙ apart_by _ _

@@ -4,14 +4,14 @@ use mathlib.Core.Path.{◌∙◌}
 use Rattle.move_laws.specs.Apart.{file_or_rank}
 use Rattle.legal.proofs.straight.Goals as goal
 
-pub returns-then-s-t : goal.returns-then-s-t
+pub returns-then-way : goal.returns-then-way
 unfolding file_or_rank
-returns-then-s-t c = simp (eq-eqb _ _ c.if-s-t.true)
+returns-then-way c = simp (eq-eqb _ _ c.if-way.true)
 
 pub returns : goal.returns
 unfolding file_or_rank
 returns c =
-    let at-if1 = c.if-s-t in
+    let at-if1 = c.if-way in
     let at-files-apart = c.files_apart-files in
     let at-ranks-apart = c.ranks_apart-ranks in
     c.either.ensures ∙ simp (ne_eqb _ _ at-if1.false, at-files-apart.ensures, at-ranks-apart.ensures)

@@ -5,17 +5,21 @@ use Rattle.legal.proofs.way_attacked.Goals as goal
 
 pub returns-then-attacked : goal.returns-then-attacked
 unfolding way_attacked
-returns-then-attacked c = simp (sym c.attacked.ensures ∙ c.if-attacked.true)
+returns-then-attacked c =
+    let from = rw c.other-other.ensures at c.attacked.ensures in
+    simp (sym from ∙ c.if-attacked.true)
 
 pub returns-then-attacked-2 : goal.returns-then-attacked-2
 unfolding way_attacked
-returns-then-attacked-2 c = simp (sym c.attacked.ensures ∙ c.if-attacked.false, sym c.attacked-2.ensures ∙ c.if-attacked-2.true)
+returns-then-attacked-2 c =
+    let from = rw c.other-other.ensures at c.attacked.ensures in
+    let across = rw c.other-other.ensures at c.attacked-2.ensures in
+    simp (sym from ∙ c.if-attacked.false, sym across ∙ c.if-attacked-2.true)
 
 pub returns : goal.returns
 unfolding way_attacked
 returns c =
-    let at-attacked = c.attacked in
-    let at-if1 = c.if-attacked in
-    let at-attacked2 = c.attacked-2 in
-    let at-if2 = c.if-attacked-2 in
-    c.attacked-3.ensures ∙ simp (sym at-attacked.ensures ∙ at-if1.false, sym at-attacked2.ensures ∙ at-if2.false)
+    let from = rw c.other-other.ensures at c.attacked.ensures in
+    let across = rw c.other-other.ensures at c.attacked-2.ensures in
+    let to = rw c.other-other.ensures at c.attacked-3.ensures in
+    to ∙ simp (sym from ∙ c.if-attacked.false, sym across ∙ c.if-attacked-2.false)

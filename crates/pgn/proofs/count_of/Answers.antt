@@ -3,13 +3,9 @@ use mathlib.Core.Path.{sym, ap, ◌∙◌}
 use Rattle.pgn.specs.CodeWalkers.{count_of}
 use Rattle.pgn.proofs.count_of.Goals as goal
 
-pub returns-in-On : goal.returns-in-On
-unfolding count_of
-returns-in-On c = c.end_count.ensures ∙ sym (ap count_of c.in-On.is)
-
 pub returns-in-Found : goal.returns-in-Found
 unfolding count_of
-returns-in-Found c = c.end_count-in-Found.ensures ∙ sym (ap count_of c.in-Found.is)
+returns-in-Found c = c.end_count.ensures ∙ sym (ap count_of c.in-Found.is)
 
 pub returns-in-Ended : goal.returns-in-Ended
 unfolding count_of

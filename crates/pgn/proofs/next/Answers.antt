@@ -17,23 +17,17 @@ pub returns-then-text-offset : goal.returns-then-text-offset
 unfolding next_move walk_from first_move
 returns-then-text-offset c = simp (le-ltb _ _ c.if-level-gt-DEEPEST.false, lt-ltb _ _ c.if-text-offset.true, c.no_move-then-text-offset.ensures)
 
-pub overflow_add-place : goal.overflow_add-place
-overflow_add-place c = omega (arith, (c.near-size.ensures c.if-size-ne0.true).0)
-
-pub returns-then-size-ne0 : goal.returns-then-size-ne0
+pub returns-in-Some : goal.returns-in-Some
 unfolding walk_from move_walked
-returns-then-size-ne0 c =
+returns-in-Some c =
     let at-args = c.args in
     let at-if1 = c.if-level-gt-DEEPEST in
     let at-if2 = c.if-text-offset in
-    let at-near = c.near-size in
-    let at-if3 = c.if-size-ne0 in
     let os = replicate at-args.level at-args.offset in
     let low : at-args.level < 9 = omega (arith, at-if1.false) in
     c.move_at.ensures ∙ sym
     (ap move_walked
-    (near_told at-args.text.now 9 at-args.level at-args.offset _ os (length-replicate at-args.level at-args.offset) low at-if3.true
-    at-near.ensures))
+    (near_told at-args.text.now 9 at-args.level at-args.offset _ os (length-replicate at-args.level at-args.offset) low c.in-Some.ensures))
     ∙ ap (λ (w : Walk). move_walked (outcome 9 0 w)) (placed at-args.text.now at-args.offset at-args.level at-if1.false at-if2.false)
     ∙ first_from at-args.text.now at-args.offset at-args.level
 

@@ -14,18 +14,13 @@ pub returns-then-text-offset : goal.returns-then-text-offset
 unfolding next_main walk_from first_main
 returns-then-text-offset c = simp (lt-ltb _ _ c.if-text-offset.true, c.no_move.ensures)
 
-pub overflow_add-place : goal.overflow_add-place
-overflow_add-place c = omega (arith, (c.near-size.ensures c.if-size-ne0.true).0)
-
-pub returns-then-size-ne0 : goal.returns-then-size-ne0
+pub returns-in-Some : goal.returns-in-Some
 unfolding next_main move_walked
-returns-then-size-ne0 c =
+returns-in-Some c =
     let at-args = c.args in
     let at-if1 = c.if-text-offset in
-    let at-near = c.near-size in
-    let at-if2 = c.if-size-ne0 in
     let low : 0 < 1 = omega arith in
-    c.move_at.ensures ∙ sym (ap move_walked (near_told at-args.text.now 1 0 at-args.offset _ [] refl low at-if2.true at-near.ensures))
+    c.move_at.ensures ∙ sym (ap move_walked (near_told at-args.text.now 1 0 at-args.offset _ [] refl low c.in-Some.ensures))
     ∙ ap (λ (w : Walk). move_walked (outcome 1 0 w)) (placed at-args.text.now at-args.offset 0 zero-le at-if1.false)
     ∙ main_of 0 (walk_from at-args.text.now at-args.offset 0)
 

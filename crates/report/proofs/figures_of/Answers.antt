@@ -6,10 +6,10 @@ use Rattle.report.proofs.figures_of.Goals as goal
 pub overflow_sub-result : goal.overflow_sub-result
 overflow_sub-result c =
     let a = c.args in
-    omega (arith, c.sum_lines-accepted.ensures.counted, counted_most a.told.now a.lines)
+    omega (arith, c.sum_lines-accepted.ensures.counted, counted_most a.page.told.now a.page.lines)
 
 pub returns : goal.returns
 returns c =
     let a = c.args in
     let sums = c.sum_lines-accepted.ensures in
-    λ ls f. figures_are ls a.records.now a.told.now a.lines f _ _ _ sums.men sums.counted c.repeats-repeated.ensures
+    λ ls f. figures_are ls a.page.records.now a.page.told.now a.page.lines f _ _ _ sums.men sums.counted c.repeats-repeated.ensures

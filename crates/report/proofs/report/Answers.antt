@@ -27,14 +27,16 @@ returns-then-page-ne0 c =
     let told = short_told most_lines a.text.now a.records.now a.told.now few page.result page.ensures.answer c.if-page-ne0.true in
     record { answer = c.refused-then-page-ne0.ensures ∙ told.0; records = page.ensures.records ∙ told.1.0; told = page.ensures.told ∙ told.1.1 }
 
-pub figures_of-requires : goal.figures_of-requires
-figures_of-requires c =
+pub invariant_of-figures_of : goal.invariant_of-figures_of
+invariant_of-figures_of c =
     let a = c.args in
     let count = c.line_count-lines.ensures in
     let few = c.if-lines-gt-MOST_LINES.false in
     let page = c.read_page-page in
-    rooms_left most_lines a.text.now a.records.now a.told.now (omega (arith, few, count)) page.result page.ensures.answer
-    c.if-page-ne0.false _ _ _ page.ensures.records page.ensures.told count few
+    record {
+      rooms = rooms_left most_lines a.text.now a.records.now a.told.now (omega (arith, few, count)) page.result page.ensures.answer
+          c.if-page-ne0.false _ _ _ page.ensures.records page.ensures.told count few;
+    }
 
 pub returns : goal.returns
 returns c =

@@ -15,21 +15,21 @@ returns-then-b-lt128 t c = last_group _ _ c.if-k-eq0.false c.if-s-eq0.false c.if
 
 pub returns-then-n-eq0 : goal.returns-then-n-eq0
 returns-then-n-eq0 t c =
-    needless _ _ _ _ c.if-k-eq0.false c.if-s-eq0.false c.if-b-lt128.false c.rest.ensures c.read_groups-more.ensures _ _ c.in-Got.is c.if-n-eq0.true
+    needless _ _ _ _ c.if-k-eq0.false c.if-s-eq0.false c.if-b-lt128.false c.rest.ensures c.read_groups.ensures _ _ c.in_ok-n.was c.if-n-eq0.true
 
 pub overflow_mul-result : goal.overflow_mul-result
-overflow_mul-result t c = let z = sized _ _ _ _ _ (omega arith) c.read_groups-more.ensures c.in-Got.is in omega arith
+overflow_mul-result t c = let z = sized _ _ _ _ _ (omega arith) c.read_groups.ensures c.in_ok-n.was in omega arith
 
 pub overflow_add-result : goal.overflow_add-result
-overflow_add-result t c = let z = sized _ _ _ _ _ (omega arith) c.read_groups-more.ensures c.in-Got.is in omega arith
+overflow_add-result t c = let z = sized _ _ _ _ _ (omega arith) c.read_groups.ensures c.in_ok-n.was in omega arith
 
-pub overflow_add-result-in-Got : goal.overflow_add-result-in-Got
-overflow_add-result-in-Got t c = let z = sized _ _ _ _ _ (omega arith) c.read_groups-more.ensures c.in-Got.is in omega arith
+pub overflow_add-result-2 : goal.overflow_add-result-2
+overflow_add-result-2 t c = let z = sized _ _ _ _ _ (omega arith) c.read_groups.ensures c.in_ok-n.was in omega arith
 
-pub returns-else-n-eq0 : goal.returns-else-n-eq0
-returns-else-n-eq0 t c =
-    joined _ _ _ _ c.if-k-eq0.false c.if-s-eq0.false c.if-b-lt128.false c.rest.ensures c.read_groups-more.ensures _ _ c.in-Got.is c.if-n-eq0.false
+pub returns : goal.returns
+returns t c =
+    joined _ _ _ _ c.if-k-eq0.false c.if-s-eq0.false c.if-b-lt128.false c.rest.ensures c.read_groups.ensures _ _ c.in_ok-n.was c.if-n-eq0.false
 
-pub returns-in-Bad : goal.returns-in-Bad
-returns-in-Bad t c =
-    cut _ _ _ _ c.if-k-eq0.false c.if-s-eq0.false c.if-b-lt128.false c.rest.ensures c.read_groups-more.ensures c.in-Bad.is
+pub returns-in_err-n : goal.returns-in_err-n
+returns-in_err-n t c =
+    rw c.from_residual.ensures (cut _ _ _ _ c.if-k-eq0.false c.if-s-eq0.false c.if-b-lt128.false c.rest.ensures c.read_groups.ensures c.in_err-n.was)

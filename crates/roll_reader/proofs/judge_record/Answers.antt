@@ -1,4 +1,4 @@
--- `judge_record` of lib.rt meets its contract: r ≡ front_number (read_numbers largest_numbers (now s.entry)).
+-- `judge_record` of lib.rt meets its contract: r ≡ front_check (read_numbers largest_numbers (now s.entry)).
 use mathlib.Core.Path.{sym, ◌∙◌}
 use Rattle.roll_reader.proofs.Fronts.{record_there}
 use Rattle.roll_reader.proofs.judge_record.Goals as goal

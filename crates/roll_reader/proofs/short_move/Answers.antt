@@ -3,32 +3,6 @@ use native.Mathlib.Omega.{arith}
 use Rattle.roll_reader.proofs.Short.{no_short_lem, short}
 use Rattle.roll_reader.proofs.short_move.Goals as goal
 
-pub returns-then-left-eq0 : goal.returns-then-left-eq0
-returns-then-left-eq0 c = no_short_lem c.args.s.now c.args.at c.args.left
-
-pub returns-then-s-lt3 : goal.returns-then-s-lt3
-returns-then-s-lt3 c = no_short_lem c.args.s.now c.args.at c.args.left
-
-pub returns-then-s-at : goal.returns-then-s-at
-returns-then-s-at c =
-    let a = c.args in
-    no_short_lem a.s.now a.at a.left
-
-pub returns-then-s-at-ne-MOVE_BYTE : goal.returns-then-s-at-ne-MOVE_BYTE
-returns-then-s-at-ne-MOVE_BYTE c =
-    let a = c.args in
-    no_short_lem a.s.now a.at a.left
-
-pub returns-then-low-lt128 : goal.returns-then-low-lt128
-returns-then-low-lt128 c =
-    let a = c.args in
-    no_short_lem a.s.now a.at a.left
-
-pub returns-then-high-gt127 : goal.returns-then-high-gt127
-returns-then-high-gt127 c =
-    let a = c.args in
-    no_short_lem a.s.now a.at a.left
-
 pub returns : goal.returns
 returns c =
     let a = c.args in

@@ -1,10 +1,6 @@
 -- `actions_size` of lib.rt meets its contract: (r ≡ actions_size n (now acts.entry)) × (r ≤ 1 + 4 * n).
-use Prim.Native.Nat.{◌-◌}
 use Rattle.roll_writer.proofs.Sized.{SizedSo}
 use Rattle.roll_writer.proofs.actions_size.Given as goal
 
 abbrev pub invariant-loop-i : goal.invariant-loop-i
 invariant-loop-i l = SizedSo l.acts l.n l.i l.k
-
-abbrev pub decreases-loop-i : goal.decreases-loop-i
-decreases-loop-i l = l.n - l.i

@@ -4,6 +4,9 @@ use native.Mathlib.Omega.{arith}
 use Rattle.game_rules.specs.Limits.{limits}
 use Rattle.roll_text.specs.Calls.{write_check, game_text}
 use borrow.Author.Tests.{ltb-true, ltb-false}
+use Rattle.std.proofs.lemmas.Result.{err_from_is_err_and}
+use Rattle.std.proofs.lemmas.Option.{MatchOption-at_some}
+use Rattle.roll_text.proofs.Refusals.{refusal_is}
 use Rattle.roll_writer.proofs.Laws.{groups_most}
 use Rattle.roll_writer.proofs.Checks.{too_short_fact, not_in_range, too_many, too_many_moves, no_action, passes}
 use Rattle.roll_writer.proofs.Sized.{size_none, size_all, refused_so, accepted_so}
@@ -13,7 +16,7 @@ use Rattle.roll_writer.proofs.measure.Goals as goal
 pub returns-then-acts-lt-ACTIONS_LENGTH : goal.returns-then-acts-lt-ACTIONS_LENGTH
 returns-then-acts-lt-ACTIONS_LENGTH c =
     let a = c.args in
-    refused_so _ _ (write_check limits a.b a.acts.now a.n) (game_text a.b a.acts.now a.n) c.refused.ensures
+    refused_so _ (write_check limits a.b a.acts.now a.n) (game_text a.b a.acts.now a.n)
     (too_short_fact a.b a.acts.now a.n c.if-acts-lt-ACTIONS_LENGTH.true) (λ z. omega arith)
 
 pub returns-then-not-in_range : goal.returns-then-not-in_range
@@ -22,8 +25,8 @@ returns-then-not-in_range c =
     let at-if1 = c.if-acts-lt-ACTIONS_LENGTH in
     let at-in-range = c.in_range in
     let at-if2 = c.if-not-in_range in
-    refused_so _ _ (write_check limits at-args.b at-args.acts.now
-    at-args.n) (game_text at-args.b at-args.acts.now at-args.n) c.refused-then-not-in_range.ensures
+    refused_so _ (write_check limits at-args.b at-args.acts.now
+    at-args.n) (game_text at-args.b at-args.acts.now at-args.n)
     (not_in_range at-args.b at-args.acts.now at-args.n at-if1.false (sym at-in-range.ensures ∙ at-if2.true)) (λ z. omega arith)
 
 pub returns-then-n : goal.returns-then-n
@@ -33,12 +36,9 @@ returns-then-n c =
     let at-in-range = c.in_range in
     let at-if2 = c.if-not-in_range in
     let at-if3 = c.if-n in
-    refused_so _ _ (write_check limits at-args.b at-args.acts.now at-args.n) (game_text at-args.b at-args.acts.now at-args.n) c.refused-then-n.ensures
+    refused_so _ (write_check limits at-args.b at-args.acts.now at-args.n) (game_text at-args.b at-args.acts.now at-args.n)
     (too_many at-args.b at-args.acts.now at-args.n at-if1.false
     (sym at-in-range.ensures ∙ at-if2.false) at-if3.true) (λ z. omega arith)
-
-pub too_many_moves-requires : goal.too_many_moves-requires
-too_many_moves-requires c = omega (arith, c.if-acts-lt-ACTIONS_LENGTH.false, c.if-n.false)
 
 pub returns-then-too_many_moves : goal.returns-then-too_many_moves
 returns-then-too_many_moves c =
@@ -49,72 +49,35 @@ returns-then-too_many_moves c =
     let at-if3 = c.if-n in
     let at-too-many-moves = c.too_many_moves in
     let at-if4 = c.if-too_many_moves in
-    refused_so _ _ (write_check limits at-args.b at-args.acts.now at-args.n) (game_text at-args.b at-args.acts.now at-args.n)
-    c.refused-then-too_many_moves.ensures (too_many_moves at-args.b at-args.acts.now at-args.n at-if1.false
+    refused_so _ (write_check limits at-args.b at-args.acts.now at-args.n) (game_text at-args.b at-args.acts.now at-args.n)
+    (too_many_moves at-args.b at-args.acts.now at-args.n at-if1.false
     (sym at-in-range.ensures ∙ at-if2.false) at-if3.false
     (ltb-true _ _ (sym at-too-many-moves.ensures ∙ at-if4.true))) (λ z. omega arith)
 
-pub actions_size-size-requires : goal.actions_size-size-requires
-actions_size-size-requires c = (omega (arith, c.if-acts-lt-ACTIONS_LENGTH.false, c.if-n.false), c.if-n.false)
-
-pub returns-then-size-eq0 : goal.returns-then-size-eq0
-returns-then-size-eq0 c =
-    let at-args = c.args in
-    let at-if1 = c.if-acts-lt-ACTIONS_LENGTH in
-    let at-in-range = c.in_range in
-    let at-if2 = c.if-not-in_range in
-    let at-if3 = c.if-n in
-    let at-too-many-moves = c.too_many_moves in
-    let at-if4 = c.if-too_many_moves in
-    let at-actions-size = c.actions_size-size in
-    let at-if5 = c.if-size-eq0 in
-    refused_so _ _ (write_check limits at-args.b at-args.acts.now at-args.n) (game_text at-args.b at-args.acts.now at-args.n)
-    c.refused-then-size-eq0.ensures (no_action at-args.b at-args.acts.now at-args.n at-if1.false
-    (sym at-in-range.ensures ∙ at-if2.false) at-if3.false
-    (ltb-false _ _ (sym at-too-many-moves.ensures ∙ at-if4.false))
-    (size_none at-args.acts.now at-args.n at-actions-size.result at-actions-size.ensures.0 at-if5.true)) (λ z. omega arith)
-
-pub start_size-requires : goal.start_size-requires
-start_size-requires c =
-    let at-in-range = c.in_range in
-    let at-if2 = c.if-not-in_range in
-    sym at-in-range.ensures ∙ at-if2.false
-
-pub overflow_add-start_size : goal.overflow_add-start_size
-overflow_add-start_size c =
+pub returns-in_err-size : goal.returns-in_err-size
+returns-in_err-size c =
     let a = c.args in
-    omega (arith, c.number_length.ensures, c.start_size.ensures.1, groups_most 5 a.n)
+    let p = err_from_is_err_and c.from_residual.result c.from_residual.ensures.1 in
+    let k = refusal_is c.in_err-size.ensures.value c.in_err-size.ensures.ok_part in
+    rw (p.1, p.2, k) (refused_so _ (write_check limits a.b a.acts.now a.n) (game_text a.b a.acts.now a.n)
+    (no_action a.b a.acts.now a.n c.if-acts-lt-ACTIONS_LENGTH.false (sym c.in_range.ensures ∙ c.if-not-in_range.false) c.if-n.false
+    (ltb-false _ _ (sym c.too_many_moves.ensures ∙ c.if-too_many_moves.false))
+    (size_none a.acts.now a.n (sym c.actions_size.ensures.size ∙ c.in_err-size.ensures.ok_part))) (λ z. omega arith))
 
-pub overflow_add-start_size-2 : goal.overflow_add-start_size-2
-overflow_add-start_size-2 c =
-    let few = groups_most 5 c.args.n in
-    let at-actions-size = c.actions_size-size in
-    let at-if3 = c.if-n in
-    omega (arith, c.number_length.ensures, few, c.start_size.ensures.1, at-actions-size.ensures.1, at-if3.false)
+pub overflow_add-result : goal.overflow_add-result
+overflow_add-result c = omega (arith, c.number_length.ensures, c.start_size.ensures.1, groups_most 5 c.args.n)
+
+pub overflow_add-result-2 : goal.overflow_add-result-2
+overflow_add-result-2 c =
+    let few = MatchOption-at_some _ _ _ c.in_ok-size.ensures.ok_part c.actions_size.ensures.most in
+    omega (arith, c.number_length.ensures, groups_most 5 c.args.n, c.start_size.ensures.1, few, c.if-n.false)
 
 pub returns : goal.returns
 returns c =
-    let at-args = c.args in
-    let at-if1 = c.if-acts-lt-ACTIONS_LENGTH in
-    let at-in-range = c.in_range in
-    let at-if2 = c.if-not-in_range in
-    let at-if3 = c.if-n in
-    let at-too-many-moves = c.too_many_moves in
-    let at-if4 = c.if-too_many_moves in
-    let at-actions-size = c.actions_size-size in
-    let at-if5 = c.if-size-eq0 in
-    let at-start-size = c.start_size in
-    let at-number-length = c.number_length in
-    let all = size_all at-args.acts.now at-args.n at-actions-size.result at-actions-size.ensures.0 at-if5.false in
-    let good = (sym at-in-range.ensures ∙ at-if2.false) in
-    let check = passes at-args.b at-args.acts.now at-args.n at-if1.false good at-if3.false
-    (ltb-false _ _ (sym at-too-many-moves.ensures ∙ at-if4.false)) all.held in
-    accepted_so _ _ (write_check limits at-args.b at-args.acts.now at-args.n) (game_text at-args.b at-args.acts.now at-args.n)
-    c.accepted.ensures check
-    (omega (
-      arith,
-      text_long at-args.b at-args.acts.now at-args.n good,
-      all.long,
-      at-start-size.ensures.0,
-      at-number-length.ensures,
-    ))
+    let a = c.args in
+    let all = size_all a.acts.now a.n c.in_ok-size.size (sym c.actions_size.ensures.size ∙ c.in_ok-size.ensures.ok_part) in
+    let good = sym c.in_range.ensures ∙ c.if-not-in_range.false in
+    let check = passes a.b a.acts.now a.n c.if-acts-lt-ACTIONS_LENGTH.false good c.if-n.false
+    (ltb-false _ _ (sym c.too_many_moves.ensures ∙ c.if-too_many_moves.false)) all.held in
+    accepted_so _ (write_check limits a.b a.acts.now a.n) (game_text a.b a.acts.now a.n) check
+    (omega (arith, text_long a.b a.acts.now a.n good, all.long, c.start_size.ensures.0, c.number_length.ensures))

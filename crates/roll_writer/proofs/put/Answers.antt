@@ -18,31 +18,31 @@ put_start-behind-requires c =
     let p = passed limits a.b a.acts.now a.n pre.n_value in
     record { b_value = p.good; b_in_bounds = omega (arith, pre.n_in_bounds, text_long a.b a.acts.now a.n p.good) }
 
-pub put_groups-at-requires : goal.put_groups-at-requires
-put_groups-at-requires c =
+pub put_number-at-requires : goal.put_number-at-requires
+put_number-at-requires c =
     let a = c.args in
     let pre = c.requires in
     let at-put-start = c.put_start-behind in
     let p = passed limits a.b a.acts.now a.n pre.n_value in
     let x = at-put-start.new.out in
     let there = record_there a.b a.acts.now a.n p.good a.out.now x x x _ pre.n_in_bounds at-put-start.ensures.bytes refl in
-    record { le_k = (omega arith, omega (arith, reach_five, p.few)); n_in_bounds = omega (arith, there, at-put-start.ensures.end) }
+    record { small = omega (arith, reach_five, p.few); fits = omega (arith, there, at-put-start.ensures.end) }
 
 pub put_actions-requires : goal.put_actions-requires
 put_actions-requires c =
     let a = c.args in
     let pre = c.requires in
     let at-put-start = c.put_start-behind in
-    let at-put-groups = c.put_groups-at in
+    let at-put-number = c.put_number-at in
     let p = passed limits a.b a.acts.now a.n pre.n_value in
     let x = at-put-start.new.out in
-    let y = at-put-groups.new.out in
-    let here : at-put-groups.result ≡ length (start_text a.b) + length (number_text a.n) = omega
-    (arith, at-put-groups.ensures.end, at-put-start.ensures.end) in
+    let y = at-put-number.new.out in
+    let here : at-put-number.result ≡ length (start_text a.b) + length (number_text a.n) = omega
+    (arith, at-put-number.ensures.end, at-put-start.ensures.end) in
     let count : y ≡ written x (length (start_text a.b)) (number_text a.n)
-    = at-put-groups.ensures.bytes ∙ ap (λ (i : ℕ). written x i (number_text a.n)) at-put-start.ensures.end in (
+    = at-put-number.ensures.bytes ∙ ap (λ (i : ℕ). written x i (number_text a.n)) at-put-start.ensures.end in (
       omega (arith, p.long, p.few),
-      count_there a.b a.acts.now a.n p.good a.out.now x y y at-put-groups.result pre.n_in_bounds at-put-start.ensures.bytes here count,
+      count_there a.b a.acts.now a.n p.good a.out.now x y y at-put-number.result pre.n_in_bounds at-put-start.ensures.bytes here count,
     )
 
 pub returns : goal.returns
@@ -50,15 +50,15 @@ returns c =
     let a = c.args in
     let pre = c.requires in
     let at-put-start = c.put_start-behind in
-    let at-put-groups = c.put_groups-at in
+    let at-put-number = c.put_number-at in
     let at-put-actions = c.put_actions in
     let p = passed limits a.b a.acts.now a.n pre.n_value in
     let x = at-put-start.new.out in
-    let y = at-put-groups.new.out in
-    let here : at-put-groups.result ≡ length (start_text a.b) + length (number_text a.n) = omega
-    (arith, at-put-groups.ensures.end, at-put-start.ensures.end) in
+    let y = at-put-number.new.out in
+    let here : at-put-number.result ≡ length (start_text a.b) + length (number_text a.n) = omega
+    (arith, at-put-number.ensures.end, at-put-start.ensures.end) in
     let count : y ≡ written x (length (start_text a.b)) (number_text a.n)
-    = at-put-groups.ensures.bytes ∙ ap (λ (i : ℕ). written x i (number_text a.n)) at-put-start.ensures.end in
-    all_there a.b a.acts.now a.n p.good a.out.now x y at-put-actions.new.out at-put-groups.result pre.n_in_bounds
+    = at-put-number.ensures.bytes ∙ ap (λ (i : ℕ). written x i (number_text a.n)) at-put-start.ensures.end in
+    all_there a.b a.acts.now a.n p.good a.out.now x y at-put-actions.new.out at-put-number.result pre.n_in_bounds
     at-put-start.ensures.bytes here
     count at-put-actions.ensures

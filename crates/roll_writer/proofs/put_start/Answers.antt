@@ -6,29 +6,29 @@ use Rattle.roll_text.proofs.Entries.{reach_five}
 use Rattle.roll_writer.proofs.Whole.{start_long_lem, half_there, full_there, start_there}
 use Rattle.roll_writer.proofs.put_start.Goals as goal
 
-pub put_groups-at-requires : goal.put_groups-at-requires
-put_groups-at-requires c =
+pub put_number-at-requires : goal.put_number-at-requires
+put_number-at-requires c =
     let a = c.args in
     let pre = c.requires in
     let at-to-bytes = c.to_bytes in
     let x = at-to-bytes.new.out in
     let range = (in_range_lem a.b pre.b_value).counters in record {
-      le_k = (omega arith, omega (arith, reach_five, range.half_most));
-      n_in_bounds = half_there a.b pre.b_value a.out.now x x x _ pre.b_in_bounds at-to-bytes.ensures.bytes refl;
+      small = omega (arith, reach_five, range.half_most);
+      fits = half_there a.b pre.b_value a.out.now x x x _ pre.b_in_bounds at-to-bytes.ensures.bytes refl;
     }
 
-pub put_groups-requires : goal.put_groups-requires
-put_groups-requires c =
+pub put_number-requires : goal.put_number-requires
+put_number-requires c =
     let a = c.args in
     let pre = c.requires in
     let at-to-bytes = c.to_bytes in
-    let at-put-groups = c.put_groups-at in
+    let at-put-number = c.put_number-at in
     let x = at-to-bytes.new.out in
-    let y = at-put-groups.new.out in
+    let y = at-put-number.new.out in
     let range = (in_range_lem a.b pre.b_value).counters in record {
-      le_k = (omega arith, omega (arith, reach_five, range.full_most));
-      n_in_bounds = full_there a.b pre.b_value a.out.now x y y at-put-groups.result pre.b_in_bounds at-to-bytes.ensures.bytes at-put-groups.ensures.end
-          at-put-groups.ensures.bytes;
+      small = omega (arith, reach_five, range.full_most);
+      fits = full_there a.b pre.b_value a.out.now x y y at-put-number.result pre.b_in_bounds at-to-bytes.ensures.bytes at-put-number.ensures.end
+          at-put-number.ensures.bytes;
     }
 
 pub returns : goal.returns
@@ -36,13 +36,13 @@ returns c =
     let a = c.args in
     let pre = c.requires in
     let at-to-bytes = c.to_bytes in
-    let at-put-groups = c.put_groups-at in
-    let at-put-groups2 = c.put_groups in
+    let at-put-number = c.put_number-at in
+    let at-put-number2 = c.put_number in
     let x = at-to-bytes.new.out in
-    let y = at-put-groups.new.out in
-    let z = at-put-groups2.new.out in record {
-      end = omega (arith, at-put-groups.ensures.end, at-put-groups2.ensures.end, start_long_lem a.b pre.b_value);
-      bytes = start_there a.b pre.b_value a.out.now x y z at-put-groups.result pre.b_in_bounds at-to-bytes.ensures.bytes at-put-groups.ensures.end
-          at-put-groups.ensures.bytes
-          at-put-groups2.ensures.bytes;
+    let y = at-put-number.new.out in
+    let z = at-put-number2.new.out in record {
+      end = omega (arith, at-put-number.ensures.end, at-put-number2.ensures.end, start_long_lem a.b pre.b_value);
+      bytes = start_there a.b pre.b_value a.out.now x y z at-put-number.result pre.b_in_bounds at-to-bytes.ensures.bytes at-put-number.ensures.end
+          at-put-number.ensures.bytes
+          at-put-number2.ensures.bytes;
     }

@@ -6,56 +6,35 @@ use Rattle.game_rules.specs.Limits.{limits}
 use Rattle.roll_text.specs.Calls.{write_check, game_text}
 use Prim.Native.Nat.{◌≤◌}
 use lib.ListN.{length}
-use Rattle.answer.specs.declared.Answer.{Answer}
-use Rattle.answer.specs.Answer.{too_short}
+use Rattle.answer.specs.Answer.{accepted, too_short}
 use Rattle.answer.proofs.Writes.{write_short, write_fits}
 use Rattle.roll_writer.proofs.Sized.{not_accepted, was_accepted}
 use Rattle.roll_writer.proofs.Whole.{over_front}
 use Rattle.roll_writer.proofs.write.Goals as goal
 
-pub returns-then-roll-ne-ACCEPTED : goal.returns-then-roll-ne-ACCEPTED
-returns-then-roll-ne-ACCEPTED c =
-    let at-args = c.args in
-    let at-measure = c.measure-roll in
-    let w = not_accepted at-measure.result (write_check limits at-args.b at-args.acts.now at-args.n)
-    (game_text at-args.b at-args.acts.now at-args.n) at-args.out.now at-measure.ensures c.if-roll-ne-ACCEPTED.true in
+pub returns-in-Err : goal.returns-in-Err
+returns-in-Err c =
+    let a = c.args in
+    let w = not_accepted c.refused.result c.in-Err.number (write_check limits a.b a.acts.now a.n) (game_text a.b a.acts.now a.n) a.out.now
+    (sym c.measure.ensures ∙ c.in-Err.is) c.refused.ensures in
     record { answer = w.answer; bytes = w.bytes }
 
-pub returns-then-out-roll : goal.returns-then-out-roll
-returns-then-out-roll c =
-    let at-args = c.args in
-    let at-measure = c.measure-roll in
-    let at-if1 = c.if-roll-ne-ACCEPTED in
-    let m = was_accepted at-measure.result (write_check limits at-args.b at-args.acts.now at-args.n)
-    (game_text at-args.b at-args.acts.now at-args.n) at-measure.ensures at-if1.false in
-    let value = ap (λ (a : Answer). a.value) m.told in
-    let w = write_short (game_text at-args.b at-args.acts.now at-args.n) at-args.out.now (omega (arith, value, c.if-out-roll.true)) in
-    record { answer = rw m.passed (ap too_short value ∙ w.answer); bytes = rw m.passed (w.bytes) }
-
-pub put-requires : goal.put-requires
-put-requires c =
-    let at-args = c.args in
-    let at-measure = c.measure-roll in
-    let at-if1 = c.if-roll-ne-ACCEPTED in
-    let at-if2 = c.if-out-roll in
-    let m = was_accepted at-measure.result (write_check limits at-args.b at-args.acts.now at-args.n)
-    (game_text at-args.b at-args.acts.now at-args.n) at-measure.ensures at-if1.false in
-    let value = ap (λ (a : Answer). a.value) m.told in
-    record { n_value = m.passed; n_in_bounds = omega (arith, value, at-if2.false) }
+pub returns-then-out-length : goal.returns-then-out-length
+returns-then-out-length c =
+    let a = c.args in
+    let text = game_text a.b a.acts.now a.n in
+    let m = was_accepted c.in-Ok.length (write_check limits a.b a.acts.now a.n) text (sym c.measure.ensures ∙ c.in-Ok.is) in
+    let w = write_short text a.out.now (omega (arith, m.long, c.if-out-length.true)) in
+    record { answer = rw m.passed (ap too_short m.long ∙ w.answer); bytes = rw m.passed w.bytes }
 
 pub returns : goal.returns
 returns c =
-    let at-args = c.args in
-    let at-measure = c.measure-roll in
-    let at-if1 = c.if-roll-ne-ACCEPTED in
-    let at-if2 = c.if-out-roll in
-    let at-put = c.put in
-    let m = was_accepted at-measure.result (write_check limits at-args.b at-args.acts.now at-args.n) (game_text at-args.b at-args.acts.now at-args.n)
-    at-measure.ensures at-if1.false in
-    let value = ap (λ (a : Answer). a.value) m.told in
-    let fits : length (game_text at-args.b at-args.acts.now at-args.n) ≤ length at-args.out.now = omega (arith, value, at-if2.false) in
-    let w = write_fits (game_text at-args.b at-args.acts.now at-args.n) at-args.out.now fits in
+    let a = c.args in
+    let text = game_text a.b a.acts.now a.n in
+    let m = was_accepted c.in-Ok.length (write_check limits a.b a.acts.now a.n) text (sym c.measure.ensures ∙ c.in-Ok.is) in
+    let fits : length text ≤ length a.out.now = omega (arith, m.long, c.if-out-length.false) in
+    let w = write_fits text a.out.now fits in
     record {
-      answer = rw m.passed (m.told ∙ w.answer);
-      bytes = rw m.passed (at-put.ensures ∙ sym (over_front (game_text at-args.b at-args.acts.now at-args.n) at-args.out.now fits));
+      answer = rw m.passed (c.accepted.ensures ∙ ap accepted m.long ∙ w.answer);
+      bytes = rw m.passed (c.put.ensures ∙ sym (over_front text a.out.now fits));
     }

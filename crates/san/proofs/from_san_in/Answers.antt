@@ -11,15 +11,6 @@ use Rattle.san.proofs.from_san_in.Goals as goal
 pub returns-then-moves-gt-LONGEST_LIST : goal.returns-then-moves-gt-LONGEST_LIST
 returns-then-moves-gt-LONGEST_LIST c = simp (long_list c.args.moves.now c.if-moves-gt-LONGEST_LIST.true, c.refused.ensures)
 
-pub returns-then-either : goal.returns-then-either
-returns-then-either c = c.read_long.ensures
-
-pub said_by-requires : goal.said_by-requires
-said_by-requires c = let test = sym c.either.ensures ∙ c.if-either.false in let some =
-    let a = c.args in
-    let at-read-short = c.read_short-short in
-    not_none at-read-short.result.square (length a.moves.now) test in omega (arith, some)
-
 pub sole_arrival-requires : goal.sole_arrival-requires
 sole_arrival-requires c =
     let at-args = c.args in

@@ -6,17 +6,14 @@ use Rattle.position.specs.Layout.{moves_at}
 use Rattle.stored_position.proofs.Blocks.{part_to_end, not_moves, by_past}
 use Rattle.stored_position.proofs.is_list.Goals as goal
 
-pub returns-then-not-moves_in_range : goal.returns-then-not-moves_in_range
-returns-then-not-moves_in_range c =
-    let a = c.args in
-    let at-moves-in-range = c.moves_in_range in
-    sym (not_moves a.s.now a.entries (sym at-moves-in-range.ensures ∙ c.if-not-moves_in_range.true))
+pub returns-else-moves_in_range : goal.returns-else-moves_in_range
+returns-else-moves_in_range c =
+    c.if-moves_in_range.false ∙ sym (not_moves c.args.s.now c.args.entries (sym c.moves_in_range.ensures ∙ c.if-moves_in_range.false))
 
-pub returns : goal.returns
-returns c =
-    let a = c.args in
-    let at-moves-in-range = c.moves_in_range in
-    let at-if1 = c.if-not-moves_in_range in
+pub returns-then-moves_in_range : goal.returns-then-moves_in_range
+returns-then-moves_in_range c =
+    let s = c.args.s.now in
+    let entries = c.args.entries in
     c.all_at_most.ensures
-    ∙ ap (all_at_most 0) (part_to_end a.s.now (moves_at + 2 * a.entries))
-    ∙ sym (by_past a.s.now a.entries (sym at-moves-in-range.ensures ∙ at-if1.false))
+    ∙ ap (all_at_most 0) (part_to_end s (moves_at + 2 * entries) c.told-s)
+    ∙ sym (by_past s entries (sym c.moves_in_range.ensures ∙ c.if-moves_in_range.true))

@@ -3,14 +3,10 @@ use mathlib.Core.Path.{sym, ◌∙◌}
 use Rattle.stored_position.proofs.Blocks.{not_list, by_among}
 use Rattle.stored_position.proofs.is_list_with.Goals as goal
 
-pub returns-then-not-is_list : goal.returns-then-not-is_list
-returns-then-not-is_list c =
-    let a = c.args in
-    let at-is-list = c.is_list in
-    sym (not_list a.s.now a.entries a.m (sym at-is-list.ensures ∙ c.if-not-is_list.true))
+pub returns-else-is_list : goal.returns-else-is_list
+returns-else-is_list c =
+    c.if-is_list.false ∙ sym (not_list c.args.s.now c.args.entries c.args.m (sym c.is_list.ensures ∙ c.if-is_list.false))
 
-pub returns : goal.returns
-returns c =
-    let a = c.args in
-    let at-is-list = c.is_list in
-    c.has_move.ensures ∙ by_among a.s.now a.entries a.m (sym at-is-list.ensures ∙ c.if-not-is_list.false)
+pub returns-then-is_list : goal.returns-then-is_list
+returns-then-is_list c =
+    c.has_move.ensures ∙ by_among c.args.s.now c.args.entries c.args.m (sym c.is_list.ensures ∙ c.if-is_list.true)

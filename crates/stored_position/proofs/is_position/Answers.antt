@@ -1,39 +1,19 @@
 -- `is_position` of lib.rt meets its contract: r ≡ is_position (now s.entry).
-use mathlib.Core.Path.{◌≡◌, sym, ◌∙◌}
-use mathlib.Core.Bool.{true}
-use native.Mathlib.Omega.{arith}
-use Rattle.position.specs.Layout.{length_at}
-use Rattle.stored_position.specs.CodeParts.{front_fits}
-use Rattle.stored_position.proofs.Known.{front_whole, not_front, by_front}
+use mathlib.Core.Path.{sym, ◌∙◌}
+use Rattle.stored_position.proofs.Known.{other_size, not_record, not_check, by_parts}
 use Rattle.stored_position.proofs.is_position.Goals as goal
 
-pub returns-then-not-is_front : goal.returns-then-not-is_front
-returns-then-not-is_front c =
-    let a = c.args in
-    let at-is-front = c.is_front in
-    sym (not_front a.s.now (sym at-is-front.ensures ∙ c.if-not-is_front.true))
+pub returns-in_default : goal.returns-in_default
+returns-in_default c = sym (other_size c.args.s.now c.in_default.ensures.cases)
 
-pub bounds-s-73 : goal.bounds-s-73
-bounds-s-73 c =
-    let a = c.args in
-    let at-is-front = c.is_front in
-    let front : front_fits a.s.now ≡ true = sym at-is-front.ensures ∙ c.if-not-is_front.false in
-    omega (arith, front_whole a.s.now front)
+pub returns-then-not-has_record : goal.returns-then-not-has_record
+returns-then-not-has_record c = sym (not_record c.in-Some.ensures.cases (sym c.has_record.ensures ∙ c.if-not-has_record.true))
 
-pub overflow_cast-s : goal.overflow_cast-s
-overflow_cast-s c = omega (arith, c.shared_slice_known-2-1.given length_at)
-
-pub is_list-requires : goal.is_list-requires
-is_list-requires c =
-    let a = c.args in
-    let at-is-front = c.is_front in
-    let front : front_fits a.s.now ≡ true = sym at-is-front.ensures ∙ c.if-not-is_front.false in
-    (front_whole a.s.now front, omega (arith, c.shared_slice_known-2-1.given length_at))
+pub returns-then-p-gt1 : goal.returns-then-p-gt1
+returns-then-p-gt1 c = sym (not_check c.in-Some.ensures.cases (sym c.has_record.ensures ∙ c.if-not-has_record.false) c.if-p-gt1.true)
 
 pub returns : goal.returns
 returns c =
-    let a = c.args in
-    let at-is-front = c.is_front in
-    let at-if1 = c.if-not-is_front in
-    let front : front_fits a.s.now ≡ true = sym at-is-front.ensures ∙ at-if1.false in
-    c.is_list.ensures ∙ sym (by_front a.s.now (λ i. (c.shared_slice_known-2-1.given i).fits) front)
+    c.is_list.ensures
+    ∙ sym (by_parts c.in-Some.ensures.cases (λ i. (c.shared_slice_known-1.given i).fits) (sym c.has_record.ensures ∙ c.if-not-has_record.false)
+    c.if-p-gt1.false)

@@ -24,7 +24,6 @@ returns-then-not-all_at_most c =
 pub returns-then-not-all_at_most-2 : goal.returns-then-not-all_at_most-2
 returns-then-not-all_at_most-2 c =
     let a = c.args in
-    let at_pre = c.requires in
     let at-all-at-most = c.all_at_most in
     let at-if1 = c.if-not-all_at_most in
     let at-all-at-most2 = c.all_at_most-2 in
@@ -35,13 +34,12 @@ returns-then-not-all_at_most-2 c =
     let near : all_at_most 0 (take (2 * block) (drop end s)) ≡ true =
     ap (λ (n : ℕ). all_at_most 0 (take n (drop end s))) (sym e) ∙ sym at-all-at-most.ensures ∙ at-if1.false in
     let whole : at-all-at-most2.result ≡ all_at_most 0 (drop end s) =
-    at-all-at-most2.ensures ∙ ap (all_at_most 0) (part_to_end s (behind block)) ∙ far s a.entries block at_pre.1 near in
+    at-all-at-most2.ensures ∙ ap (all_at_most 0) (part_to_end s (behind block) c.told-s) ∙ far s a.entries block c.requires.0 near in
     sym (not_past s a.entries (sym whole ∙ c.if-not-all_at_most-2.true))
 
 pub returns : goal.returns
 returns c =
     let a = c.args in
-    let at_pre = c.requires in
     let at-all-at-most = c.all_at_most in
     let at-if1 = c.if-not-all_at_most in
     let at-all-at-most2 = c.all_at_most-2 in
@@ -52,6 +50,6 @@ returns c =
     let near : all_at_most 0 (take (2 * block) (drop end s)) ≡ true =
     ap (λ (n : ℕ). all_at_most 0 (take n (drop end s))) (sym e) ∙ sym at-all-at-most.ensures ∙ at-if1.false in
     let whole : at-all-at-most2.result ≡ all_at_most 0 (drop end s) =
-    at-all-at-most2.ensures ∙ ap (all_at_most 0) (part_to_end s (behind block)) ∙ far s a.entries block at_pre.1 near in
+    at-all-at-most2.ensures ∙ ap (all_at_most 0) (part_to_end s (behind block) c.told-s) ∙ far s a.entries block c.requires.0 near in
     let z : all_at_most 0 (drop end s) ≡ true = sym whole ∙ c.if-not-all_at_most-2.false in
-    c.moves_in_range.ensures ∙ block_range last_move s a.entries block (omega (arith, at_pre.1)) z ∙ sym (by_moves s a.entries z)
+    c.moves_in_range.ensures ∙ block_range last_move s a.entries block (omega (arith, c.requires.0)) z ∙ sym (by_moves s a.entries z)

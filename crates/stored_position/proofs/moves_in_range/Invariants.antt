@@ -1,7 +1,6 @@
 -- `moves_in_range` of lib.rt meets its contract: r ≡ all_at_most last_move (moves_from (now s.entry) moves_at entries).
 use mathlib.Core.Path.{◌≡◌}
 use mathlib.Core.Bool.{◌&&◌}
-use Prim.Native.Nat.{◌-◌, ◌≤◌}
 use lib.Dec.{eqb}
 use Rattle.answer.specs.Numbers.{all_at_most}
 use Rattle.chess_move.specs.Number.{last_move}
@@ -11,7 +10,4 @@ use Rattle.stored_position.proofs.moves_in_range.Given as goal
 
 abbrev pub invariant-loop-i : goal.invariant-loop-i
 invariant-loop-i l =
-    (l.i ≤ l.entries) × (eqb l.above 0 && all_at_most last_move (moves_left l.s l.entries l.i) ≡ all_at_most last_move (moves_from l.s moves_at l.entries))
-
-abbrev pub decreases-loop-i : goal.decreases-loop-i
-decreases-loop-i l = l.entries - l.i
+    eqb l.above 0 && all_at_most last_move (moves_left l.s l.entries l.i) ≡ all_at_most last_move (moves_from l.s moves_at l.entries)

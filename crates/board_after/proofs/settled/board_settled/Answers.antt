@@ -8,9 +8,6 @@ pub returns-then-not-in_range : goal.returns-then-not-in_range
 unfolding settled_answer
 returns-then-not-in_range c = c.stepped.ensures ∙ simp (sym c.in_range.ensures ∙ c.if-not-in_range.true)
 
-pub settle-requires : goal.settle-requires
-settle-requires c = sym c.in_range.ensures ∙ c.if-not-in_range.false
-
 pub returns : goal.returns
 unfolding settled_answer
 returns c =

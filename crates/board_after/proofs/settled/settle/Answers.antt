@@ -4,9 +4,7 @@ use Rattle.settled_rules.specs.Settled.{settled}
 use Rattle.board_after.proofs.settled.settle.Goals as goal
 
 pub settled_file-requires : goal.settled_file-requires
-settled_file-requires c =
-    let r = in_range_lem c.args.b c.requires in
-    (r.long, r.file)
+settled_file-requires c = (in_range_lem c.args.b c.requires).file
 
 pub returns : goal.returns
 unfolding settled

@@ -1,28 +1,17 @@
-use mathlib.Core.Path.{◌≡◌, refl}
-use native.Mathlib.Omega.{arith}
-use lib.ListN.{length, length-set}
+-- `BoardBuilder::bytes` of lib.rt meets its contract: r ≡ numbers self.
+use mathlib.Core.Path.{◌≡◌, ap, ◌∙◌}
+use mathlib.Core.List.{List, [], ◌∷◌, ◌++◌}
+use Prim.Native.Nat.{ℕ}
+use lib.ListN.{length, set}
 use borrow.Author.Rules.{length_unmapped}
-use Rattle.answer.proofs.Parts.{written_none}
 use Rattle.board_builder.specs.BoardBuilder.{squares}
-use Rattle.board_builder.proofs.Bytes.{square_more, put_together}
+use Rattle.board_builder.proofs.Bytes.{put_together}
 use Rattle.board_builder.proofs.BoardBuilder.bytes.Goals as goal
-
-pub loop-i-init : goal.loop-i-init
-loop-i-init c = (omega arith, refl, written_none _ 0, refl)
-
-pub loop-i-preserved : goal.loop-i-preserved
-loop-i-preserved c =
-    let p = c.args.self.pieces in
-    let i = c.loop-i.i in
-    let long : length p ≡ squares = search length_unmapped in (
-      omega (arith, c.loop-i-test.true),
-      simp length-set c.loop-i.invariant.1,
-      square_more _ c.loop-i.text p i long c.loop-i.invariant.3 c.loop-i-test.true c.loop-i.invariant.2,
-      c.loop-i.invariant.3,
-    )
 
 pub returns : goal.returns
 returns c =
     let b = c.args.self in
     let long : length b.pieces ≡ squares = search length_unmapped in
-    put_together b _ c.loop-i.text c.loop-i.i long c.loop-i.invariant.3 c.loop-i-test.false c.loop-i.invariant.2
+    ap (λ (p : List ℕ). set (set (set (set (p ++ 0 ∷ 0 ∷ 0 ∷ 0 ∷ []) 64 b.side_to_move) 65 b.white_castle_rights) 66 b.black_castle_rights) 67 b.en_passant)
+    c.copy_from_slice.ensures.after
+    ∙ put_together b long

@@ -1,14 +1,13 @@
 -- `read_full` of full.rt meets its contract: r ≡ read_full (now text.entry).
 use mathlib.Core.Path.{◌≡◌, sym, ap, ◌∙◌}
 use mathlib.Core.List.{List}
-use native.Mathlib.Omega.{arith}
 use Prim.Native.Nat.{ℕ, ◌-◌}
 use lib.ListN.{length}
 use Rattle.fen_text.specs.declared.Fen.{Fen}
 use Rattle.fen_text.specs.Token.{tokens}
 use Rattle.fen_text.specs.Read.{read_fen}
 use Rattle.fen_text.specs.Full.{clocked}
-use Rattle.fen_reader.proofs.FullCuts.{rest, refused_first, no_counters, not_past, counters_there}
+use Rattle.fen_reader.proofs.FullCuts.{rest, refused_first, no_counters, counters_there}
 use Rattle.fen_reader.proofs.full.read_full.Goals as goal
 
 pub returns-then-fen-ne-ACCEPTED : goal.returns-then-fen-ne-ACCEPTED
@@ -30,36 +29,6 @@ returns-then-ep-end c =
     let good : (read_fen s).number ≡ 0 = sym (ap (λ (f : Fen). f.number) at-read-fen.ensures) ∙ at-if1.false in
     let here = at-third.ensures ∙ ap rest (at_second.ensures ∙ ap rest at_first.ensures) in
     c.refused_at.ensures ∙ no_counters s _ good here at-find.result at-find.ensures at-if2.true
-
-pub overflow_sub-text : goal.overflow_sub-text
-overflow_sub-text c =
-    let a = c.args in
-    let at-read-fen = c.read_fen-fen in
-    let at-if1 = c.if-fen-ne-ACCEPTED in
-    let at_first = c.behind_placement in
-    let at_second = c.behind in
-    let at-third = c.behind-ep in
-    let at-find = c.find-end in
-    let at-if2 = c.if-ep-end in
-    let s = a.text.now in
-    let good : (read_fen s).number ≡ 0 = sym (ap (λ (f : Fen). f.number) at-read-fen.ensures) ∙ at-if1.false in
-    let here = at-third.ensures ∙ ap rest (at_second.ensures ∙ ap rest at_first.ensures) in
-    not_past s _ good here at-find.result _ at-find.ensures at-if2.false c.after-counters.ensures
-
-pub half_moves-requires : goal.half_moves-requires
-half_moves-requires c =
-    let a = c.args in
-    let at-read-fen = c.read_fen-fen in
-    let at-if1 = c.if-fen-ne-ACCEPTED in
-    let at_first = c.behind_placement in
-    let at_second = c.behind in
-    let at-third = c.behind-ep in
-    let at-find = c.find-end in
-    let at-if2 = c.if-ep-end in
-    let s = a.text.now in
-    let good : (read_fen s).number ≡ 0 = sym (ap (λ (f : Fen). f.number) at-read-fen.ensures) ∙ at-if1.false in
-    let here = at-third.ensures ∙ ap rest (at_second.ensures ∙ ap rest at_first.ensures) in
-    omega (arith, not_past s _ good here at-find.result _ at-find.ensures at-if2.false c.after-counters.ensures)
 
 pub returns : goal.returns
 returns c =

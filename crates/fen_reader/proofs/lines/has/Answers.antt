@@ -1,31 +1,25 @@
-use borrow.Author.Rules.{rules}
-use mathlib.Core.Path.{refl, sym, ap, ◌∙◌}
+use mathlib.Core.Path.{sym, ap, ◌∙◌}
 use mathlib.Core.Bool.{not, ◌||◌}
-use Prim.Native.Nat.{ℕ, ◌+◌, zero-le}
+use Prim.Native.Nat.{ℕ, ◌+◌}
 use lib.Bits.{bit_or}
 use lib.Dec.{eqb}
-use lib.ListN.{drop}
+use lib.ListN.{drop, get_or}
 use Rattle.answer.specs.Numbers.{among}
 use Rattle.fen_reader.proofs.Blocks.{found_turn, found_end}
+use Rattle.fen_reader.proofs.Seen.{one_of}
 use Rattle.fen_reader.proofs.lines.has.Goals as goal
 
-pub loop-i-init : goal.loop-i-init
-loop-i-init c = (zero-le, refl)
-
-pub loop-i-preserved : goal.loop-i-preserved
-loop-i-preserved c =
-    let at-loop = c.loop-i in
+pub loop-x-preserved : goal.loop-x-preserved
+loop-x-preserved c =
+    let at-loop = c.loop-x in
     let a = c.args in
     let s = a.block.now in
-    let i = at-loop.i in (
-      search rules,
-      ap (λ (x : ℕ). not (eqb (bit_or at-loop.hit x) 0) || among a.b (drop (i + 1) s)) c.flag-hit.ensures
-          ∙ found_turn a.b s at-loop.hit i c.loop-i-test.true
-          ∙ at-loop.invariant.1,
-    )
+    let i = at-loop.x-index in
+    ap (λ (x : ℕ). not (eqb (bit_or at-loop.hit x) 0) || among a.b (drop (i + 1) s)) (c.from-hit.ensures ∙ one_of (eqb (get_or s i 0) a.b))
+    ∙ found_turn a.b s at-loop.hit i c.loop-x-test.true
+    ∙ at-loop.invariant
 
 pub returns : goal.returns
 returns c =
-    let a = c.args in
-    let at-loop = c.loop-i in
-    sym (found_end a.b a.block.now at-loop.hit at-loop.i c.loop-i-test.false) ∙ at-loop.invariant.1
+    let at-loop = c.loop-x in
+    sym (found_end c.args.b c.args.block.now at-loop.hit at-loop.x-index c.loop-x-test.false) ∙ at-loop.invariant

@@ -1,14 +1,10 @@
 -- `has` of lines.rt meets its contract: r ≡ among b (now block.entry).
 use mathlib.Core.Path.{◌≡◌}
 use mathlib.Core.Bool.{not, ◌||◌}
-use Prim.Native.Nat.{◌-◌, ◌≤◌}
 use lib.Dec.{eqb}
-use lib.ListN.{length, drop}
+use lib.ListN.{drop}
 use Rattle.answer.specs.Numbers.{among}
 use Rattle.fen_reader.proofs.lines.has.Given as goal
 
-abbrev pub invariant-loop-i : goal.invariant-loop-i
-invariant-loop-i l = (l.i ≤ length l.block) × (not (eqb l.hit 0) || among l.b (drop l.i l.block) ≡ among l.b l.block)
-
-abbrev pub decreases-loop-i : goal.decreases-loop-i
-decreases-loop-i l = length l.block - l.i
+abbrev pub invariant-loop-x : goal.invariant-loop-x
+invariant-loop-x l = not (eqb l.hit 0) || among l.b (drop l.x-index l.block) ≡ among l.b l.block

@@ -34,13 +34,6 @@ returns-then-told-lines c =
     let all = page_refused s records told (told_cut s (length records) (length told) cut) in
     record { answer = c.too_short-then-told-lines.ensures ∙ ap too_short n ∙ all.0; records = all.1; told = all.2 }
 
-pub read_lines-requires : goal.read_lines-requires
-read_lines-requires c =
-    let at-line-count = c.line_count-lines in
-    let s = c.args.text.now in
-    let n : at-line-count.result ≡ line_count s = at-line-count.ensures in
-    record { text_in_bounds = omega (arith, c.if-records-lines.false); text_in_bounds_2 = omega (arith, c.if-told-lines.false) }
-
 pub returns : goal.returns
 returns c =
     let at-args = c.args in

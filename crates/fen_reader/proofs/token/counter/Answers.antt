@@ -1,56 +1,45 @@
-use mathlib.Core.Path.{sym, ◌∙◌}
+use mathlib.Core.Path.{◌≡◌, sym, ◌∙◌}
 use native.Mathlib.Omega.{arith}
-use Prim.Native.Nat.{◌-◌, zero-le}
+use Prim.Native.Nat.{◌-◌, ◌≤◌}
+use borrow.Author.Tests.{eqb-true, eqb-false}
 use lib.ListN.{get_or}
-use Rattle.fen_reader.proofs.Counting.{digits_turn, digits_low, digits_high, digits_end, counter_fits, counter_empty, counter_long, digits_small, four_small}
+use Rattle.fen_text.specs.Full.{no_count, counter_of}
+use Rattle.fen_reader.proofs.Counting.{digits_turn, digits_other, digit_most, digits_end, counter_fits, counter_empty, counter_long, digits_small, four_small}
 use Rattle.fen_reader.proofs.token.counter.Goals as goal
 
-pub returns-then-token-eq0 : goal.returns-then-token-eq0
-returns-then-token-eq0 c = sym (counter_empty c.args.token.now c.if-token-eq0.true)
+pub returns-then-is_empty : goal.returns-then-is_empty
+returns-then-is_empty c = λ h. omega (arith, h, counter_empty c.args.token.now (eqb-true _ _ (sym c.is_empty.ensures ∙ c.if-is_empty.true)))
 
 pub returns-then-token-gt4 : goal.returns-then-token-gt4
-returns-then-token-gt4 c = sym (counter_long c.args.token.now c.if-token-gt4.true)
+returns-then-token-gt4 c = λ h. omega (arith, h, counter_long c.args.token.now c.if-token-gt4.true)
 
-pub loop-i-init : goal.loop-i-init
-loop-i-init c = (zero-le, omega arith, counter_fits c.args.token.now (omega (arith, c.if-token-eq0.false)) c.if-token-gt4.false)
+pub loop-b-init : goal.loop-b-init
+loop-b-init c =
+    let some = eqb-false _ _ (sym c.is_empty.ensures ∙ c.if-is_empty.false) in
+    (omega arith, counter_fits c.args.token.now (omega (arith, some)) c.if-token-gt4.false)
 
-pub returns-then-b-lt48 : goal.returns-then-b-lt48
-returns-then-b-lt48 c =
-    let a = c.args in
-    let at-loop = c.loop-i in
-    let at-loop-test = c.loop-i-test in
-    sym (at-loop.invariant.2 ∙ digits_low a.token.now at-loop.i at-loop.value at-loop-test.true c.if-b-lt48.true)
+pub returns-then-not-is_ascii_digit : goal.returns-then-not-is_ascii_digit
+returns-then-not-is_ascii_digit c =
+    let l = c.loop-b in
+    let no = sym c.is_ascii_digit.ensures.value ∙ c.if-not-is_ascii_digit.true in
+    let none : counter_of c.args.token.now ≡ no_count = l.invariant.1 ∙ digits_other c.args.token.now l.b-index l.value c.loop-b-test.true no in
+    λ h. omega (arith, h)
 
-pub returns-then-b-gt57 : goal.returns-then-b-gt57
-returns-then-b-gt57 c =
-    let a = c.args in
-    let at-loop = c.loop-i in
-    let at-loop-test = c.loop-i-test in
-    let at-if3 = c.if-b-lt48 in
-    sym (at-loop.invariant.2 ∙ digits_high a.token.now at-loop.i at-loop.value at-loop-test.true at-if3.false c.if-b-gt57.true)
-
-pub overflow_mul-value : goal.overflow_mul-value
-overflow_mul-value c =
-    let at-loop = c.loop-i in
-    omega (arith, four_small at-loop.value at-loop.i at-loop.invariant.1 (omega arith))
-
-pub overflow_add-value : goal.overflow_add-value
-overflow_add-value c =
-    let at-loop = c.loop-i in
-    omega (arith, four_small at-loop.value at-loop.i at-loop.invariant.1 (omega arith))
-
-pub loop-i-preserved : goal.loop-i-preserved
-loop-i-preserved c =
+pub loop-b-preserved : goal.loop-b-preserved
+loop-b-preserved c =
     let s = c.args.token.now in
-    let i = c.loop-i.i in
-    let v = c.loop-i.value in (
-      omega arith,
-      digits_small v (get_or s i 0 - 48) i c.loop-i.invariant.1 (omega (arith, c.if-b-gt57.false)),
-      c.loop-i.invariant.2 ∙ digits_turn s i v c.loop-i-test.true c.if-b-lt48.false c.if-b-gt57.false,
+    let i = c.loop-b.b-index in
+    let v = c.loop-b.value in
+    let yes = sym c.is_ascii_digit.ensures.value ∙ c.if-not-is_ascii_digit.false in
+    let digit : c.from.result ≡ get_or s i 0 - 48 = c.from.ensures in
+    rw digit (
+      digits_small v (get_or s i 0 - 48) i c.loop-b.invariant.0 (digit_most (get_or s i 0) yes),
+      c.loop-b.invariant.1 ∙ digits_turn s i v c.loop-b-test.true yes,
     )
 
 pub returns : goal.returns
 returns c =
-    let a = c.args in
-    let at-loop = c.loop-i in
-    sym (at-loop.invariant.2 ∙ digits_end a.token.now at-loop.i at-loop.value c.loop-i-test.false)
+    let l = c.loop-b in
+    let says : counter_of c.args.token.now ≡ l.value = l.invariant.1 ∙ digits_end c.args.token.now l.b-index l.value c.loop-b-test.false in
+    let small : l.value ≤ 9999 = four_small l.value l.b-index l.invariant.0 (omega (arith, c.if-token-gt4.false, c.loop-b.auto.b-index-end)) in
+    (omega arith, sym says)

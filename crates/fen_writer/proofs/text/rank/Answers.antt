@@ -1,3 +1,4 @@
+use borrow.Author.Rules.{rules}
 use native.Mathlib.Omega.{arith}
 use Prim.Native.Nat.{ℕ, ◌+◌, zero-le}
 use lib.ListN.{take, drop, get_or}
@@ -8,7 +9,7 @@ use Rattle.fen_writer.proofs.text.rank.Goals as goal
 pub loop-i-init : goal.loop-i-init
 loop-i-init c =
     let a = c.args in
-    (zero-le, zero-le, omega arith, row_start a.bytes.now a.at (take 8 (drop a.from a.pieces.now)) c.requires.bytes_len (omega arith))
+    (zero-le, omega arith, row_start a.bytes.now a.at (take 8 (drop a.from a.pieces.now)) (search rules) (omega arith))
 
 pub overflow_add-bytes : goal.overflow_add-bytes
 overflow_add-bytes c =
@@ -27,18 +28,7 @@ overflow_sub-bytes c =
     let at-run-after = c.run_after-run in
     let at-length-after = c.length_after-n in
     let piece : ℕ = get_or a.pieces.now (a.from + at-loop.i) 0 in
-    count_least at-loop.invariant.3 piece at-run-after.result at-length-after.result at-run-after.ensures at-length-after.ensures
-
-pub bounds-bytes-n : goal.bounds-bytes-n
-bounds-bytes-n c =
-    let a = c.args in
-    let at-loop = c.loop-i in
-    let at-run-after = c.run_after-run in
-    let at-length-after = c.length_after-n in
-    let piece : ℕ = get_or a.pieces.now (a.from + at-loop.i) 0 in
-    let most = count_most at-loop.n at-run-after.result at-length-after.result at-length-after.ensures in
-    let least = count_least at-loop.invariant.3 piece at-run-after.result at-length-after.result at-run-after.ensures at-length-after.ensures in
-    omega arith
+    count_least at-loop.invariant.2 piece at-run-after.result at-length-after.result at-run-after.ensures at-length-after.ensures
 
 pub loop-i-preserved : goal.loop-i-preserved
 loop-i-preserved c =
@@ -54,19 +44,19 @@ loop-i-preserved c =
     let piece : ℕ = get_or pieces (from + i) 0 in
     let more = run_most at-loop.run piece at-run-after.result at-run-after.ensures in
     let most = count_most at-loop.n at-run-after.result at-length-after.result at-length-after.ensures in
-    let long = row_long pieces from at_pre.pieces_len at_pre.from_bound in
+    let long = row_long pieces from (search rules) at_pre.from_bound in
     let here = row_at pieces from i (omega arith) in
     let byte = sign_byte piece at-loop.run at-run-after.result sign.result (code_at pieces (from + i) at_pre.pieces_value) at-run-after.ensures
     sign.ensures in
     let turned =
-    row_turn at-loop.invariant.3 (omega arith) (omega arith) piece at-run-after.result at-length-after.result (sign.result + at-run-after.result)
+    row_turn at-loop.invariant.2 (omega arith) (omega arith) piece at-run-after.result at-length-after.result (sign.result + at-run-after.result)
     here at-run-after.ensures at-length-after.ensures byte in
-    (omega arith, omega arith, omega arith, turned)
+    (omega arith, omega arith, turned)
 
 pub returns : goal.returns
 returns c =
     let a = c.args in
     let at_pre = c.requires in
     let at-loop = c.loop-i in
-    let long = row_long a.pieces.now a.from at_pre.pieces_len at_pre.from_bound in
-    row_end at-loop.invariant.3 at_pre.bytes_len (omega arith) (omega arith)
+    let long = row_long a.pieces.now a.from (search rules) at_pre.from_bound in
+    row_end at-loop.invariant.2 (search rules) (omega arith) (omega arith)

@@ -1,7 +1,6 @@
 -- `sign_of` of text.rt meets its contract: each arm's number is what `sign_of` computes at its key, and the default is none of the keys.
 -- Assumes nothing.
 use mathlib.Core.Path.{sym, ap}
-use borrow.Author.Tests.{ne_eqb}
 use Rattle.square.specs.Piece.{letter_of}
 use Rattle.fen_writer.specs.CodeSigns.{sign_of}
 use Rattle.fen_writer.proofs.text.sign_of.Goals as goal
@@ -69,25 +68,3 @@ returns-in-14 c = sym (ap sign_of c.in-14.is)
 pub returns-in-15 : goal.returns-in-15
 unfolding sign_of letter_of
 returns-in-15 c = sym (ap sign_of c.in-15.is)
-
-pub returns-in_default : goal.returns-in_default
-unfolding sign_of letter_of
-returns-in_default c =
-    let high = c.in_default.in_default-own.rest in
-    let middle = high.0.0.0.0.0.0 in
-    let low = middle.0.0.0.0.0.0 in
-    simp (
-      ne_eqb _ _ low.0.0.0.1,
-      ne_eqb _ _ low.0.0.1,
-      ne_eqb _ _ low.0.1,
-      ne_eqb _ _ low.1,
-      ne_eqb _ _ middle.0.0.0.0.0.1,
-      ne_eqb _ _ middle.0.0.0.0.1,
-      ne_eqb _ _ middle.0.0.0.1,
-      ne_eqb _ _ middle.0.0.1,
-      ne_eqb _ _ middle.0.1,
-      ne_eqb _ _ middle.1,
-      ne_eqb _ _ high.0.0.0.0.0.1,
-      ne_eqb _ _ high.0.0.0.0.1,
-      ne_eqb _ _ high.0.0.0.1,
-    )

@@ -1,8 +1,8 @@
 use mathlib.Core.Path.{sym, ◌∙◌}
 use native.Mathlib.Omega.{arith}
-use Prim.Native.Nat.{◌+◌}
 use Rattle.pgn_text.specs.declared.Token.TheVariants.{Passed, Move}
-use Rattle.pgn.proofs.Walkers.{came_on, over_on, sequence_after, sequence_on, sequence_found, sequence_over}
+use Rattle.std.proofs.lemmas.Result.{err_from_is_err_and}
+use Rattle.pgn.proofs.Walkers.{came_on, over_on}
 use Rattle.pgn.proofs.Walkers.{reach, passed, too_deep_fact, result_met, comment_open, unknown}
 use Rattle.pgn.proofs.Walkers.{move_counted, move_stopped, inner_over, inner_open, inner_closed}
 use Rattle.pgn.proofs.walk.+sequence_variation.Goals as goal
@@ -57,7 +57,7 @@ sequence-returns-in-Result t c =
     let a = c.args in
     let l = c.loop-at in
     let k = sym c.token_at.ensures ∙ c.in-Result.is in
-    sequence_after a.s.now a.stop a.level l.invariant c.at_result.result
+    over_on a.s.now a.stop a.level l.invariant
     (result_met a.s.now a.stop a.level l.at l.count c.loop-at-test.true l.invariant.counted k c.at_result.result c.at_result.ensures)
 
 pub sequence-returns-in-LeftOpen : goal.sequence-returns-in-LeftOpen
@@ -84,31 +84,25 @@ pub variation-returns-then-s-end : goal.variation-returns-then-s-end
 variation-returns-then-s-end t c =
     let a = c.args in
     let p = c.requires in
-    let q = sequence_on c.in-On.is c.sequence.ensures in
-    inner_open a.s.now a.stop a.level a.at a.moves p.at_in_bounds p.moves_le_at p.at_value (omega (arith, c.if-level-ge-DEEPEST.false)) _ _ q.0
-    c.if-s-end.true
+    inner_open a.s.now a.stop a.level a.at a.moves p.at_in_bounds p.moves_le_at p.at_value (omega (arith, c.if-level-ge-DEEPEST.false)) _ _
+    c.in_ok-end.ensures.0 c.if-s-end.true
 
-pub variation-returns-else-s-end : goal.variation-returns-else-s-end
-variation-returns-else-s-end t c =
+pub variation-returns : goal.variation-returns
+variation-returns t c =
     let a = c.args in
     let p = c.requires in
-    let q = sequence_on c.in-On.is c.sequence.ensures in
+    let q = c.in_ok-end.ensures in
     let z = c.if-s-end.false in (
       inner_closed a.s.now a.stop a.level a.at a.moves p.at_in_bounds p.moves_le_at p.at_value (omega (arith, c.if-level-ge-DEEPEST.false)) _ _ q.0 z
           (q.1 z),
       omega (arith, q.0.forth),
     )
 
-pub variation-returns-in-Found : goal.variation-returns-in-Found
-variation-returns-in-Found t c =
+pub variation-returns-in_err-end : goal.variation-returns-in_err-end
+variation-returns-in_err-end t c =
     let a = c.args in
     let p = c.requires in
-    inner_over a.s.now a.stop a.level a.at a.moves p.at_in_bounds p.moves_le_at p.at_value (omega (arith, c.if-level-ge-DEEPEST.false)) _
-    (sequence_found a.s.now a.stop (a.level + 1) (a.at + 1) a.moves c.in-Found.is c.sequence.ensures)
-
-pub variation-returns-in-Ended : goal.variation-returns-in-Ended
-variation-returns-in-Ended t c =
-    let a = c.args in
-    let p = c.requires in
-    inner_over a.s.now a.stop a.level a.at a.moves p.at_in_bounds p.moves_le_at p.at_value (omega (arith, c.if-level-ge-DEEPEST.false)) _
-    (sequence_over a.s.now a.stop (a.level + 1) (a.at + 1) a.moves c.in-Ended.is c.sequence.ensures)
+    let e = err_from_is_err_and c.from_residual.result c.from_residual.ensures.1 in
+    rw (e.1, e.2)
+    (inner_over a.s.now a.stop a.level a.at a.moves p.at_in_bounds p.moves_le_at p.at_value (omega (arith, c.if-level-ge-DEEPEST.false)) _
+    c.in_err-end.ensures)

@@ -1,5 +1,5 @@
--- `near` of walk.rt meets its contract: Near (now s.entry) place r.
-use mathlib.Core.Path.{◌≡◌, refl, sym, ap, ◌∙◌}
+-- `near` of walk.rt meets its contract: a move that is answered is near the place.
+use mathlib.Core.Path.{◌≡◌, sym, ap, ◌∙◌}
 use Prim.Native.Nat.{◌+◌, ◌-◌, ◌≤◌}
 use native.Mathlib.Omega.{arith}
 use lib.ListN.{length, drop, length-drop}
@@ -9,21 +9,6 @@ use Rattle.pgn_text.specs.Bytes.{run_length}
 use Rattle.pgn_text.proofs.Runs.{run_within}
 use Rattle.pgn.proofs.Walkers.{white_passed, move_stands}
 use Rattle.pgn.proofs.walk.near.Goals as goal
-
-pub returns-then-s-place : goal.returns-then-s-place
-returns-then-s-place c = λ h. absurd (h refl)
-
-pub returns-then-not-is_white : goal.returns-then-not-is_white
-returns-then-not-is_white c = λ h. absurd (h refl)
-
-pub returns-then-s-at : goal.returns-then-s-at
-returns-then-s-at c = λ h. absurd (h refl)
-
-pub returns-then-is_white : goal.returns-then-is_white
-returns-then-is_white c = λ h. absurd (h refl)
-
-pub returns-then-not-starts_move : goal.returns-then-not-starts_move
-returns-then-not-starts_move c = λ h. absurd (h refl)
 
 pub overflow_add-result : goal.overflow_add-result
 overflow_add-result c =
@@ -47,8 +32,8 @@ returns c =
     let w = sym at-is-white.ensures
     ∙ c.if-not-is_white.false in
     let x = sym c.is_white-2.ensures ∙ c.if-is_white.false in
-    let y = sym at-starts-move.ensures ∙ c.if-not-starts_move.false in
-    λ h. (
+    let y = sym at-starts-move.ensures ∙ c.if-not-starts_move.false in (
+      omega arith,
       omega (arith, c.if-s-at.false),
       white_passed s p w,
       move_stands s (p + 1) x y

@@ -8,8 +8,8 @@ use Rattle.report.proofs.repeats.earlier.Goals as goal
 pub loop-link-init : goal.loop-link-init
 loop-link-init c =
     let a = c.args in
-    let alike = alike_in a.records.now in
-    (omega arith, λ counts bucket chain. walk_begins counts alike bucket (alike_passes a.records.now) a.next.now a.from a.i chain)
+    let alike = alike_in a.page.records.now in
+    (omega arith, λ counts bucket chain. walk_begins counts alike bucket (alike_passes a.page.records.now) a.next.now a.from a.i chain)
 
 pub returns-then-same_record : goal.returns-then-same_record
 returns-then-same_record c =
@@ -17,17 +17,9 @@ returns-then-same_record c =
     let at-loop = c.loop-link in
     let e : at-loop.link ≡ (at-loop.link - 1) + 1 = omega (arith, c.loop-link-test.true) in
     λ counts bucket chain.
-    let alike = alike_in a.records.now in
+    let alike = alike_in a.page.records.now in
     sym (walk_here counts alike bucket a.i (at-loop.link - 1) (rw e at (at-loop.invariant.1 counts bucket chain))
     (sym c.same_record.ensures ∙ c.if-same_record.true))
-
-pub overflow_cast-link-in-loop-link : goal.overflow_cast-link-in-loop-link
-overflow_cast-link-in-loop-link c = omega (arith, c.shared_slice_known-in-loop-link-1.given (c.loop-link.link - 1))
-
-pub loop-link-smaller : goal.loop-link-smaller
-loop-link-smaller c =
-    let link = c.loop-link.link in
-    omega (arith, c.requires.falling (link - 1), c.loop-link-test.true)
 
 pub loop-link-preserved : goal.loop-link-preserved
 loop-link-preserved c =
@@ -39,7 +31,7 @@ loop-link-preserved c =
     let other = sym c.same_record.ensures ∙ c.if-same_record.false in (
       omega (arith, c.requires.falling line),
       λ counts bucket chain.
-          walk_on counts (alike_in a.records.now) bucket (alike_passes a.records.now) a.next.now a.from a.i chain line h
+          walk_on counts (alike_in a.page.records.now) bucket (alike_passes a.page.records.now) a.next.now a.from a.i chain line h
           (rw e at (at-loop.invariant.1 counts bucket chain)) other,
     )
 
@@ -48,4 +40,4 @@ returns c =
     let a = c.args in
     let at-loop = c.loop-link in
     let e : at-loop.link ≡ 0 = omega (arith, c.loop-link-test.false) in
-    λ counts bucket chain. sym (walk_ends counts (alike_in a.records.now) bucket a.i (rw e at (at-loop.invariant.1 counts bucket chain)))
+    λ counts bucket chain. sym (walk_ends counts (alike_in a.page.records.now) bucket a.i (rw e at (at-loop.invariant.1 counts bucket chain)))

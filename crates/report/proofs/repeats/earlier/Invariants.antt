@@ -10,8 +10,8 @@ use Rattle.report.proofs.repeats.earlier.Given as goal
 abbrev pub invariant-loop-link : goal.invariant-loop-link
 invariant-loop-link l =
     (l.link ≤ l.i)
-    × ((counts : ℕ → Bool) (bucket : ℕ → ℕ) → Chained counts (alike_in l.records) bucket l.next l.from l.i
-    → Walked counts (alike_in l.records) bucket l.i l.link)
+    × ((counts : ℕ → Bool) (bucket : ℕ → ℕ) → Chained counts (alike_in l.page.records.now) bucket l.next l.from l.i
+    → Walked counts (alike_in l.page.records.now) bucket l.i l.link)
 
 abbrev pub decreases-loop-link : goal.decreases-loop-link
 decreases-loop-link l = l.link

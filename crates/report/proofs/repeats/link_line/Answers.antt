@@ -7,6 +7,7 @@ use native.Mathlib.Omega.{arith}
 use lib.ListN.{get_or}
 use borrow.Author.Tests.{eq-eqb, ne_eqb}
 use Rattle.fen_text.specs.Page.{told_size}
+use Rattle.report_text.specs.Report.{most_lines}
 use Rattle.report_text.specs.Repeats.{found_below}
 use Rattle.report.specs.CodeSets.{bucket_count}
 use Rattle.report.specs.CodeRooms.{counts_at, alike_in, Bucketed}
@@ -29,39 +30,29 @@ module _ (records told buckets heads next : List ℕ) (i : ℕ) (bucketed : Buck
   told_found linked told_by =
       told_by (counts_at told) (bucket_in buckets) (chained_at records told buckets i heads next linked bucketed counted)
 
-pub returns-then-told-i-ne0 : goal.returns-then-told-i-ne0
-returns-then-told-i-ne0 c =
+pub returns-then-page-i-ne0 : goal.returns-then-page-i-ne0
+returns-then-page-i-ne0 c =
     let a = c.args in
-    let out : counts_at a.told.now a.i ≡ false = ne_eqb _ _ c.if-told-i-ne0.true in
-    let old = old_not_counted (counts_at a.told.now) (alike_in a.records.now) a.i out in
-    record { repeat = rw out; links = linked_old a.records.now a.told.now a.buckets.now a.i a.heads.now a.next.now c.requires.linked old }
-
-pub overflow_cast-bucket : goal.overflow_cast-bucket
-overflow_cast-bucket c =
-    let a = c.args in
-    omega (arith, below a.records.now a.told.now a.buckets.now a.heads.now a.next.now a.i c.requires.bucketed c.if-told-i-ne0.false)
-
-pub offset_bounds-heads-bucket : goal.offset_bounds-heads-bucket
-offset_bounds-heads-bucket c =
-    let a = c.args in
-    omega (arith, below a.records.now a.told.now a.buckets.now a.heads.now a.next.now a.i c.requires.bucketed c.if-told-i-ne0.false)
+    let out : counts_at a.page.told.now a.i ≡ false = ne_eqb _ _ c.if-page-i-ne0.true in
+    let old = old_not_counted (counts_at a.page.told.now) (alike_in a.page.records.now) a.i out in
+    record { repeat = rw out; links = linked_old a.page.records.now a.page.told.now a.buckets.now a.i a.heads.now a.next.now c.requires.linked old }
 
 pub bounds-heads-bucket : goal.bounds-heads-bucket
 bounds-heads-bucket c =
     let a = c.args in
-    below a.records.now a.told.now a.buckets.now a.heads.now a.next.now a.i c.requires.bucketed c.if-told-i-ne0.false
+    below a.page.records.now a.page.told.now a.buckets.now a.heads.now a.next.now a.i c.requires.bucketed c.if-page-i-ne0.false
 
 pub earlier-requires : goal.earlier-requires
 earlier-requires c =
     let a = c.args in
     let was = c.requires.linked in
     let bucket = bucket_in a.buckets.now in
-    let in_heads = below a.records.now a.told.now a.buckets.now a.heads.now a.next.now a.i c.requires.bucketed c.if-told-i-ne0.false in
+    let in_heads = below a.page.records.now a.page.told.now a.buckets.now a.heads.now a.next.now a.i c.requires.bucketed c.if-page-i-ne0.false in
     let from = was.heads_latest (bucket a.i) in_heads in
-    let most = latest_le (counts_at a.told.now) (alike_in a.records.now) bucket (bucket a.i) a.i in
+    let most = latest_le (counts_at a.page.told.now) (alike_in a.page.records.now) bucket (bucket a.i) a.i in
     record {
-      record_size_in_bounds = c.requires.record_size_in_bounds;
-      i_in_bounds = omega (arith, was.next_long, c.requires.i_lt_most_lines);
+      i_lt_lines = c.requires.i_lt_lines;
+      i_in_bounds = omega (arith, was.next_long, c.requires.i_lt_lines, a.page.rooms.few);
       from_le_i = omega (arith, from, most);
       falling = was.falls;
     }
@@ -69,34 +60,30 @@ earlier-requires c =
 pub returns-then-earlier : goal.returns-then-earlier
 returns-then-earlier c =
     let a = c.args in
-    let in_it = counted a.records.now a.told.now a.buckets.now a.heads.now a.next.now a.i c.requires.bucketed c.if-told-i-ne0.false in
+    let in_it = counted a.page.records.now a.page.told.now a.buckets.now a.heads.now a.next.now a.i c.requires.bucketed c.if-page-i-ne0.false in
     let told =
-    told_found a.records.now a.told.now a.buckets.now a.heads.now a.next.now a.i c.requires.bucketed c.if-told-i-ne0.false c.requires.linked
+    told_found a.page.records.now a.page.told.now a.buckets.now a.heads.now a.next.now a.i c.requires.bucketed c.if-page-i-ne0.false c.requires.linked
     c.earlier.ensures in
     let found = sym told ∙ c.if-earlier.true in
-    let old = old_found (counts_at a.told.now) (alike_in a.records.now) a.i found in
-    record { repeat = rw (in_it, found); links = linked_old a.records.now a.told.now a.buckets.now a.i a.heads.now a.next.now c.requires.linked old }
-
-pub offset_bounds-heads-bucket-2 : goal.offset_bounds-heads-bucket-2
-offset_bounds-heads-bucket-2 c =
-    let a = c.args in
-    omega (arith, below a.records.now a.told.now a.buckets.now a.heads.now a.next.now a.i c.requires.bucketed c.if-told-i-ne0.false)
+    let old = old_found (counts_at a.page.told.now) (alike_in a.page.records.now) a.i found in
+    record { repeat = rw (in_it, found); links = linked_old a.page.records.now a.page.told.now a.buckets.now a.i a.heads.now a.next.now c.requires.linked old }
 
 pub bounds-heads-bucket-2 : goal.bounds-heads-bucket-2
 bounds-heads-bucket-2 c =
     let a = c.args in
-    below a.records.now a.told.now a.buckets.now a.heads.now a.next.now a.i c.requires.bucketed c.if-told-i-ne0.false
+    below a.page.records.now a.page.told.now a.buckets.now a.heads.now a.next.now a.i c.requires.bucketed c.if-page-i-ne0.false
 
 pub returns : goal.returns
 returns c =
     let a = c.args in
-    let in_it = counted a.records.now a.told.now a.buckets.now a.heads.now a.next.now a.i c.requires.bucketed c.if-told-i-ne0.false in
+    let in_it = counted a.page.records.now a.page.told.now a.buckets.now a.heads.now a.next.now a.i c.requires.bucketed c.if-page-i-ne0.false in
     let told =
-    told_found a.records.now a.told.now a.buckets.now a.heads.now a.next.now a.i c.requires.bucketed c.if-told-i-ne0.false c.requires.linked
+    told_found a.page.records.now a.page.told.now a.buckets.now a.heads.now a.next.now a.i c.requires.bucketed c.if-page-i-ne0.false c.requires.linked
     c.earlier.ensures in
     let none = sym told ∙ c.if-earlier.false in
-    let new = is_new_fact (counts_at a.told.now) (alike_in a.records.now) a.i in_it none in record {
+    let few : a.i < most_lines = omega (arith, c.requires.i_lt_lines, a.page.rooms.few) in
+    let new = is_new_fact (counts_at a.page.told.now) (alike_in a.page.records.now) a.i in_it none in record {
       repeat = rw (in_it, none);
-      links = linked_more a.records.now a.told.now a.buckets.now a.i a.heads.now a.next.now c.requires.linked c.requires.i_lt_most_lines
-          (below a.records.now a.told.now a.buckets.now a.heads.now a.next.now a.i c.requires.bucketed c.if-told-i-ne0.false) new;
+      links = linked_more a.page.records.now a.page.told.now a.buckets.now a.i a.heads.now a.next.now c.requires.linked few
+          (below a.page.records.now a.page.told.now a.buckets.now a.heads.now a.next.now a.i c.requires.bucketed c.if-page-i-ne0.false) new;
     }

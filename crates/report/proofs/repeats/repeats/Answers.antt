@@ -4,4 +4,4 @@ use Rattle.report.proofs.repeats.repeats.Goals as goal
 
 pub link_lines-requires : goal.link_lines-requires
 link_lines-requires c =
-    record { rooms = c.requires.rooms; bucketed = c.requires.bucketed; linked = linked_none c.args.records.now c.args.told.now c.args.buckets.now }
+    record { bucketed = c.requires; linked = linked_none c.args.page.records.now c.args.page.told.now c.args.buckets.now }

@@ -1,13 +1,7 @@
 -- `parted` of sets.rt meets its contract: r ≡ quarters_of first second.
 use native.Mathlib.Omega.{arith}
-use lib.Bits.{and_le_l, and_le_r, or_lt}
+use lib.Bits.{or_lt}
 use Rattle.report.proofs.sets.parted.Goals as goal
 
 pub overflow_sub-result : goal.overflow_sub-result
 overflow_sub-result c = omega (arith, or_lt 64 c.args.first c.args.second c.ranges.first.fits c.ranges.second.fits)
-
-pub overflow_sub-result-2 : goal.overflow_sub-result-2
-overflow_sub-result-2 c = and_le_l c.args.first c.args.second
-
-pub overflow_sub-result-3 : goal.overflow_sub-result-3
-overflow_sub-result-3 c = and_le_r c.args.first c.args.second

@@ -1,10 +1,6 @@
 -- `planes_of` of sets.rt meets its contract: r ≡ planes_of (by_files (now places.entry)).
-use native.Mathlib.Omega.{arith}
 use Rattle.report.proofs.Planes.{planes_gathered}
 use Rattle.report.proofs.sets.planes_of.Goals as goal
-
-pub two_ranks-d-requires : goal.two_ranks-d-requires
-two_ranks-d-requires c = record { at_in_bounds = omega (arith, c.requires.places_len); places_value = c.requires.places_value }
 
 pub returns : goal.returns
 returns c =

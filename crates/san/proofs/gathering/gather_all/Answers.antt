@@ -13,7 +13,7 @@ pub loop-i-init : goal.loop-i-init
 loop-i-init c =
     let moves = c.args.moves.now in
     let front : ℕ = (length moves + 15) / 16 * 8 in
-    (omega arith, (omega arith, turn_start (picked c.args.mask c.args.want) moves front (length moves - front) (omega arith)))
+    (omega arith, turn_start (picked c.args.mask c.args.want) moves front (length moves - front) (omega arith))
 
 pub gather_two-g-requires : goal.gather_two-g-requires
 gather_two-g-requires c =
@@ -23,7 +23,7 @@ gather_two-g-requires c =
     let p = picked a.mask a.want in
     let front : ℕ = (length moves + 15) / 16 * 8 in
     let back : ℕ = length moves - front in
-    let left = at-loop.invariant.1.1 in
+    let left = at-loop.invariant.1 in
     let count = left_count p moves (at_front moves front at-loop.i) (behind moves front (back + at-loop.i)) at-loop.g left in
     let sum = left_sum p moves (at_front moves front at-loop.i) (behind moves front (back + at-loop.i)) at-loop.g left in
     record { count_le_longest_list = omega (arith, count, sum); sum_bound = omega (arith, count, sum) }
@@ -33,7 +33,7 @@ loop-i-preserved c =
     let a = c.args in
     let at-loop = c.loop-i in
     let at-loop-test = c.loop-i-test in
-    let at-number-if = c.number_if-n in
+    let at-choose = c.choose-n in
     let at-picked = c.picked-here in
     let at-picked2 = c.picked in
     let at_both = c.both-there in
@@ -41,11 +41,11 @@ loop-i-preserved c =
     let p = picked a.mask a.want in
     let front : ℕ = (length moves + 15) / 16 * 8 in
     let back : ℕ = length moves - front in
-    let left = at-loop.invariant.1.1 in
+    let left = at-loop.invariant.1 in
     let after : leb 32768 at-loop.k ≡ true → front ≤ back + at-loop.i = λ e. omega (arith, leb-true 32768 at-loop.k e) in
     let before : leb 32768 at-loop.k ≡ false → back + at-loop.i < front = λ e. omega (arith, leb-false 32768 at-loop.k e) in
     let next = turn p moves front back at-loop.i at-loop.g (leb 32768 at-loop.k) at-loop-test.true (omega arith) (omega arith) after before left in
-    rw (c.gather_two-g.ensures, at-picked.ensures, at_both.ensures, at-picked2.ensures, at-number-if.ensures) (omega arith, (omega arith, next))
+    rw (c.gather_two-g.ensures, at-picked.ensures, at_both.ensures, at-picked2.ensures, at-choose.ensures) (omega arith, next)
 
 pub returns : goal.returns
 returns c =
@@ -55,5 +55,5 @@ returns c =
     let front : ℕ = (length moves + 15) / 16 * 8 in
     let back : ℕ = length moves - front in
     let s = c.loop-i in
-    let left = s.invariant.1.1 in
+    let left = s.invariant.1 in
     turn_end p moves front s.i (back + s.i) s.g c.loop-i-test.false (omega arith) left

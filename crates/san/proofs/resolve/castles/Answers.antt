@@ -2,9 +2,6 @@
 use Rattle.san_text.specs.Standard.{standard_castles}
 use Rattle.san.proofs.resolve.castles.Goals as goal
 
-pub returns-then-not-standard : goal.returns-then-not-standard
-returns-then-not-standard c = simp c.if-not-standard.true
-
 pub returns : goal.returns
 unfolding standard_castles
 returns c =

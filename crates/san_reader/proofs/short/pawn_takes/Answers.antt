@@ -6,7 +6,7 @@ use Rattle.san_reader.proofs.short.pawn_takes.Goals as goal
 
 pub returns-then-file-eq0 : goal.returns-then-file-eq0
 unfolding pawn_takes
-returns-then-file-eq0 c = simp (eq-eqb _ _ (sym c.place_from-file.ensures ∙ c.if-file-eq0.true), c.nothing.ensures)
+returns-then-file-eq0 c = simp (eq-eqb _ _ (sym c.place_from-file.ensures ∙ c.if-file-eq0.true))
 
 pub returns-then-b-ne120 : goal.returns-then-b-ne120
 unfolding pawn_takes
@@ -14,7 +14,7 @@ returns-then-b-ne120 c =
     let at-place-from = c.place_from-file in
     let at-if1 = c.if-file-eq0 in
     let at-if2 = c.if-b-ne120 in
-    simp (ne_eqb _ _ (λ w. at-if1.false (at-place-from.ensures ∙ w)), ne_eqb _ _ at-if2.true, c.nothing-then-b-ne120.ensures)
+    simp (ne_eqb _ _ (λ w. at-if1.false (at-place-from.ensures ∙ w)), ne_eqb _ _ at-if2.true)
 
 pub returns : goal.returns
 unfolding pawn_takes

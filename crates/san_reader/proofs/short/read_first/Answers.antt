@@ -28,4 +28,4 @@ returns c =
     let at-if1 = c.if-n-eq3 in
     let at-if2 = c.if-n-eq4 in
     let at-if3 = c.if-n-eq2 in
-    simp (ne_eqb _ _ at-if1.false, ne_eqb _ _ at-if2.false, ne_eqb _ _ at-if3.false, c.nothing.ensures)
+    simp (ne_eqb _ _ at-if1.false, ne_eqb _ _ at-if2.false, ne_eqb _ _ at-if3.false)

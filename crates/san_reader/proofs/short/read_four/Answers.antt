@@ -37,7 +37,6 @@ returns-then-file-rank-eq0 c =
       ne_eqb _ _ (λ w. at-if1.false (at-piece-kind.ensures ∙ w)),
       ne_eqb _ _ at-if2.false,
       eq-eqb _ _ (rw (at-place-from.ensures, at-place-from2.ensures) at at-if3.true),
-      c.nothing.ensures,
     )
 
 pub returns : goal.returns

@@ -4,7 +4,7 @@ use Rattle.san_reader.proofs.Shorts.{short_empty, short_checked, short_plain}
 use Rattle.san_reader.proofs.short.read_short.Goals as goal
 
 pub returns-then-n-eq0 : goal.returns-then-n-eq0
-returns-then-n-eq0 c = c.nothing.ensures ∙ short_empty c.args.s.now c.if-n-eq0.true
+returns-then-n-eq0 c = short_empty c.args.s.now c.if-n-eq0.true
 
 pub returns-then-is_check : goal.returns-then-is_check
 returns-then-is_check c =

@@ -6,7 +6,7 @@ use Rattle.san_reader.proofs.short.read_three.Goals as goal
 
 pub returns-then-piece-eq0 : goal.returns-then-piece-eq0
 unfolding short_three
-returns-then-piece-eq0 c = simp (eq-eqb _ _ (sym c.piece_kind-piece.ensures ∙ c.if-piece-eq0.true), c.nothing.ensures)
+returns-then-piece-eq0 c = simp (eq-eqb _ _ (sym c.piece_kind-piece.ensures ∙ c.if-piece-eq0.true))
 
 pub returns : goal.returns
 unfolding short_three

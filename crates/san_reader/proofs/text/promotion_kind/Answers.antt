@@ -1,5 +1,5 @@
 -- `promotion_kind` of text.rt meets its contract: r ≡ promotion_kind b.
-use borrow.Author.Tests.{ne_eqb}
+use Rattle.std.proofs.Common.{rules}
 use Rattle.san_text.specs.Text.{promotion_kind}
 use Rattle.san_reader.proofs.text.promotion_kind.Goals as goal
 
@@ -21,11 +21,4 @@ returns-in-81 c = simp c.in-81.is
 
 pub returns-in_default : goal.returns-in_default
 unfolding promotion_kind
-returns-in_default c =
-    simp (
-      ne_eqb _ _ c.in_default.in_default-own.rest.0.0.0.1,
-      ne_eqb _ _ c.in_default.in_default-own.rest.0.0.1,
-      ne_eqb _ _
-          c.in_default.in_default-own.rest.0.1,
-      ne_eqb _ _ c.in_default.in_default-own.rest.1,
-    )
+returns-in_default c = search rules

@@ -9,11 +9,3 @@ square_at-requires c =
       file_bound = omega (arith, place_most 96 c.byte_at.result, place_most 48 c.byte_at-2.result);
       rank_bound = omega (arith, place_most 96 c.byte_at.result, place_most 48 c.byte_at-2.result);
     }
-
-pub returns : goal.returns
-returns c =
-    let at-byte-at = c.byte_at in
-    let at-place-from = c.place_from in
-    let at-byte-at2 = c.byte_at-2 in
-    let at-place-from2 = c.place_from-2 in
-    simp (c.square_at.ensures, at-place-from.ensures, at-place-from2.ensures, at-byte-at.ensures, at-byte-at2.ensures)
