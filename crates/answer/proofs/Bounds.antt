@@ -4,13 +4,12 @@
 use mathlib.Core.Path.{◌≡◌, refl, ap, sym, ◌∙◌}
 use mathlib.Core.Bool.{Bool, true, false, ◌&&◌, and-true, and-false, and_assoc}
 use mathlib.Core.List.{List, [], ◌∷◌, ◌++◌}
-use Prim.Native.Nat.{ℕ, zero, suc, ◌+◌, ◌-◌, ◌≤◌, ◌<◌, zero-le}
-use native.Mathlib.Numerals.{add-one}
+use Prim.Native.Nat.{ℕ, zero, suc, ◌+◌, ◌-◌, ◌≤◌, zero-le}
 use native.Mathlib.Omega.{arith}
 use lib.Bits.{bit_or, or_zero_l, or_add_and, and_le_l, and_le_r}
 use lib.Dec.{eqb, leb}
-use lib.ListN.{length, get_or, take, drop, take-append-drop}
-use lib.Seq.{drop-cons, drop-drop}
+use lib.ListN.{get_or, take, drop, take-append-drop}
+use lib.Seq.{drop-drop}
 use borrow.Author.Tests.{eq-eqb, ne_eqb, eqb-true, eqb-false, leb-true, leb-false}
 use Rattle.answer.specs.Numbers.{all_at_most}
 use Rattle.answer.proofs.Numbers.{most_head, most_tail, most_drop}
@@ -44,12 +43,7 @@ over_none x n = go (leb x n) refl
 pub gather : (a x n : ℕ) (left : Bool) → eqb (bit_or a (x - n)) 0 && left ≡ eqb a 0 && (leb x n && left)
 gather a x n left = rw (or_none a (x - n), over_none x n) (and_assoc (eqb a 0) (leb x n) left)
 
--- an iteration of the loop over the list, and its end
-pub gather_turn : (n : ℕ) (s : List ℕ) (a i : ℕ) → i < length s
-    → eqb (bit_or a (get_or s i 0 - n)) 0 && all_at_most n (drop (i + 1) s) ≡ eqb a 0 && all_at_most n (drop i s)
-unfolding all_at_most
-gather_turn n s a i h = rw (add-one i, drop-cons s i 0 h) (gather a (get_or s i 0) n (all_at_most n (drop (suc i) s)))
-
+-- the end of a loop over the list that gathers
 pub gather_end : (a : ℕ) (left : Bool) → left ≡ true → eqb a 0 && left ≡ eqb a 0
 gather_end a left e = rw e (and-true (eqb a 0))
 

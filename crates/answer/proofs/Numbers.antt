@@ -6,7 +6,7 @@ use mathlib.Core.List.{List, [], ◌∷◌}
 use Prim.Native.Nat.{ℕ, zero, suc, ◌+◌, ◌≤◌, ◌<◌}
 use native.Mathlib.Numerals.{add-one}
 use lib.Dec.{leb}
-use lib.ListN.{length, get_or, take, drop, set, drop_of_length-le}
+use lib.ListN.{length, get_or, take, drop, set}
 use lib.Seq.{drop-cons}
 use borrow.Author.Tests.{leb-true, le-leb, lt-leb}
 use Rattle.answer.specs.Numbers.{all_at_most}
@@ -71,7 +71,3 @@ most_turn n s i h k = rw (add-one i, drop-cons s i 0 h) (simp (le-leb _ _ k))
 pub most_over : (n : ℕ) (s : List ℕ) (i : ℕ) → i < length s → n < get_or s i 0 → all_at_most n (drop i s) ≡ false
 unfolding all_at_most
 most_over n s i h k = rw (drop-cons s i 0 h) (simp (lt-leb _ _ k))
-
-pub most_end : (n : ℕ) (s : List ℕ) (i : ℕ) → length s ≤ i → all_at_most n (drop i s) ≡ true
-unfolding all_at_most
-most_end n s i h = rw (drop_of_length-le s h)

@@ -2,12 +2,11 @@
 -- Assumes nothing.
 use mathlib.Core.Path.{◌≡◌, ap, ap₂, sym, ◌∙◌}
 use mathlib.Core.List.{List, [], ◌∷◌, ◌++◌, append-nil, append_assoc}
-use Prim.Native.Nat.{ℕ, suc, ◌+◌, ◌*◌, ◌-◌, ◌≤◌, ◌<◌}
-use native.Mathlib.Numerals.{add-one}
+use Prim.Native.Nat.{ℕ, suc, ◌+◌, ◌*◌, ◌≤◌, ◌<◌}
 use native.Mathlib.Omega.{arith}
-use lib.ListN.{length, set, take, drop, get_or, replicate}
-use lib.ListN.{length-append, length-take, length-drop, length-replicate, take-append-drop, replicate-append-replicate, drop_of_length-le}
-use lib.Seq.{take_all, set_split, append_snoc, take_at, drop_at, drop-drop, take-suc, length-take-le, get_or-take, get_or-drop}
+use lib.ListN.{length, set, take, drop, get_or}
+use lib.ListN.{length-append, length-take, length-drop, take-append-drop}
+use lib.Seq.{set_split, append_snoc, take_at, drop_at, drop-drop, get_or-take, get_or-drop}
 use Rattle.answer.specs.Parts.{item, written}
 
 -- an item that lies in the part is whole
@@ -17,15 +16,6 @@ length_item size k part h = simp (length-take, length-drop) (omega arith)
 -- a number of an item is that number of the list
 pub of_item : (l : List ℕ) (size k i : ℕ) → i < size → get_or l (size * k + i) 0 ≡ get_or (item size l k) i 0
 of_item l size k i h = sym (get_or-take size (drop (size * k) l) i 0 h ∙ get_or-drop (size * k) l i 0)
-
--- past the end there is nothing, and the last may be cut
-pub item_past : (size k : ℕ) (part : List ℕ) → length part ≤ size * k → item size part k ≡ []
-item_past size k part h = ap (take size) (drop_of_length-le part h) ∙ take_all size [] (omega arith)
-
-pub item_cut : (size k : ℕ) (part : List ℕ) → length part ≤ size * k + size → item size part k ≡ take (length part - size * k) (drop (size * k) part)
-item_cut size k part h =
-    take_all size (drop (size * k) part) (rw (length-drop (size * k) part) (omega arith))
-    ∙ sym (take_all (length part - size * k) (drop (size * k) part) (rw (length-drop (size * k) part) (omega arith)))
 
 -- ---- bytes written over others
 
@@ -64,26 +54,3 @@ module _ (l : List ℕ) (at : ℕ) (xs : List ℕ) (fits : at + length xs ≤ le
   -- one more byte
   pub written_next : (i v : ℕ) → at + length xs ≡ i → i < length l → set (written l at xs) i v ≡ written l at (xs ++ (v ∷ []))
   written_next i v e h = set_written (written l at xs) i v (rw length_written h) ∙ written_behind i (v ∷ []) e (omega arith)
-
--- the iterations of loops that write bytes, and zeros
-pub bytes_turn : (l bytes : List ℕ) (at i : ℕ) → at + length bytes ≤ length l → i < length bytes
-    → set (written l at (take i bytes)) (at + i) (get_or bytes i 0) ≡ written l at (take (i + 1) bytes)
-bytes_turn l bytes at i h k =
-    let n : length (take i bytes) ≡ i = length-take-le i bytes (omega arith) in
-    let e : take (i + 1) bytes ≡ take i bytes ++ (get_or bytes i 0 ∷ []) = rw add-one (take-suc bytes i 0 k) in
-    written_next l at (take i bytes) (omega arith) (at + i) (get_or bytes i 0) (omega arith) (omega arith) ∙ ap (written l at) (sym e)
-
-zeros_more : (l : List ℕ) (at i count : ℕ) → at + count ≤ length l → i < count
-    → set (written l at (replicate i 0)) (at + i) 0 ≡ written l at (replicate (i + 1) 0)
-zeros_more l at i count h k =
-    let n : length (replicate {A = ℕ} i 0) ≡ i = length-replicate i 0 in
-    let e : replicate (i + 1) 0 ≡ replicate {A = ℕ} i 0 ++ (0 ∷ []) = sym (replicate-append-replicate i 1 0) in
-    written_next l at (replicate i 0) (omega arith) (at + i) 0 (omega arith) (omega arith) ∙ ap (written l at) (sym e)
-
-pub zeros_turn : (l : List ℕ) (at i : ℕ) → at ≤ i → i < length l → set (written l at (replicate (i - at) 0)) i 0 ≡ written l at (replicate (i + 1 - at) 0)
-zeros_turn l at i h k =
-    let e : at + (i - at) ≡ i = omega arith in
-    let f : i - at + 1 ≡ i + 1 - at = omega arith in
-    ap (λ (j : ℕ). set (written l at (replicate (i - at) 0)) j 0) (sym e)
-    ∙ zeros_more l at (i - at) (length l - at) (omega arith) (omega arith)
-    ∙ ap (λ (j : ℕ). written l at (replicate j 0)) f

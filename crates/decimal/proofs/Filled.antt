@@ -1,11 +1,11 @@
 -- The loop of the writer: it fills 20 bytes from the end, one digit per iteration, until one digit is left.
 -- Assumes nothing.
 use mathlib.Core.Path.{◌≡◌, ap, sym, ◌∙◌}
-use mathlib.Core.List.{List, [], ◌∷◌, ◌++◌, append_assoc, append-nil}
+use mathlib.Core.List.{List, [], ◌∷◌, ◌++◌, append_assoc}
 use Prim.Native.Nat.{ℕ, zero, suc, ◌+◌, ◌-◌, ◌/◌, ◌%◌, ◌^◌, ◌≤◌, ◌<◌}
 use native.Mathlib.Nat.{pow-suc}
 use native.Mathlib.Omega.{arith}
-use lib.ListN.{length, take, drop, set, length-drop, length-set, drop_of_length-le}
+use lib.ListN.{length, take, drop, set, length-drop, length-set}
 use lib.Seq.{drop-cons, drop-set-lt, get_or-set_same, lt-length-set, take_all}
 use Rattle.decimal.specs.Decimal.{decimal}
 use Rattle.decimal.proofs.Digits.{decimal_one, decimal_more}
@@ -17,20 +17,11 @@ pub record Filled (number : ℕ) (text : List ℕ) (at left : ℕ) : Type 0 wher
   pub fits : left < 10 ^ suc at
   pub behind : decimal number ≡ decimal left ++ drop (suc at) text
 
-pub filled_none : (number : ℕ) (text : List ℕ) → number < 2 ^ 64 → length text ≡ 20 → Filled number text 19 number
-filled_none number text h l =
-    let none : drop 20 text ≡ [] = drop_of_length-le text {i = 20} (omega arith) in
-    record { long = l; inside = omega arith; fits = omega arith; behind = rw none (sym (append-nil (decimal number))) }
-
 -- a digit at the place, and those behind it
 drop_stored : (text : List ℕ) (at digit : ℕ) → at < length text → drop at (set text at digit) ≡ digit ∷ drop (suc at) text
 drop_stored text at digit h =
     drop-cons (set text at digit) at 0 (lt-length-set text at digit h)
     ∙ rw (get_or-set_same text at digit 0 h, drop-set-lt (suc at) text at digit (omega arith))
-
-pub filled_place : (number : ℕ) (text : List ℕ) (at left : ℕ) → Filled number text at left → 10 ≤ left → 1 ≤ at
-filled_place number text zero left f h = absurd (omega (arith, f.fits))
-filled_place number text (suc at) left f h = omega arith
 
 pub filled_more : (number : ℕ) (text : List ℕ) (at left : ℕ) → Filled number text at left → 10 ≤ left
     → Filled number (set text at (48 + left % 10)) (at - 1) (left / 10)

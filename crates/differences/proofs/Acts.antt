@@ -2,7 +2,7 @@
 -- Assumes nothing.
 use mathlib.Core.Path.{◌≡◌, refl, subst, sym, ap, ap₂, ◌∙◌}
 use mathlib.Core.Bool.{Bool, true, false}
-use mathlib.Core.List.{List, [], ◌∷◌, append-nil}
+use mathlib.Core.List.{List, [], ◌∷◌, ◌++◌, append-nil}
 use Prim.Native.Nat.{ℕ, suc, ◌+◌, ◌*◌, ◌-◌, ◌≤◌, ◌<◌}
 use native.Mathlib.Omega.{arith}
 use lib.Dec.{eqb, ltb}
@@ -11,8 +11,6 @@ use lib.Seq.{drop-drop}
 use borrow.Author.Tests.{eq-eqb, ne_eqb, eqb-true}
 use Rattle.std.specs.Prelude.{Option, Some, None}
 use Rattle.answer.specs.Numbers.{number_at}
-use Rattle.answer.specs.CodePushed.{Put}
-use Rattle.answer.proofs.Pushes.{put_none, put_as}
 use Rattle.differences_text.specs.Differences.{Difference, difference, action_key, action_difference, line_text, lines_text}
 use Rattle.differences.specs.CodeEntries.{entry_size, entry_number, same_entry, text_numbers}
 use Rattle.differences.specs.CodeTexts.{action_line}
@@ -96,19 +94,13 @@ numbers_end n l i at h = let z : n - i ≡ 0 = omega arith in rw z
 
 -- ---- the search
 
-pub record Searched (n : ℕ) (l : List ℕ) (m : ℕ) (k old bytes : List ℕ) (at to i : ℕ) : Type 0 where
+pub record Searched (n : ℕ) (l : List ℕ) (m : ℕ) (k old text : List ℕ) (at to i : ℕ) : Type 0 where
   pub first : i ≤ n
   pub second : i ≤ m
   pub near : at ≤ 4 * i
   pub near_too : to ≤ 4 * i
-  pub same : bytes ≡ old
+  pub same : text ≡ old
   pub left : action_difference 0 (text_numbers n l) (text_numbers m k) ≡ action_difference i (numbers_from n l i at) (numbers_from m k i to)
-
-pub searched_none : (n : ℕ) (l : List ℕ) (m : ℕ) (k old : List ℕ) → Searched n l m k old old 0 0 0
-searched_none n l m k old =
-    let a : n - 0 ≡ n = omega arith in
-    let b : m - 0 ≡ m = omega arith in
-    record { first = omega arith; second = omega arith; near = omega arith; near_too = omega arith; same = refl; left = rw (a, b) }
 
 one_line : (d : Difference) → lines_text (d ∷ []) ≡ line_text d
 unfolding lines_text
@@ -136,14 +128,14 @@ unfolding action_difference
 none_left_lem i = refl
 
 -- behind the last of n
-pub ended_at : (n : ℕ) (l : List ℕ) (m : ℕ) (k old bytes : List ℕ) (at to i : ℕ) → Searched n l m k old bytes at to i → n ≤ i
-    → Searched n l m k old bytes at to n
-ended_at n l m k old bytes at to i inv h =
-    let e : i ≡ n = omega (arith, inv.first) in subst (λ (j : ℕ). Searched n l m k old bytes at to j) e inv
+pub ended_at : (n : ℕ) (l : List ℕ) (m : ℕ) (k old text : List ℕ) (at to i : ℕ) → Searched n l m k old text at to i → n ≤ i
+    → Searched n l m k old text at to n
+ended_at n l m k old text at to i inv h =
+    let e : i ≡ n = omega (arith, inv.first) in subst (λ (j : ℕ). Searched n l m k old text at to j) e inv
 
-module _ (n : ℕ) (l : List ℕ) (m : ℕ) (k old bytes : List ℕ) (at to i : ℕ) (inv : Searched n l m k old bytes at to i) where
+module _ (n : ℕ) (l : List ℕ) (m : ℕ) (k old text : List ℕ) (at to i : ℕ) (inv : Searched n l m k old text at to i) where
   pub searched_more : (size other : ℕ) → i < n → i < m → size ≡ entry_size (drop at l) → other ≡ entry_size (drop to k) → size ≤ 4 → other ≤ 4
-      → entry_number (drop at l) ≡ entry_number (drop to k) → Searched n l m k old bytes (at + size) (to + other) (i + 1)
+      → entry_number (drop at l) ≡ entry_number (drop to k) → Searched n l m k old text (at + size) (to + other) (i + 1)
   searched_more size other h j e f p q z =
       record {
         first = omega arith;
@@ -159,7 +151,7 @@ module _ (n : ℕ) (l : List ℕ) (m : ℕ) (k old bytes : List ℕ) (at to i : 
       }
 
   pub searched_same : (r : ℕ) (x y : List ℕ) → i < n → i < m → x ≡ drop at l → y ≡ drop to k → Some r ≡ same_entry x y → r ≤ 4
-      → Searched n l m k old bytes (at + r) (to + r) (i + 1)
+      → Searched n l m k old text (at + r) (to + r) (i + 1)
   searched_same r x y h j ex ey e p =
       let s = same_here (drop at l) (drop to k) r (e ∙ ap₂ same_entry ex ey) in
       searched_more r r h j (sym s.first) (sym s.second) p p s.numbers
@@ -194,18 +186,17 @@ module _ (n : ℕ) (l : List ℕ) (m : ℕ) (k old bytes : List ℕ) (at to i : 
       ∙ rw ey (none_first i y (numbers_from m k (i + 1) (to + entry_size (drop to k)))))
       ∙ one_line (difference (action_key i) 0 y)
 
-  pub both_ended : (place : ℕ) → n ≤ i → m ≤ i → Put (length old) old place (action_line n l m k) bytes place
+  pub both_ended : n ≤ i → m ≤ i → text ≡ old ++ action_line n l m k
   unfolding lines_text
-  both_ended place h j =
+  both_ended h j =
       let none : action_line n l m k ≡ []
       = ap lines_text (inv.left ∙ ap₂ (action_difference i) (numbers_end n l i at h) (numbers_end m k i to j) ∙ none_left_lem i) in
-      rw (none, inv.same) (put_none refl)
+      inv.same ∙ sym (append-nil old) ∙ ap (λ (t : List ℕ). old ++ t) (sym none)
 
   -- space for it, and its text once it has been put
-  pub here_fits : (place : ℕ) (line : List ℕ) → action_line n l m k ≡ line → place + length (action_line n l m k) ≤ length old
-      → place + length line ≤ length bytes
-  here_fits place line e h = let s = ap length inv.same in let t = ap length e in omega arith
+  pub here_fits : (most : ℕ) (line : List ℕ) → action_line n l m k ≡ line → length old + length (action_line n l m k) ≤ most
+      → length text + length line ≤ most
+  here_fits most line e h = let s = ap length inv.same in let t = ap length e in omega arith
 
-  pub here_put : (place r : ℕ) (line new : List ℕ) → action_line n l m k ≡ line → Put (length bytes) bytes place line new r
-      → Put (length old) old place (action_line n l m k) new r
-  here_put place r line new e p = put_as (sym e) (rw inv.same at p)
+  pub here_put : (line new : List ℕ) → action_line n l m k ≡ line → new ≡ text ++ line → new ≡ old ++ action_line n l m k
+  here_put line new e p = p ∙ ap₂ (λ (t u : List ℕ). t ++ u) inv.same (sym e)

@@ -5,14 +5,12 @@ use mathlib.Core.Bool.{true}
 use mathlib.Core.List.{List, [], ◌∷◌, ◌++◌, append_assoc}
 use Prim.Native.Nat.{ℕ, suc, ◌+◌, ◌≤◌, ◌<◌}
 use native.Mathlib.Omega.{arith}
-use lib.ListN.{length, take, drop, get_or, length-append}
+use lib.ListN.{length, drop, get_or, length-append}
 use lib.Seq.{drop_at}
 use Rattle.answer.specs.declared.Answer.{Answer}
 use Rattle.answer.specs.Answer.{accepted, refused, write_answer, write_bytes}
 use Rattle.answer.specs.Numbers.{all_at_most, same}
-use Rattle.answer.specs.CodePushed.{Put}
 use Rattle.answer.proofs.Numbers.{most_cons}
-use Rattle.answer.proofs.Pushes.{push_whole, put_both}
 use Rattle.answer.proofs.Same.{same_eq}
 use Rattle.answer.proofs.Writes.{write_refused, write_fits}
 use Rattle.board_builder.specs.BoardBuilder.{record_size}
@@ -32,7 +30,6 @@ use Rattle.differences_text.proofs.Refusals.{first_told, second_told, both_pass,
 use Rattle.differences_text.proofs.NoLine.{no_own_text}
 use Rattle.differences.specs.CodeEntries.{text_numbers}
 use Rattle.differences.specs.CodeTexts.{start_of, start_lines, counted_lines, action_line, actions_at}
-use Rattle.differences.proofs.Pushing.{put_size}
 use Rattle.differences.proofs.Written.{text_numbers_lem}
 
 -- what a slice of bytes holds
@@ -120,21 +117,22 @@ module _ (s t : List ℕ) (g h : Checked) (a : Known s g) (b : Known t h) where
   start_within : length (start_lines s t ++ counted_lines g h) ≤ 632
   start_within = omega (arith, length-append (start_lines s t) (counted_lines g h), start_fits_lem, counts_fit)
 
-  pub starts_asked : (text : List ℕ) → length text ≡ longest
-      → ((record_size ≤ length s) × (record_size ≤ length t)) × (length (start_lines s t) ≤ length text)
-  starts_asked text l = ((a.read.long, b.read.long), omega (arith, start_fits_lem))
+  pub starts_asked : (text : List ℕ) → text ≡ [] → length text + length (start_lines s t) ≤ longest
+  starts_asked text e = omega (arith, ap length e, start_fits_lem)
 
-  few : (g.actions ≤ 10000) × (h.actions ≤ 10000)
+  pub long_enough : (record_size ≤ length s) × (record_size ≤ length t)
+  long_enough = (a.read.long, b.read.long)
+
+  pub few : (g.actions ≤ 10000) × (h.actions ≤ 10000)
   few = (omega (arith, a.read.few, limits_have_four_digits), omega (arith, b.read.few, limits_have_four_digits))
 
-  module _ (zeros text : List ℕ) (numbers : ℕ) (long : length zeros ≡ longest) (p : Put (length zeros) zeros 0 (start_lines s t) text numbers) where
-    pub counters_asked : numbers + length (counted_lines g h) ≤ length text
-    counters_asked = omega (arith, p.pushed.count, p.long, start_fits_lem, counts_fit)
+  module _ (empty text : List ℕ) (none : empty ≡ []) (p : text ≡ empty ++ start_lines s t) where
+    pub counters_asked : length text + length (counted_lines g h) ≤ longest
+    counters_asked = omega (arith, ap length p, ap length none, length-append empty (start_lines s t), start_fits_lem, counts_fit)
 
     -- the start's text
-    pub start_put : (more : List ℕ) (start : ℕ) → Put (length text) text numbers (counted_lines g h) more start
-        → Put (length zeros) zeros 0 (start_lines s t ++ counted_lines g h) more start
-    start_put more start q = put_both p (put_size p.long q)
+    pub start_put : (more : List ℕ) → more ≡ text ++ counted_lines g h → more ≡ start_lines s t ++ counted_lines g h
+    start_put more q = q ∙ ap (λ (l : List ℕ). l ++ counted_lines g h) (p ∙ ap (λ (l : List ℕ). l ++ start_lines s t) none)
 
 -- with the two texts of actions, l and k
 module _ (s t : List ℕ) (g h : Checked) (a : Known s g) (b : Known t h) (l k : List ℕ) (el : l ≡ actions_of s g) (ek : k ≡ actions_of t h) where
@@ -161,24 +159,19 @@ module _ (s t : List ℕ) (g h : Checked) (a : Known s g) (b : Known t h) (l k :
       ∙ rw (← first_numbers, ← second_numbers) (ap (λ (x : List ℕ). x ++ acted)
       (start_text limits s (start_in s g) g.actions a.bs t (start_in t h) h.actions b.bs limits_have_four_digits a.read b.read))
 
-  module _ (zeros text : List ℕ) (start : ℕ) (long : length zeros ≡ longest)
-      (p : Put (length zeros) zeros 0 (start_lines s t ++ counted_lines g h) text start) where
-    pub action_asked : ((g.actions ≤ 10000) × (h.actions ≤ 10000)) × (start + length acted ≤ length text)
-    action_asked = (few s t g h a b, omega (arith, p.pushed.count, p.long, start_within s t g h a b, action_fits))
+  module _ (text : List ℕ) (p : text ≡ start_lines s t ++ counted_lines g h) where
+    pub action_asked : length text + length acted ≤ longest
+    action_asked = omega (arith, ap length p, start_within s t g h a b, action_fits)
 
-    module _ (full : List ℕ) (all : ℕ) (q : Put (length text) text start acted full all) where
-      pub both_put : Put longest zeros 0 (differences_text limits s t) full all
-      both_put = rw whole_text (put_both (put_size long p) (put_size (p.long ∙ long) q))
-
-      pub whole_answer : (roll_answer (read_roll limits s)).number ≡ 0 → (roll_answer (read_roll limits t)).number ≡ 0
-          → (out exit : List ℕ) (r : Answer) → r ≡ write_answer 0 (take all full) (length out) → exit ≡ write_bytes 0 (take all full) out
-          → (r ≡ differences_answer limits s t (length out)) × (exit ≡ differences_room limits s t out)
-      whole_answer passes passes-too out exit r er ee =
-          let text-is : take all full ≡ differences_text limits s t = (push_whole both_put.pushed).1 in
-          let check : 0 ≡ differences_check limits s t = sym (both_pass limits s t passes passes-too) in (
-            er ∙ ap₂ (λ (k : ℕ) (l : List ℕ). write_answer k l (length out)) check text-is,
-            ee ∙ ap₂ (λ (k : ℕ) (l : List ℕ). write_bytes k l out) check text-is,
-          )
+    pub whole_answer : (full : List ℕ) → full ≡ text ++ acted → (roll_answer (read_roll limits s)).number ≡ 0
+        → (roll_answer (read_roll limits t)).number ≡ 0 → (out exit : List ℕ) (r : Answer) → r ≡ write_answer 0 full (length out)
+        → exit ≡ write_bytes 0 full out → (r ≡ differences_answer limits s t (length out)) × (exit ≡ differences_room limits s t out)
+    whole_answer full q passes passes-too out exit r er ee =
+        let text-is : full ≡ differences_text limits s t = q ∙ ap (λ (l : List ℕ). l ++ acted) p ∙ sym whole_text in
+        let check : 0 ≡ differences_check limits s t = sym (both_pass limits s t passes passes-too) in (
+          er ∙ ap₂ (λ (k : ℕ) (l : List ℕ). write_answer k l (length out)) check text-is,
+          ee ∙ ap₂ (λ (k : ℕ) (l : List ℕ). write_bytes k l out) check text-is,
+        )
 
 -- ---- the same bytes
 

@@ -2,16 +2,11 @@
 -- counters; and the line of the first action that differs between two texts of actions.
 -- Assumes nothing.
 use Rattle.std.specs.Prelude.{ℕ, ◌+◌, List, [], ◌∷◌, length, take}
-use Rattle.answer.specs.CodePushed.{Put}
 use Rattle.board_builder.specs.BoardBuilder.{record_size}
 use Rattle.roll_text.specs.Number.{number_text}
 use Rattle.differences_text.specs.Differences.{start_differences, action_difference, lines_text}
 use Rattle.roll_reader.specs.declared.Checked.{Checked}
 use Rattle.differences.specs.CodeEntries.{text_numbers}
-
--- a text put behind the first n bytes of what is lent, whose length stays: r is where it ends
-abbrev pub PutIn : List ℕ → ℕ → List ℕ → List ℕ → ℕ → Type 0
-PutIn old n text new r = Put (length old) old n text new r
 
 -- the 68 numbers that a roll has in front
 abbrev pub start_of : List ℕ → List ℕ

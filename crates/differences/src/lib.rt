@@ -2,115 +2,94 @@
 // that differs.
 #![tactic(auto)]
 
-ghost use Rattle.std.specs.Prelude.{◌≡◌, ◌+◌, ◌*◌, ◌≤◌, ◌<◌, length, drop, IfSome};
-ghost use Rattle.decimal.specs.Decimal.{decimal};
+ghost use Rattle.std.specs.Prelude.{◌≡◌, ◌++◌, ◌+◌, ◌*◌, ◌≤◌, ◌<◌, length, drop, IfSome};
 ghost use Rattle.board_builder.specs.BoardBuilder.{record_size};
 ghost use Rattle.game_rules.specs.Limits.{limits};
 ghost use Rattle.roll_text.specs.Number.{number_text};
 ghost use Rattle.differences_text.specs.Differences.{difference, start_key, if_differs, action_key, pair_text, line_text, lines_text};
 ghost use Rattle.differences_text.specs.Calls.{differences_answer, differences_room};
+ghost use Rattle.differences_text.specs.Promises.{longest};
 ghost use Rattle.differences.specs.CodeEntries.{entry_size, entry_number, two_groups, three_groups, same_entry};
-ghost use Rattle.differences.specs.CodeTexts.{PutIn, start_lines, counted_lines, action_line, actions_at};
+ghost use Rattle.differences.specs.CodeTexts.{start_lines, counted_lines, action_line, actions_at};
+
+mod text;
 
 use answer::{ACCEPTED, Answer, byte_at, rest};
 use board_builder::RECORD_SIZE;
-use differences_text::MAX_DIFFERENCES;
 use roll_reader::Checked;
+use text::Text;
 
 // A move's code in a roll.
 const MOVE_CODE: u8 = 2;
 
-// Puts a word behind the first `n` bytes and hands back where it ends, as the functions below do with their texts.
-fn push_word(bytes: &mut [u8], n: usize, word: &[u8]) -> usize
-    requires { n + length word.now ≤ length bytes.old }
-    ensures { PutIn bytes.old n word.now bytes.new result }
-{
-    let written = answer::write_text(word, &mut bytes[n..]);
-    n + written.value as usize
-}
-
-// A number in decimal. No one function with the one above: each is one call of another crate's writer, and a closure for it would be longer.
-fn push_number(bytes: &mut [u8], n: usize, number: u64) -> usize
-    requires { n + length (decimal number) ≤ length bytes.old }
-    ensures { PutIn bytes.old n (decimal number) bytes.new result }
-{
-    let written = decimal::to_string(number, &mut bytes[n..]);
-    n + written.value as usize
-}
-
 // What stands behind a key: ` X Y` and a newline.
-fn push_pair(bytes: &mut [u8], n: usize, x: u64, y: u64) -> usize
-    requires { n + length (pair_text x y) ≤ length bytes.old }
-    ensures { PutIn bytes.old n (pair_text x y) bytes.new result }
+fn push_pair(text: &mut Text, x: u64, y: u64)
+    requires { length text.old + length (pair_text x y) ≤ longest }
+    ensures { text.new ≡ text.old ++ pair_text x y }
 {
-    bytes[n] = b' ';
-    let a = push_number(bytes, n + 1, x);
-    bytes[a] = b' ';
-    let b = push_number(bytes, a + 1, y);
-    bytes[b] = b'\n';
-    b + 1
+    text.push(b" ");
+    text.push_number(x);
+    text.push(b" ");
+    text.push_number(y);
+    text.push(b"\n");
 }
 
 // The key of number `i` of a start.
-fn push_key(bytes: &mut [u8], n: usize, i: usize) -> usize
-    requires { n + length (start_key i) ≤ length bytes.old }
-    ensures { PutIn bytes.old n (start_key i) bytes.new result }
+fn push_key(text: &mut Text, i: usize)
+    requires { length text.old + length (start_key i) ≤ longest }
+    ensures { text.new ≡ text.old ++ start_key i }
 {
     match i {
-        0..64 => push_number(bytes, n, i as u64),
-        64 => push_word(bytes, n, b"side"),
-        65 => push_word(bytes, n, b"white"),
-        66 => push_word(bytes, n, b"black"),
-        67 => push_word(bytes, n, b"ep"),
-        68 => push_word(bytes, n, b"half"),
-        _ => push_word(bytes, n, b"full"),
+        0..64 => text.push_number(i as u64),
+        64 => text.push(b"side"),
+        65 => text.push(b"white"),
+        66 => text.push(b"black"),
+        67 => text.push(b"ep"),
+        68 => text.push(b"half"),
+        _ => text.push(b"full"),
     }
 }
 
 // The line of number `i` of two starts, or nothing if they are equal there.
-fn push_start(bytes: &mut [u8], n: usize, i: usize, x: u64, y: u64) -> usize
-    requires { n + length (lines_text (if_differs (start_key i) x y)) ≤ length bytes.old }
-    ensures { PutIn bytes.old n (lines_text (if_differs (start_key i) x y)) bytes.new result }
+fn push_start(text: &mut Text, i: usize, x: u64, y: u64)
+    requires { length text.old + length (lines_text (if_differs (start_key i) x y)) ≤ longest }
+    ensures { text.new ≡ text.old ++ lines_text (if_differs (start_key i) x y) }
 {
     if x == y {
-        return n;
+        return;
     }
-    let behind = push_key(bytes, n, i);
-    push_pair(bytes, behind, x, y)
+    push_key(text, i);
+    push_pair(text, x, y);
 }
 
 // The lines of two starts' 68 numbers before the counters, which a roll has in front, one byte per number.
-fn push_starts(first: &[u8], second: &[u8], bytes: &mut [u8]) -> usize
+fn push_starts(text: &mut Text, first: &[u8], second: &[u8])
     requires record_size_in_bounds { (record_size ≤ length first.now) × (record_size ≤ length second.now) }
-    requires second_in_bounds { length (start_lines first.now second.now) ≤ length bytes.old }
-    ensures { PutIn bytes.old 0 (start_lines first.now second.now) bytes.new result }
+    requires text_in_bounds { length text.old + length (start_lines first.now second.now) ≤ longest }
+    ensures { text.new ≡ text.old ++ start_lines first.now second.now }
 {
-    let mut n: usize = 0;
     for i in 0..RECORD_SIZE {
-        n = push_start(bytes, n, i, first[i] as u64, second[i] as u64);
+        push_start(text, i, first[i] as u64, second[i] as u64);
     }
-    n
 }
 
 // The lines of two starts' counters.
-fn push_counters(bytes: &mut [u8], n: usize, game: Checked, other: Checked) -> usize
-    requires { n + length (counted_lines game other) ≤ length bytes.old }
-    ensures { PutIn bytes.old n (counted_lines game other) bytes.new result }
+fn push_counters(text: &mut Text, game: Checked, other: Checked)
+    requires { length text.old + length (counted_lines game other) ≤ longest }
+    ensures { text.new ≡ text.old ++ counted_lines game other }
 {
-    let behind = push_start(
-        bytes,
-        n,
+    push_start(
+        text,
         RECORD_SIZE,
         game.half_moves as u64,
         other.half_moves as u64,
     );
     push_start(
-        bytes,
-        behind,
+        text,
         RECORD_SIZE + 1,
         game.full_moves as u64,
         other.full_moves as u64,
-    )
+    );
 }
 
 // How many bytes the action at the front of a text takes.
@@ -200,56 +179,48 @@ fn same_entry(text: &[u8], other: &[u8]) -> Option<usize>
 }
 
 // The line of action `i`.
-fn push_action(bytes: &mut [u8], n: usize, i: usize, x: u64, y: u64) -> usize
-    requires { n + length (line_text (difference (action_key i) x y)) ≤ length bytes.old }
-    ensures { PutIn bytes.old n (line_text (difference (action_key i) x y)) bytes.new result }
+fn push_action(text: &mut Text, i: usize, x: u64, y: u64)
+    requires { length text.old + length (line_text (difference (action_key i) x y)) ≤ longest }
+    ensures { text.new ≡ text.old ++ line_text (difference (action_key i) x y) }
 {
-    let a = push_word(bytes, n, b"action ");
-    let b = push_number(bytes, a, i as u64);
-    push_pair(bytes, b, x, y)
+    text.push(b"action ");
+    text.push_number(i as u64);
+    push_pair(text, x, y);
 }
 
 // The line of the first action that differs, or nothing: of the first `counted` of a text and the first `other` of another.
-fn push_actions(
-    bytes: &mut [u8],
-    n: usize,
-    first: &[u8],
-    counted: usize,
-    second: &[u8],
-    other: usize,
-) -> usize
+fn push_actions(text: &mut Text, first: &[u8], counted: usize, second: &[u8], other: usize)
     requires counted_bound { (counted ≤ 10000) × (other ≤ 10000) }
-    requires second_in_bounds { n + length (action_line counted first.now other second.now) ≤ length bytes.old }
-    ensures { PutIn bytes.old n (action_line counted first.now other second.now) bytes.new result }
+    requires text_in_bounds { length text.old + length (action_line counted first.now other second.now) ≤ longest }
+    ensures { text.new ≡ text.old ++ action_line counted first.now other second.now }
 {
     let mut at: usize = 0;
     let mut to: usize = 0;
     for i in 0..counted {
-        let text = rest(first, at);
+        let left = rest(first, at);
         if other <= i {
-            return push_action(bytes, n, i, entry_number(text), 0);
+            return push_action(text, i, entry_number(left), 0);
         }
         let against = rest(second, to);
-        if let Some(same) = same_entry(text, against) {
+        if let Some(same) = same_entry(left, against) {
             at += same;
             to += same;
             continue;
         }
-        let x = entry_number(text);
+        let x = entry_number(left);
         let y = entry_number(against);
         if x != y {
-            return push_action(bytes, n, i, x, y);
+            return push_action(text, i, x, y);
         }
-        at += entry_size(text);
+        at += entry_size(left);
         to += entry_size(against);
     }
     if counted < other {
-        return push_action(bytes, n, counted, 0, entry_number(rest(second, to)));
+        push_action(text, counted, 0, entry_number(rest(second, to)));
     }
-    n
 }
 
-// How many bytes a number of one or two groups takes in a roll.
+// How many bytes a number of one or two groups takes in a roll. Not roll_writer's `number_length`: crates.txt doesn't let this crate know that one.
 fn number_size(number: u64) -> usize
     requires { number < 16384 }
     ensures { (result ≡ length (number_text number)) × (result ≤ 2) }
@@ -285,16 +256,15 @@ pub fn differences(first: &[u8], second: &[u8], out: &mut [u8]) -> Answer
     if other.number != ACCEPTED {
         return answer::refused(other.number);
     }
-    let mut text = [0u8; MAX_DIFFERENCES];
-    let numbers = push_starts(first, second, &mut text);
-    let start = push_counters(&mut text, numbers, game, other);
-    let all = push_actions(
+    let mut text = Text::new();
+    push_starts(&mut text, first, second);
+    push_counters(&mut text, game, other);
+    push_actions(
         &mut text,
-        start,
         actions_text(first, game),
         game.actions as usize,
         actions_text(second, other),
         other.actions as usize,
     );
-    answer::write_text(&text[..all], out)
+    answer::write_text(text.as_bytes(), out)
 }

@@ -1,5 +1,5 @@
 // A mark for each byte of a text: in its low half how many places the byte takes in the quick walk (places.rt), in its high half a piece's code, 0 for a digit,
-// 13 for a slash, 15 for any other byte.
+// 13 for a slash, 15 for any other byte. A byte and no Option, as the definition `byte_mark` has it: both halves of it are added and compared as numbers.
 ghost use Rattle.std.specs.Prelude.{◌≡◌, set};
 ghost use Rattle.fen_text.specs.Placement.{signs};
 ghost use Rattle.fen_reader.specs.CodeMarks.{byte_mark, mark_all};

@@ -12,7 +12,7 @@ fn position_of(s: &[u8], b: u8) -> Option<usize>
     s.iter().position(|x| *x == b)
 }
 
-// The place of the first `b`, or the length where there is none.
+// The place of the first `b`, or the length where there is none, as the definition `place_of` has it.
 pub(crate) fn find(s: &[u8], b: u8) -> usize
     ensures { result ≡ place_of b s.now }
 {
@@ -83,7 +83,7 @@ pub(crate) fn rights(token: &[u8]) -> Sides
     }
 }
 
-// The en passant file, from 1, or 0 for none.
+// The en passant file, from 1, or 0 for none, as a host's record holds it (C interface).
 pub(crate) fn en_passant(token: &[u8]) -> u8
     ensures { result ≡ en_passant_of token.now }
 {
@@ -93,7 +93,7 @@ pub(crate) fn en_passant(token: &[u8]) -> u8
     }
 }
 
-// What one to four digits say.
+// What one to four digits say. By hand: std's parse takes a sign too.
 pub(crate) fn counter(token: &[u8]) -> Option<u16>
     ensures { SomeIff result (counter_of token.now ≤ last_count) (counter_of token.now) }
 {

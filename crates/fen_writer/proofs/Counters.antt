@@ -1,7 +1,7 @@
 -- A counter's digits, as the code pushes them, and the end of a text.
 -- Assumes nothing.
 use mathlib.Core.Path.{◌≡◌, sym, ap, ◌∙◌}
-use mathlib.Core.List.{List, [], ◌∷◌, ◌++◌, append_assoc, append-nil}
+use mathlib.Core.List.{List, [], ◌∷◌, ◌++◌}
 use Prim.Native.Nat.{ℕ, ◌+◌, ◌/◌, ◌%◌, ◌≤◌, ◌<◌}
 use native.Mathlib.Decide.{dec_le}
 use native.Mathlib.Omega.{arith}
@@ -11,7 +11,7 @@ use Rattle.board_builder.specs.declared.BoardBuilder.{BoardBuilder}
 use Rattle.board_builder.specs.BoardBuilder.{last_count}
 use Rattle.decimal.specs.Decimal.{decimal}
 use Rattle.decimal.proofs.Digits.{decimal_one, decimal_more}
-use Rattle.fen_text.specs.Write.{ranks_text, side_letter, rights_text, en_passant_text, tail_with, tail_text, fen_text}
+use Rattle.fen_text.specs.Write.{tail_text, fen_text}
 use Rattle.fen_writer.specs.CodeTexts.{text_with}
 use Rattle.fen_writer.proofs.Parts.{letter_if}
 
@@ -67,17 +67,6 @@ counter_is n top = go (dec_le n 9) (dec_le n 99) (dec_le n 999)
         let y : 99 < n = omega arith in
         let z : 999 < n = omega arith in
         simp (lt-ltb 9 n x, lt-ltb 99 n y, lt-ltb 999 n z) (sym (four_digits n z top))
-
--- what is put behind all but the counters
-tail_ends : (b : BoardBuilder) (end : List ℕ) → tail_with b [] ++ end ≡ tail_with b end
-tail_ends b end =
-    let rights : List ℕ = rights_text b.white_castle_rights b.black_castle_rights in
-    let square : List ℕ = en_passant_text b.side_to_move b.en_passant in
-    ap (λ (s : List ℕ). 32 ∷ side_letter b.side_to_move ∷ 32 ∷ s)
-    (append_assoc rights (32 ∷ (square ++ [])) end ∙ ap (λ (s : List ℕ). rights ++ (32 ∷ (s ++ end))) (append-nil square))
-
-pub text_ends : (b : BoardBuilder) (end : List ℕ) → (ranks_text 8 b.pieces ++ tail_with b []) ++ end ≡ ranks_text 8 b.pieces ++ tail_with b end
-text_ends b end = append_assoc (ranks_text 8 b.pieces) (tail_with b []) end ∙ ap (λ (s : List ℕ). ranks_text 8 b.pieces ++ s) (tail_ends b end)
 
 -- the counters of a record's key
 pub fen_text_with : (b : BoardBuilder) → fen_text b ≡ text_with b 0 1

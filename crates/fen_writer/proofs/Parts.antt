@@ -6,7 +6,7 @@ use mathlib.Core.Bool.{Bool, true, cond}
 use mathlib.Core.List.{List, [], ◌∷◌, ◌++◌}
 use Prim.Native.Nat.{ℕ, zero, suc, ◌+◌, ◌-◌, ◌/◌, ◌%◌, ◌≤◌, ◌<◌}
 use native.Mathlib.Omega.{arith}
-use lib.Dec.{eqb, eqb-suc-zero, lit<, lit≤}
+use lib.Dec.{eqb, eqb-suc-zero, lit<}
 use lib.ListN.{length}
 use borrow.Author.Tests.{eq-eqb, ne_eqb}
 use Rattle.answer.specs.Numbers.{same}
@@ -18,7 +18,6 @@ use Rattle.fen_text.specs.Write.{rights_text, en_passant_text}
 use Rattle.board_builder.specs.declared.BoardBuilder.{BoardBuilder}
 use Rattle.board_builder.specs.BoardBuilder.{in_range}
 use Rattle.board_builder.proofs.Ranges.{in_range_lem}
-use Rattle.fen_text.proofs.Cases.{cond_both}
 use Rattle.fen_text.proofs.Lengths.{rights_long, en_passant_long}
 use Rattle.answer.specs.CodePushed.{Put}
 use Rattle.answer.proofs.Pushes.{put_both, put_as}
@@ -26,12 +25,6 @@ use Rattle.answer.proofs.Pushes.{put_both, put_as}
 -- one letter where its test holds
 abbrev pub letter_if : Bool → ℕ → List ℕ
 letter_if there b = cond there (b ∷ []) []
-
--- which is at most one byte
-pub letter_most : (there : Bool) (b : ℕ) {old new : List ℕ} {n r : ℕ} → Put 91 old n (letter_if there b) new r → r ≤ n + 1
-letter_most there b p =
-    let one = cond_both (λ (s : List ℕ). length s ≤ 1) there {x = b ∷ []} {y = []} (lit≤ tt) (lit≤ tt) in
-    omega (arith, p.pushed.count)
 
 -- the four letters that hold, and `-` where there is none
 abbrev four_text : ℕ → ℕ → List ℕ

@@ -18,9 +18,6 @@ pub record Ranks (pieces new : List ℕ) (n left : ℕ) : Type 0 where
   pub bytes : take n new ++ ranks_text left pieces ≡ ranks_text 8 pieces
   pub long : length new ≡ 91
 
-pub ranks_start : (pieces old : List ℕ) → length old ≡ 91 → Ranks pieces old 0 8
-ranks_start pieces old e = record { count = omega arith; bytes = refl; long = e }
-
 slash : (k : ℕ) → slash_text k ≡ cond (ltb 0 k) (47 ∷ []) []
 unfolding slash_text
 slash zero = refl

@@ -31,7 +31,7 @@ use Rattle.game_rules.specs.Rules.{Call, make_move, offer_draw, accept_draw, dec
 use Rattle.game_rules.specs.Rules.{comes_after}
 use Rattle.game_rules.specs.Rules.{own_checks, room_for, answer}
 use Rattle.game_rules.specs.Good.{history_of, sound, is_good}
-use Rattle.game_rules.specs.Calls.{long_enough, log_check, call_answer, counts}
+use Rattle.game_rules.specs.Calls.{long_enough, log_check, call_answer}
 use Rattle.game_rules.proofs.Checks.{none_refuses, refusals_joined, test_held, current_in_range, accepted_number}
 use Rattle.game_rules.proofs.Decide.{sound_good}
 use Rattle.game_rules.proofs.Log.{current_is, actions_at_lem, moves_at_lem, result_is, offer_is}

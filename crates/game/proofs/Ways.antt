@@ -3,12 +3,13 @@
 use mathlib.Core.Path.{◌≡◌, refl, ap, ap₂, sym, ◌∙◌}
 use mathlib.Core.Bool.{Bool, true, false, cond, not, ◌&&◌}
 use mathlib.Core.List.{List, [], ◌∷◌, ◌++◌}
-use Prim.Native.Nat.{ℕ, ◌+◌, ◌*◌, ◌≤◌, ◌<◌}
+use Prim.Native.Nat.{ℕ, zero, suc, ◌+◌, ◌*◌, ◌≤◌, ◌<◌}
 use native.Mathlib.Omega.{arith}
 use lib.ListN.{length, drop, get_or}
 use native.Mathlib.Numerals.{add-one}
 use lib.Dec.{eqb, leb, ltb}
 use borrow.Author.Tests.{eq-eqb, ne_eqb, eqb-true, eqb-false, lt-ltb, le-ltb, lt-leb, le-leb}
+use Rattle.std.specs.Prelude.{Ok, Err}
 use Rattle.answer.specs.declared.Answer.{Answer}
 use Rattle.answer.specs.Answer.{accepted, refused, game_over, log_full, not_listed, wrong_side, wrong_record, part_too_short, write_answer, write_bytes}
 use Rattle.answer.specs.Parts.{item, written}
@@ -37,7 +38,7 @@ use Rattle.game_rules.proofs.Checks.{first_refuses, first_passes}
 use Rattle.game_rules.proofs.Log.{result_is}
 use Rattle.game_rules.proofs.Rulings.{claim_is}
 use Rattle.game.proofs.Answers.{Ready, log_ready, move_is}
-use Rattle.game.specs.CodeAnswers.{moves_on_to, open_check, other_answer, other_counts, other_actions}
+use Rattle.game.specs.CodeAnswers.{check_of, moves_on_to, open_check, other_answer, other_counts, other_actions}
 
 -- a check, found by its number
 pub refused_by : (a x : ℕ) (l : List ℕ) → x ≡ a → (x ≡ 0 → ⊥) → x ≡ first_refusal (a ∷ l)
@@ -65,28 +66,49 @@ only a x e = go (eqb a 0) refl
     go true f = e ∙ eqb-true a 0 f
     go false f = e
 
--- a call without a move, answered a
-module _ (a x n m : ℕ) (acts : List ℕ) (action : Action) (r : Counts) (e : x ≡ a) where
-  pub other_refused : (x ≡ 0 → ⊥) → r ≡ counts x n m → (r ≡ other_counts a n m) × (acts ≡ other_actions a acts n action)
-  other_refused some given = rw (ne_eqb a 0 (λ z. some (e ∙ z))) (given ∙ ap (λ (k : ℕ). counts k n m) e, refl)
+-- a check's number as a result, there and back
+pub err_of : (a k : ℕ) → k ≡ a → (k ≡ 0 → ⊥) → Err k ≡ check_of a
+unfolding check_of
+err_of zero k e some = absurd (some e)
+err_of (suc a) k e some = ap Err e
 
-  pub other_accepted : (w : List ℕ) → x ≡ 0 → r ≡ counts 0 (n + 1) m → w ≡ written acts (action_size * n) (action_bytes action)
+pub ok_of : (a : ℕ) → 0 ≡ a → Ok tt ≡ check_of a
+unfolding check_of
+ok_of zero e = refl
+ok_of (suc a) e = absurd (omega (arith, e))
+
+pub refused_of : (a k : ℕ) → check_of a ≡ Err k → (k ≡ a) × (k ≡ 0 → ⊥)
+unfolding check_of
+refused_of zero k e = let z : ◌≡◌ {A = ℕ} 0 1 = cc in absurd (omega arith)
+refused_of (suc a) k e = let f : k ≡ suc a = cc in (f, λ z. omega (arith, f, z))
+
+pub passed_of : (a : ℕ) (u : Unit {0}) → check_of a ≡ Ok u → a ≡ 0
+unfolding check_of
+passed_of zero u e = refl
+passed_of (suc a) u e = let z : ◌≡◌ {A = ℕ} 0 1 = cc in absurd (omega arith)
+
+-- a call without a move, answered a
+module _ (a n m : ℕ) (acts : List ℕ) (action : Action) (r : Counts) where
+  pub other_refused : (x : ℕ) → x ≡ a → (x ≡ 0 → ⊥) → r ≡ counts x n m → (r ≡ other_counts a n m) × (acts ≡ other_actions a acts n action)
+  other_refused x e some given = rw (ne_eqb a 0 (λ z. some (e ∙ z))) (given ∙ ap (λ (k : ℕ). counts k n m) e, refl)
+
+  pub other_accepted : (w : List ℕ) → a ≡ 0 → r ≡ counts 0 (n + 1) m → w ≡ written acts (action_size * n) (action_bytes action)
       → (r ≡ other_counts a n m) × (w ≡ other_actions a acts n action)
-  other_accepted w z given wrote = rw (sym e ∙ z) (given, wrote)
+  other_accepted w z given wrote = rw z (given, wrote)
 
 -- a move, answered a
-module _ (a x n m k : ℕ) (acts ps : List ℕ) (p : Position) (r : Counts) (e : x ≡ a) where
-  pub move_refused : (x ≡ 0 → ⊥) → r ≡ counts x n m
+module _ (a n m k : ℕ) (acts ps : List ℕ) (p : Position) (r : Counts) where
+  pub move_refused : (x : ℕ) → x ≡ a → (x ≡ 0 → ⊥) → r ≡ counts x n m
       → (r ≡ counts_after a n m (make_move k p)) × ((acts ≡ actions_after a acts n (make_move k p)) × (ps ≡ positions_after a ps m (make_move k p)))
   unfolding counts_after actions_after positions_after
-  move_refused some given = rw (ne_eqb a 0 (λ z. some (e ∙ z))) (given ∙ ap (λ (j : ℕ). counts j n m) e, (refl, refl))
+  move_refused x e some given = rw (ne_eqb a 0 (λ z. some (e ∙ z))) (given ∙ ap (λ (j : ℕ). counts j n m) e, (refl, refl))
 
-  pub move_accepted : (v w : List ℕ) → x ≡ 0 → r ≡ counts 0 (n + 1) (m + 1) → v ≡ written acts (action_size * n) (action_bytes (MakeMove (move_of k)))
+  pub move_accepted : (v w : List ℕ) → a ≡ 0 → r ≡ counts 0 (n + 1) (m + 1) → v ≡ written acts (action_size * n) (action_bytes (MakeMove (move_of k)))
       → w ≡ written ps (position_size * (m + 1)) (position_bytes p)
       → (r ≡ counts_after a n m (make_move k p)) × ((v ≡ actions_after a acts n (make_move k p)) × (w ≡ positions_after a ps m (make_move k p)))
   unfolding counts_after actions_after positions_after
   move_accepted v w z given acted placed =
-      rw (sym e ∙ z) (given, (acted, placed ∙ ap (λ (j : ℕ). written ps (position_size * j) (position_bytes p)) (add-one m)))
+      rw z (given, (acted, placed ∙ ap (λ (j : ℕ). written ps (position_size * j) (position_bytes p)) (add-one m)))
 
 -- a refused start, answered a
 module _ (a x : ℕ) (ps : List ℕ) (p : Position) (r : Counts) (e : x ≡ a) where
@@ -124,35 +146,35 @@ module _ (acts ps : List ℕ) (n m x : ℕ) (e : x ≡ log_check limits acts ps 
       (held (eqb (result_at acts ps n m) 0) game_over 0 [] (eq-eqb (result_at acts ps n m) 0 (sym f ∙ y)) none_left_lem)
 
 -- then the call's own check, for a call without a move, then 13
-module _ (acts ps : List ℕ) (n m x : ℕ) (action : Action) (e : x ≡ open_check acts ps n m) where
+module _ (acts ps : List ℕ) (n m : ℕ) (action : Action) where
   abbrev full : List ℕ
   full = unless (ltb n limits.most_actions) log_full ∷ []
 
   abbrev own : ℕ
   own = other_check acts ps n m action
 
-  pub other_closed : (x ≡ 0 → ⊥) → x ≡ other_answer acts ps n m action
+  pub other_closed : (x : ℕ) → x ≡ open_check acts ps n m → (x ≡ 0 → ⊥) → x ≡ other_answer acts ps n m action
   unfolding other_answer
-  other_closed some = refused_by (open_check acts ps n m) x (own ∷ full) e some
+  other_closed x e some = refused_by (open_check acts ps n m) x (own ∷ full) e some
 
-  pub other_own : (y : ℕ) → x ≡ 0 → y ≡ own → (y ≡ 0 → ⊥) → y ≡ other_answer acts ps n m action
+  pub other_own : (y : ℕ) → open_check acts ps n m ≡ 0 → y ≡ own → (y ≡ 0 → ⊥) → y ≡ other_answer acts ps n m action
   unfolding other_answer
-  other_own y z f some = passed_by (open_check acts ps n m) x y (own ∷ full) e z (refused_by own y full f some)
+  other_own y z f some = passed_by (open_check acts ps n m) _ y (own ∷ full) refl z (refused_by own y full f some)
 
-  pub other_full : (y : ℕ) → x ≡ 0 → y ≡ own → y ≡ 0 → limits.most_actions ≤ n → log_full ≡ other_answer acts ps n m action
+  pub other_full : (y : ℕ) → open_check acts ps n m ≡ 0 → y ≡ own → y ≡ 0 → limits.most_actions ≤ n → log_full ≡ other_answer acts ps n m action
   unfolding other_answer
   other_full y z f u h =
-      passed_by (open_check acts ps n m) x log_full (own ∷ full) e z
+      passed_by (open_check acts ps n m) _ log_full (own ∷ full) refl z
       (passed_by own y log_full full f u (failed (ltb n limits.most_actions) log_full [] refl (le-ltb _ _ h)))
 
-  pub other_passed : (y : ℕ) → x ≡ 0 → y ≡ own → y ≡ 0 → n < limits.most_actions → 0 ≡ other_answer acts ps n m action
+  pub other_passed : (y : ℕ) → open_check acts ps n m ≡ 0 → y ≡ own → y ≡ 0 → n < limits.most_actions → 0 ≡ other_answer acts ps n m action
   unfolding other_answer
   other_passed y z f u h =
-      passed_by (open_check acts ps n m) x 0 (own ∷ full) e z
+      passed_by (open_check acts ps n m) _ 0 (own ∷ full) refl z
       (passed_by own y 0 full f u (held (ltb n limits.most_actions) log_full 0 [] (lt-ltb _ _ h) none_left_lem))
 
 -- then 11, 5 or 6, 12, 24, 13 for move k to position q
-module _ (acts ps : List ℕ) (n m k x : ℕ) (q : Position) (e : x ≡ open_check acts ps n m) where
+module _ (acts ps : List ℕ) (n m k : ℕ) (q : Position) where
   abbrev lists : Bool
   lists = lists_move (item position_size ps m) k
 
@@ -183,12 +205,12 @@ module _ (acts ps : List ℕ) (n m k x : ℕ) (q : Position) (e : x ≡ open_che
   of_row : (v : ℕ) → v ≡ first_refusal (open_check acts ps n m ∷ row) → v ≡ answer
   of_row v f = f ∙ sym (move_is acts ps n m k q)
 
-  pub move_closed : (x ≡ 0 → ⊥) → x ≡ answer
-  move_closed some = of_row x (refused_by (open_check acts ps n m) x row e some)
+  pub move_closed : (x : ℕ) → x ≡ open_check acts ps n m → (x ≡ 0 → ⊥) → x ≡ answer
+  move_closed x e some = of_row x (refused_by (open_check acts ps n m) x row e some)
 
-  module _ (z : x ≡ 0) where
+  module _ (z : open_check acts ps n m ≡ 0) where
     opened : (v : ℕ) → v ≡ first_refusal row → v ≡ answer
-    opened v f = of_row v (passed_by (open_check acts ps n m) x v row e z f)
+    opened v f = of_row v (passed_by (open_check acts ps n m) _ v row refl z f)
 
     pub move_unlisted : lists ≡ false → not_listed ≡ answer
     move_unlisted f = opened not_listed (failed lists not_listed (position_check q ∷ later) refl f)

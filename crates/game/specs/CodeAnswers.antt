@@ -1,6 +1,6 @@
 -- The checks of the calls, in their order, read off the bytes.
 -- Assumes nothing.
-use Rattle.std.specs.Prelude.{Bool, cond, ◌&&◌, List, [], ◌∷◌, ℕ, ◌+◌, ◌*◌, eqb, ltb}
+use Rattle.std.specs.Prelude.{Bool, cond, ◌&&◌, List, [], ◌∷◌, ℕ, zero, suc, ◌+◌, ◌*◌, eqb, ltb, Result, Ok, Err}
 use Rattle.answer.specs.Answer.{game_over, log_full}
 use Rattle.answer.specs.Parts.{written}
 use Rattle.board_builder.specs.declared.BoardBuilder.{BoardBuilder}
@@ -14,6 +14,11 @@ use Rattle.game_rules.specs.Limits.{limits}
 use Rattle.game_rules.specs.Rules.{unless, first_refusal}
 use Rattle.game_rules.specs.Calls.{log_check, counts}
 use Rattle.good_log.specs.CodeSteps.{other_check}
+
+-- a check's number as a result: 0 passes, and any other is the refusal
+unfoldable pub check_of : ℕ → Result (Unit {0}) ℕ
+check_of zero = Ok tt
+check_of (suc k) = Err (suc k)
 
 -- a board is the one after a move from the record at the front of some bytes, its counters too
 unfoldable pub moves_on_to : List ℕ → ℕ → BoardBuilder → Bool

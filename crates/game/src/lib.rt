@@ -19,7 +19,7 @@ ghost use Rattle.game_rules.specs.Calls.{
   result_answer,
   claim_answer,
 };
-ghost use Rattle.game.specs.CodeAnswers.{moves_on_to, open_check, other_answer, other_counts, other_actions};
+ghost use Rattle.game.specs.CodeAnswers.{check_of, moves_on_to, open_check, other_answer, other_counts, other_actions};
 
 use action::{ACTION_SIZE, Action};
 use answer::{
@@ -41,36 +41,33 @@ fn counts(number: u64, n: usize, m: usize) -> Counts
     }
 }
 
-// 16, 9, then 10.
-fn open_check(acts: &[u8], ps: &[u8], n: usize, m: usize) -> u64
-    ensures { result ≡ open_check acts.now ps.now n m }
+// 16, 9, then 10. A refusal is a number of document 01's table, here and below, since it goes into `Counts` (C interface).
+fn open_check(acts: &[u8], ps: &[u8], n: usize, m: usize) -> Result<(), u64>
+    ensures { result ≡ check_of (open_check acts.now ps.now n m) }
 {
     let log = good_log::check(acts, ps, n, m);
     if log != ACCEPTED {
-        return log;
+        return Err(log);
     }
     if ending::result(acts, ps, n, m) != GOES_ON {
-        return GAME_OVER;
+        return Err(GAME_OVER);
     }
-    ACCEPTED
+    Ok(())
 }
 
 // Then the call's own checks, for a call without a move, then 13.
-fn other_answer(acts: &[u8], ps: &[u8], n: usize, m: usize, action: Action) -> u64
-    ensures { result ≡ other_answer acts.now ps.now n m action }
+fn other_answer(acts: &[u8], ps: &[u8], n: usize, m: usize, action: Action) -> Result<(), u64>
+    ensures { result ≡ check_of (other_answer acts.now ps.now n m action) }
 {
-    let open = open_check(acts, ps, n, m);
-    if open != ACCEPTED {
-        return open;
-    }
+    open_check(acts, ps, n, m)?;
     let own = good_log::other_check(acts, ps, n, m, action);
     if own != ACCEPTED {
-        return own;
+        return Err(own);
     }
     if MAX_ACTIONS <= n {
-        return LOG_FULL;
+        return Err(LOG_FULL);
     }
-    ACCEPTED
+    Ok(())
 }
 
 fn put_action(acts: &mut [u8], n: usize, action: Action)
@@ -94,8 +91,7 @@ fn act(acts: &mut [u8], ps: &[u8], n: usize, m: usize, action: Action) -> Counts
     ensures counts { result ≡ other_counts (other_answer acts.old ps.now n m action) n m }
     ensures actions { acts.new ≡ other_actions (other_answer acts.old ps.now n m action) acts.old n action }
 {
-    let number = other_answer(acts, ps, n, m, action);
-    if number != ACCEPTED {
+    if let Err(number) = other_answer(acts, ps, n, m, action) {
         return counts(number, n, m);
     }
     put_action(acts, n, action);
@@ -165,34 +161,31 @@ fn move_answer(
     next: BoardBuilder,
     in_check: u8,
     list: &[u16],
-) -> u64
-    ensures { result ≡ call_answer limits acts.now ps.now n m (make_move x (position_given next in_check list.now)) }
+) -> Result<(), u64>
+    ensures { result ≡ check_of (call_answer limits acts.now ps.now n m (make_move x (position_given next in_check list.now))) }
 {
-    let open = open_check(acts, ps, n, m);
-    if open != ACCEPTED {
-        return open;
-    }
+    open_check(acts, ps, n, m)?;
     let p = position::at(ps, m);
     if !stored_position::lists(p, x) {
-        return NOT_LISTED;
+        return Err(NOT_LISTED);
     }
     let number = stored_position::check(next, in_check, list);
     if number != ACCEPTED {
-        return number;
+        return Err(number);
     }
     if next.side_to_move == answer::byte_at(p, SIDE_AT) {
-        return WRONG_SIDE;
+        return Err(WRONG_SIDE);
     }
     if !moves_on_to(p, x as u16, next) {
-        return WRONG_RECORD;
+        return Err(WRONG_RECORD);
     }
     if MAX_ACTIONS <= n {
-        return LOG_FULL;
+        return Err(LOG_FULL);
     }
     if MAX_MOVES <= m {
-        return LOG_FULL;
+        return Err(LOG_FULL);
     }
-    ACCEPTED
+    Ok(())
 }
 
 // Plays move `x` of the current list; `next`, `in_check` and `list` are the position after it.
@@ -218,8 +211,7 @@ pub fn make_move(
 {
     let actions = n as usize;
     let moves = m as usize;
-    let number = move_answer(acts, ps, actions, moves, x, next, in_check, list);
-    if number != ACCEPTED {
+    if let Err(number) = move_answer(acts, ps, actions, moves, x, next, in_check, list) {
         return counts(number, actions, moves);
     }
     put_action(

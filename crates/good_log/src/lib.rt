@@ -31,6 +31,9 @@ fn colour_check(colour: u8) -> u64
     number_unless(colour <= action::BLACK, OUT_OF_RANGE)
 }
 
+// In this crate, and in `ending`, `claim`, `laws` and `game`, both parts and both counts are handed on by themselves, as a host lends and says them (C
+// interface): each definition of game_rules' specs/Calls.antt is stated over the four.
+
 // An action's own checks (not a move's) after the first `n` actions with position `m` on the board: 5 for offers and resignations, otherwise 14 or 15.
 pub fn other_check(acts: &[u8], ps: &[u8], n: usize, m: usize, action: Action) -> u64
     ensures { result ≡ other_check acts.now ps.now n m action }

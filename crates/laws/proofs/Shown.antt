@@ -1,7 +1,7 @@
 -- What the code shows for a log that passed its checks is what the rules say about its history; and the Laws' query.
 -- Assumes nothing.
 use mathlib.Core.Path.{◌≡◌, refl, sym, ap, ◌∙◌}
-use mathlib.Core.Bool.{Bool, true, false, cond, not, true≢false}
+use mathlib.Core.Bool.{Bool, true, false, cond, not}
 use mathlib.Core.List.{List, ◌∷◌}
 use Prim.Native.Nat.{ℕ, suc, ◌+◌, ◌*◌, ◌-◌, ◌≤◌, ◌<◌}
 use native.Mathlib.Omega.{arith}
@@ -108,14 +108,6 @@ module _ (acts ps : List ℕ) (n m : ℕ) (passed : log_check limits acts ps n m
       rw (counted, by-laws, one, two, there, ← equals_are_shown h)
 
 -- ---- the steps of the code
-
-pub not_going : (g : Bool) (x : ℕ) → not g ≡ true → 0 ≡ cond g x 0
-not_going true x e = absurd (true≢false (sym e))
-not_going false x e = refl
-
-pub is_going : (g : Bool) (x y : ℕ) → not g ≡ false → y ≡ x → y ≡ cond g x 0
-is_going true x y e f = f
-is_going false x y e f = absurd (true≢false e)
 
 pub at_most : (t : Bool) (x r : ℕ) → r ≡ cond t x 0 → r ≤ x
 at_most true x r e = omega arith

@@ -31,7 +31,7 @@ pub struct Ruled {
 }
 
 // The position from which the Laws' count runs: back from the last action to one that moved a pawn or captured. `claim::begun_by` walks back so too; one
-// function for both would take the test as a closure and hand out an action and a position, of which each wants one, and is no plainer.
+// function for both would be public and take the test as a closure, which asks a `requires` of a public function (a rule of the project).
 fn since(acts: &[u8], ps: &[u8], n: usize) -> usize
     ensures { result ≡ laws_since acts.now ps.now n }
 {

@@ -87,22 +87,6 @@ pub step_under : (s t : ℕ) → s < 64 → t < 64 → line_step s t < 64
 unfolding step_test line_step upper lower distance files_apart ranks_apart apart
 step_under s t h k = ltb-true (line_step s t) 64 (holds (step_test s t) (belows step_test 64 64 tt s t h k))
 
-pub upper_under : (s t : ℕ) → s < 64 → t < 64 → upper s t < 64
-unfolding upper
-upper_under s t h k = go (ltb s t)
-  where
-    go : (u : Bool) → cond u t s < 64
-    go true = k
-    go false = h
-
-pub lower_under : (s t : ℕ) → s < 64 → t < 64 → lower s t < 64
-unfolding lower
-lower_under s t h k = go (ltb s t)
-  where
-    go : (u : Bool) → cond u s t < 64
-    go true = h
-    go false = k
-
 -- what is on a line is elsewhere
 pub straight_apart : (s t : ℕ) → file_or_rank s t ≡ true → s ≡ t → ⊥
 unfolding file_or_rank

@@ -47,16 +47,7 @@ unfolding filled_from kept_if
 room_turn room count m rest true = refl
 room_turn room count m rest false = refl
 
--- the length of the room stays, and the number stays under 257
-pub put_length : (room : List ℕ) (count m : ℕ) (t : Bool) → length (cond t (put_at room count m) room) ≡ length room
-unfolding put_at
-put_length room count m false = refl
-put_length room count m true = go (leb 255 count)
-  where
-    go : (u : Bool) → length (cond u room (set room count m)) ≡ length room
-    go true = refl
-    go false = length-set room count m
-
+-- the number stays under 257
 pub counted_under : (count : ℕ) (t : Bool) → count < 257 → cond t (counted_to count) count < 257
 unfolding counted_to
 counted_under count false h = h

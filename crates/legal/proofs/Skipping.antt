@@ -1,14 +1,12 @@
 -- The numbers that are stepped over, none of which begins at a man of the side to move, are no legal moves.
 -- Assumes nothing.
-use mathlib.Core.Path.{◌≡◌, refl, ap, sym, subst, ◌∙◌}
+use mathlib.Core.Path.{◌≡◌, refl, ap, sym, ◌∙◌}
 use mathlib.Core.Bool.{Bool, true, false, cond, not, ◌&&◌}
 use mathlib.Core.List.{List, ◌∷◌}
 use Prim.Native.Nat.{ℕ, zero, suc, ◌+◌, ◌-◌, ◌/◌, ◌%◌, ◌≤◌, ◌<◌}
 use native.Mathlib.Omega.{arith}
-use lib.Dec.{eqb, ltb}
-use lib.ListN.{length, set, get_or, length-set}
-use lib.Seq.{get_or-set_same, get_or-set_other}
-use borrow.Author.Tests.{eqb-true, eqb-false, ltb-true, ltb-false}
+use lib.Dec.{ltb}
+use borrow.Author.Tests.{ltb-true, ltb-false}
 use Rattle.square.specs.Piece.{kind_of, man_on}
 use Rattle.board_builder.specs.declared.BoardBuilder.{BoardBuilder}
 use Rattle.move_rules.specs.After.{squares_after}
@@ -26,67 +24,6 @@ pub record Marking (squares : List ℕ) (side s step : ℕ) (steps : List ℕ) :
   pub some : 1 ≤ step
   pub within : s + step ≤ 65
   pub none : (x : ℕ) → s ≤ x → x + 1 < s + step → of_side side (man_on squares x) ≡ false
-
-pub mark_start : (squares : List ℕ) (side : ℕ) (steps : List ℕ) → length steps ≡ 64 → Marking squares side 64 1 steps
-mark_start squares side steps h = record {
-  under = omega arith;
-  done = record { long = h; each = λ s p q. absurd (omega (arith, p, q)) };
-  some = omega arith;
-  within = omega arith;
-  none = λ x p q. absurd (omega (arith, p, q));
-}
-
-marked_each : (squares : List ℕ) (side s step : ℕ) (steps : List ℕ) → 0 < s → Marking squares side s step steps
-    → (x : ℕ) → s - 1 ≤ x → x < 64 → Skips squares side x (get_or (set steps (s - 1) step) x 0)
-marked_each squares side s step steps h w x p q = go (eqb x (s - 1)) refl
-  where
-    here : Skips squares side (s - 1) step
-    here = record {
-      some = w.some;
-      within = omega (arith, w.within, h);
-      none = λ y a b. w.none y (omega (arith, a, h)) (omega (arith, b, h));
-    }
-
-    go : (u : Bool) → eqb x (s - 1) ≡ u → Skips squares side x (get_or (set steps (s - 1) step) x 0)
-    go true e =
-        let z = eqb-true x (s - 1) e in
-        subst (λ (y : ℕ). Skips squares side y (get_or (set steps (s - 1) step) y 0)) (sym z)
-        (subst (λ (y : ℕ). Skips squares side (s - 1) y) (sym (get_or-set_same steps (s - 1) step 0 (omega (arith, w.done.long, w.under, h)))) here)
-    go false e =
-        let n = eqb-false x (s - 1) e in
-        subst (λ (y : ℕ). Skips squares side x y) (sym (get_or-set_other steps (s - 1) x step 0 n)) (w.done.each x (omega (arith, p, n)) q)
-
-step_some : (own : Bool) (step : ℕ) → 1 ≤ cond own 1 (step + 1)
-step_some true step = omega arith
-step_some false step = omega arith
-
-step_within : (own : Bool) (s step : ℕ) → 0 < s → s ≤ 64 → s + step ≤ 65 → s - 1 + cond own 1 (step + 1) ≤ 65
-step_within true s step h k l = omega (arith, h, k)
-step_within false s step h k l = omega (arith, h, l)
-
-pub mark_turn : (squares : List ℕ) (side s step : ℕ) (steps : List ℕ) (own : Bool) (r : ℕ) → 0 < s → Marking squares side s step steps
-    → own ≡ of_side side (man_on squares (s - 1)) → r ≡ cond own 1 (step + 1) → Marking squares side (s - 1) r (set steps (s - 1) step)
-mark_turn squares side s step steps own r h w e z = record {
-  under = omega (arith, w.under);
-  done = record { long = length-set steps (s - 1) step ∙ w.done.long; each = marked_each squares side s step steps h w };
-  some = subst (λ (y : ℕ). 1 ≤ y) (sym z) (step_some own step);
-  within = subst (λ (y : ℕ). s - 1 + y ≤ 65) (sym z) (step_within own s step h w.under w.within);
-  none = λ x p q. none own e x p (subst (λ (y : ℕ). x + 1 < s - 1 + y) z q);
-}
-  where
-    none : (u : Bool) → u ≡ of_side side (man_on squares (s - 1)) → (x : ℕ) → s - 1 ≤ x → x + 1 < s - 1 + cond u 1 (step + 1)
-        → of_side side (man_on squares x) ≡ false
-    none true f x p q = absurd (omega (arith, p, q))
-    none false f x p q = at (eqb x (s - 1)) refl
-      where
-        at : (v : Bool) → eqb x (s - 1) ≡ v → of_side side (man_on squares x) ≡ false
-        at true g = ap (λ (y : ℕ). of_side side (man_on squares y)) (eqb-true x (s - 1) g) ∙ sym f
-        at false g = w.none x (omega (arith, p, eqb-false x (s - 1) g)) (omega (arith, q, h))
-
-pub mark_end : (squares : List ℕ) (side s step : ℕ) (steps : List ℕ) → s ≤ 0 → Marking squares side s step steps → SkipsFrom squares side 0 steps
-mark_end squares side s step steps h w =
-    let z : s ≡ 0 = omega (arith, h) in
-    subst (λ (y : ℕ). SkipsFrom squares side y steps) z w.done
 
 -- ---- what is stepped over
 

@@ -15,14 +15,6 @@ use Rattle.square.specs.Square.{square_of}
 use Rattle.move_rules.specs.After.{colour_step, castles, corner, passed_over, rook_moved, takes_in_passing}
 use Rattle.move_rules.specs.After.{pawn_removed, set_down, squares_after}
 
-pub step_most : (man : ℕ) → colour_step man ≤ 6
-unfolding colour_step
-step_most man = go (leb man 6)
-  where
-    go : (t : Bool) → cond {A = ℕ} t 0 6 ≤ 6
-    go true = omega arith
-    go false = omega arith
-
 pub corner_below : (source dest : ℕ) → source < 64 → corner source dest < 64
 unfolding corner
 corner_below source dest h = go (ltb source dest)

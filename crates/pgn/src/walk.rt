@@ -28,6 +28,7 @@ pub(crate) struct Reached {
 }
 
 // Where a whole walk is over: at a move, by its start, its length and its level; or at its end, with the moves counted, an answer number and its offset.
+// The number may be 0, as the definition `ended` of `pgn_text` has it: both ways to end are one case there, and so here.
 #[derive(Clone, Copy)]
 pub(crate) enum Stopped {
     Found(usize, usize, u64),
@@ -100,7 +101,8 @@ fn variation(s: &[u8], at: usize, level: u64, moves: usize, stop: u64) -> Result
     })
 }
 
-// The walk from a place, level by level outward. Brackets opened before the place count as opened there.
+// The walk from a place, level by level outward. Brackets opened before the place count as opened there. The turns
+// end with the text or a refusal and not only with the levels, so that a `for` over levels would still be left by a `return` in each case.
 pub(crate) fn outward(s: &[u8], offset: usize, level: u64, stop: u64) -> Stopped
     requires offset_in_bounds { offset ≤ length s.now }
     requires level_le_deepest { level ≤ deepest }

@@ -292,10 +292,6 @@ module _ (counts : ℕ → Bool) (alike : ℕ → ℕ → Bool) where
   unfolding repeats_below
   repeats_none = refl
 
--- the buckets of the first lines are those of fewer
-pub bucketed_less : (records told buckets : List ℕ) (m n : ℕ) → m ≤ n → Bucketed records told buckets n → Bucketed records told buckets m
-bucketed_less records told buckets m n h b = record { long = b.long; each = λ k l. b.each k (omega arith) }
-
 -- where all links are none, no line is linked
 none_at : (n k : ℕ) → get_or {A = ℕ} (replicate n 0) k 0 ≡ 0
 none_at zero k = refl

@@ -70,7 +70,7 @@ fn is_code(code: u64) -> bool
     matches!(code, 4 | 5 | 6 | 8 | 10 | 11)
 }
 
-// The action at the front of a text; `full` means that no more moves may come.
+// The action at the front of a text; `full` means that no more moves may come. It and `counted` below are values, as the definitions take them.
 fn read_entry(s: &[u8], full: bool) -> Result<Entry, u64>
     ensures { result ≡ read_entry full s.now }
 {

@@ -1,17 +1,21 @@
 -- The writer's loops over the actions, and the text that they make.
 -- Assumes nothing.
-use mathlib.Core.Path.{◌≡◌, refl, ap, sym, ◌∙◌}
+use mathlib.Core.Path.{◌≡◌, refl, ap, ap₂, sym, ◌∙◌}
 use mathlib.Core.List.{List, [], ◌∷◌, ◌++◌, append_assoc, append-nil}
 use Prim.Native.Nat.{ℕ, zero, suc, ◌+◌, ◌*◌, ◌/◌, ◌%◌, ◌-◌, ◌≤◌, ◌<◌}
 use native.Mathlib.Omega.{arith}
-use lib.ListN.{length, drop, set, length-append}
-use lib.Seq.{drop-drop}
+use lib.ListN.{length, take, drop, get_or, set, length-append, drop_of_length-le}
+use lib.Seq.{drop-drop, get_or-take}
+use Rattle.std.specs.Simd.{first_chunks}
+use Rattle.std.proofs.lemmas.List.{at_drop_more}
 use borrow.Author.Tests.{eq-eqb, ne_eqb}
-use Rattle.answer.specs.Parts.{written}
-use Rattle.answer.proofs.Parts.{written_none, set_written, written_next, written_behind, length_written}
+use Rattle.answer.specs.Parts.{item, written}
+use Rattle.answer.proofs.Parts.{set_written, written_next, written_behind, length_written}
+use Rattle.position.proofs.Chunks.{chunk_item}
 use Rattle.roll_text.specs.Number.{number_text}
 use Rattle.roll_text.proofs.Numbers.{groups_last, groups_more}
 use Rattle.roll_text.specs.Roll.{code_of, kind_at, colour_at, move_number_at, action_text, actions_text}
+use Rattle.roll_writer.specs.CodeSizes.{text_of, are_first}
 
 -- ---- one action
 
@@ -97,44 +101,71 @@ text_end n i s h = let z : n - i ≡ 0 = omega arith in rw z
 pub whole : (n : ℕ) → n - 0 ≡ n
 whole n = omega arith
 
+-- ---- the actions of a part, as arrays
+
+-- the first n of more
+pub take_chunks : (n m : ℕ) (part : List ℕ) → n ≤ m → take n (first_chunks 4 m part) ≡ first_chunks 4 n part
+take_chunks zero m part h = refl
+take_chunks (suc n) zero part h = absurd (omega arith)
+take_chunks (suc n) (suc m) part h = ap (λ (l : List (List ℕ)). take 4 part ∷ l) (take_chunks n m (drop 4 part) (omega arith))
+
+front_text : (bs : List ℕ) → action_text (kind_at (take 4 bs)) (colour_at (take 4 bs)) (move_number_at (take 4 bs))
+    ≡ action_text (kind_at bs) (colour_at bs) (move_number_at bs)
+front_text bs =
+    rw (get_or-take 4 bs 0 0 (omega arith), get_or-take 4 bs 1 0 (omega arith), get_or-take 4 bs 2 0 (omega arith), get_or-take 4 bs 3 0 (omega arith)) refl
+
+chunks_text : (n : ℕ) (part : List ℕ) → text_of (first_chunks 4 n part) ≡ actions_text n part
+unfolding text_of actions_text
+chunks_text zero part = refl
+chunks_text (suc n) part =
+    ap₂ (λ (f g : List ℕ). f ++ g) (front_text part) (chunks_text n (drop 4 part))
+
+module _ (actions : List (List ℕ)) (part : List ℕ) (first : are_first actions part) where
+  pub text_is : (n : ℕ) → length actions ≡ n → text_of actions ≡ actions_text n part
+  text_is n e = ap text_of first ∙ chunks_text (length actions) part ∙ ap (λ (k : ℕ). actions_text k part) e
+
+  pub item_there : (i : ℕ) (d : List ℕ) → i < length actions → get_or actions i d ≡ item 4 part i
+  item_there i d h = ap (λ (l : List (List ℕ)). get_or l i d) first ∙ chunk_item 4 (length actions) i part d h
+
 -- ---- the text so far, and what is to come
 
--- p ++ the others is the whole text
-pub record SoFar (part l out : List ℕ) (from n i at : ℕ) : Type 0 where
+-- with the others behind it, it is the whole text
+pub record SoFar (actions : List (List ℕ)) (l out : List ℕ) (from i at : ℕ) : Type 0 where
   pub done : List ℕ
-  pub split : actions_text n part ≡ done ++ actions_text (n - i) (drop (4 * i) part)
+  pub split : text_of actions ≡ done ++ text_of (drop i actions)
   pub here : at ≡ from + length done
   pub bytes : out ≡ written l from done
 
-pub so_far_none : (part l : List ℕ) (from n : ℕ) → SoFar part l l from n 0 from
-so_far_none part l from n = record { done = []; split = rw (whole n); here = omega arith; bytes = written_none l from }
+module _ (actions : List (List ℕ)) (l out : List ℕ) (from i at : ℕ) (d : List ℕ) (w : SoFar actions l out from i at) where
+  abbrev pub t : List ℕ
+  t = get_or actions i d
 
-pub so_far_fits : (part l out : List ℕ) (from n i at : ℕ) (t : List ℕ) → SoFar part l out from n i at → i < n → t ≡ drop (4 * i) part → from + length
-    (actions_text n part) ≤ length l
-    → (at + length (action_text (kind_at t) (colour_at t) (move_number_at t)) ≤ length l) × (length out ≡ length l)
-so_far_fits part l out from n i at t w h r fits =
-    let a = ap length w.split ∙ length-append w.done (actions_text (n - i) (drop (4 * i) part)) in
-    let b = length_turn n i part t h r in
-    (omega (arith, a, b, w.here), ap length w.bytes ∙ length_written l from w.done (omega (arith, a)))
+  abbrev pub x : List ℕ
+  x = action_text (kind_at t) (colour_at t) (move_number_at t)
 
-pub so_far_more : (part l out new : List ℕ) (from n i at : ℕ) (t : List ℕ) → SoFar part l out from n i at → i < n → (r : t ≡ drop (4 * i) part) → from
-    + length (actions_text n part) ≤ length l
-    → new ≡ written out at (action_text (kind_at t) (colour_at t) (move_number_at t))
-    → SoFar part l new from n (i + 1) (at + length (action_text (kind_at t) (colour_at t) (move_number_at t)))
-so_far_more part l out new from n i at t w h r fits e =
-    let x : List ℕ = action_text (kind_at t) (colour_at t) (move_number_at t) in
-    let a = ap length w.split ∙ length-append w.done (actions_text (n - i) (drop (4 * i) part)) in
-    let b = length_turn n i part t h r in
-    let d = length-append w.done x in
-    record {
+  module _ (h : i < length actions) (fits : from + length (text_of actions) ≤ length l) where
+    turn : text_of (drop i actions) ≡ x ++ text_of (drop (i + 1) actions)
+    unfolding text_of
+    turn = at_drop_more text_of actions i d h
+
+    long : length (text_of actions) ≡ length w.done + (length x + length (text_of (drop (i + 1) actions)))
+    long = ap length w.split ∙ length-append w.done (text_of (drop i actions))
+        ∙ ap (λ (k : ℕ). length w.done + k) (ap length turn ∙ length-append x (text_of (drop (i + 1) actions)))
+
+    pub so_far_fits : (at + length x ≤ length l) × (length out ≡ length l)
+    so_far_fits = (omega (arith, long, w.here), ap length w.bytes ∙ length_written l from w.done (omega (arith, long)))
+
+    pub so_far_more : (new : List ℕ) → new ≡ written out at x → SoFar actions l new from (i + 1) (at + length x)
+    so_far_more new e = record {
       done = w.done ++ x;
-      split = w.split ∙ ap (λ (y : List ℕ). w.done ++ y) (text_turn n i part t h r) ∙ sym (append_assoc w.done x (actions_text (n - (i + 1)) (drop
-          (4 * (i + 1)) part)));
-      here = omega (arith, d, w.here);
-      bytes = e ∙ ap (λ (y : List ℕ). written y at x) w.bytes ∙ written_behind l from w.done (omega (arith, a)) at x (sym w.here) (omega
-          (arith, a, b, w.here));
+      split = w.split ∙ ap (λ (y : List ℕ). w.done ++ y) turn ∙ sym (append_assoc w.done x (text_of (drop (i + 1) actions)));
+      here = omega (arith, length-append w.done x, w.here);
+      bytes = e ∙ ap (λ (y : List ℕ). written y at x) w.bytes ∙ written_behind l from w.done (omega (arith, long)) at x (sym w.here)
+          (omega (arith, long, w.here));
     }
 
-pub so_far_all : (part l out : List ℕ) (from n i at : ℕ) → SoFar part l out from n i at → n ≤ i → out ≡ written l from (actions_text n part)
-so_far_all part l out from n i at w h =
-    w.bytes ∙ ap (written l from) (sym (w.split ∙ ap (λ (y : List ℕ). w.done ++ y) (text_end n i (drop (4 * i) part) h) ∙ append-nil w.done))
+pub so_far_all : (actions : List (List ℕ)) (l out : List ℕ) (from i at : ℕ) → SoFar actions l out from i at → length actions ≤ i
+    → out ≡ written l from (text_of actions)
+unfolding text_of
+so_far_all actions l out from i at w h =
+    w.bytes ∙ ap (written l from) (sym (w.split ∙ ap (λ (y : List ℕ). w.done ++ y) (ap text_of (drop_of_length-le actions h)) ∙ append-nil w.done))

@@ -7,35 +7,29 @@ use Prim.Native.Nat.{ℕ, zero, suc, ◌+◌, ◌*◌, ◌-◌, ◌≤◌, ◌<�
 use native.Mathlib.Omega.{arith}
 use mir.Val.{bool_byte}
 use lib.Dec.{eqb, leb, ltb}
-use lib.ListN.{length, take, drop, get_or, length-append, length-drop}
-use lib.Seq.{get_or-drop}
+use lib.ListN.{length, take, drop, get_or, length-append}
+use lib.Seq.{get_or-take}
+use Rattle.std.proofs.lemmas.List.{take-take}
 use borrow.Author.Tests.{eqb-true, eqb-false, eq-eqb, ne_eqb, le-ltb, ltb-true, ltb-false}
 use Rattle.std.specs.Prelude.{Option, Some, None, Result, Ok, Err}
 use Rattle.std.proofs.lemmas.Option.{cond_some, none-some}
 use Rattle.answer.specs.declared.Answer.{Answer}
 use Rattle.answer.specs.Answer.{refused}
+use Rattle.answer.proofs.Parts.{of_item}
 use Rattle.answer.proofs.Writes.{Written, write_refused}
-use Rattle.chess_move.specs.Number.{last_move, of_bytes}
+use Rattle.chess_move.specs.Number.{last_move}
 use Rattle.action.specs.Layout.{action_size, moves_here, action_of}
 use Rattle.actions.specs.Part.{is_held, actions_held}
 use Rattle.actions.proofs.Held.{held_none, held_turn, held_stop, held_all}
 use Rattle.roll_text.specs.Number.{number_text}
 use Rattle.roll_text.specs.Roll.{code_of, kind_at, colour_at, move_number_at, action_text, actions_text}
-use Rattle.roll_text.specs.Calls.{fields_at, moves_by_kind}
+use Rattle.roll_text.specs.Calls.{moves_by_kind}
 use Rattle.roll_text.proofs.ByFields.{action_in_range, held_fields, fields_here}
 use Rattle.roll_text.proofs.ByKind.{by_kind_turn}
 use Rattle.roll_text.proofs.Entries.{plain_here, code_range}
-use Rattle.roll_writer.specs.CodeSizes.{move_size, plain_size, size_at, actions_size, measured}
+use Rattle.roll_writer.specs.CodeSizes.{move_size, plain_size, size_at, actions_size, measured, are_first}
 use Rattle.roll_writer.proofs.Laws.{one_byte, two_bytes, three_bytes}
-use Rattle.roll_writer.proofs.Counting.{text_of_move, text_of_plain, length_turn, text_end, whole}
-
--- the fields at a place
-pub fields_of : (acts : List ℕ) (at pair : ℕ) → pair ≡ of_bytes (get_or acts (at + 2) 0) (get_or acts (at + 3) 0)
-    → record { kind = get_or acts at 0; colour = get_or acts (at + 1) 0; number = pair } ≡ fields_at (drop at acts)
-fields_of acts at pair e =
-    let here : at + 0 ≡ at = omega arith in
-    let a : get_or acts at 0 ≡ get_or (drop at acts) 0 0 = sym (get_or-drop at acts 0 0 ∙ ap (λ (i : ℕ). get_or acts i 0) here) in
-    rw (e, a, ← get_or-drop at acts 1 0, ← get_or-drop at acts 2 0, ← get_or-drop at acts 3 0) refl
+use Rattle.roll_writer.proofs.Counting.{text_of_move, text_of_plain, length_turn, text_end, whole, item_there}
 
 -- ---- at the front of some bytes
 
@@ -80,6 +74,19 @@ at_plain bs t h not is = rw is (go (is_held (action_of (take action_size bs))) r
         ∙ sym (ap length (text_of_plain (kind_at bs) (colour_at bs) (move_number_at bs) not)))
     go false e = refl
 
+-- four bytes are all that is looked at
+size_front : (bs : List ℕ) → size_at (take action_size bs) ≡ size_at bs
+unfolding size_at
+size_front bs =
+    let all : take 4 (take 4 bs) ≡ take 4 bs = take-take 4 4 bs (omega arith) in
+    rw (
+      all,
+      get_or-take 4 bs 0 0 (omega arith),
+      get_or-take 4 bs 1 0 (omega arith),
+      get_or-take 4 bs 2 0 (omega arith),
+      get_or-take 4 bs 3 0 (omega arith),
+    ) refl
+
 -- ---- one action after the other
 
 none_held : (bs : List ℕ) → size_at bs ≡ None → is_held (action_of (take action_size bs)) ≡ false
@@ -96,26 +103,28 @@ one_held : (bs : List ℕ) (size : ℕ) → size_at bs ≡ Some size
 unfolding size_at
 one_held bs size e = cond_some (is_held (action_of (take action_size bs))) (length (action_text (kind_at bs) (colour_at bs) (move_number_at bs))) size e
 
+pub size_there : (actions : List (List ℕ)) (acts : List ℕ) (first : are_first actions acts) (i : ℕ) (d : List ℕ) (r : Option ℕ) → i < length actions
+    → r ≡ size_at (get_or actions i d) → size_at (drop (4 * i) acts) ≡ r
+size_there actions acts first i d r h e = sym (e ∙ ap size_at (item_there actions acts first i d h) ∙ size_front (drop (4 * i) acts))
+
 -- the first i actions are held, and k is the length of their text
 pub record SizedSo (acts : List ℕ) (n i k : ℕ) : Type 0 where
   pub within : i ≤ n
-  pub most : k ≤ 4 * i
   pub held : actions_held acts i ≡ true
   pub long : length (actions_text n acts) ≡ k + length (actions_text (n - i) (drop (4 * i) acts))
 
 pub sized_none : (acts : List ℕ) (n : ℕ) → SizedSo acts n 0 0
 sized_none acts n =
-    record { within = omega arith; most = omega arith; held = held_none acts; long = rw (whole n) (omega arith) }
+    record { within = omega arith; held = held_none acts; long = rw (whole n) (omega arith) }
 
-pub sized_more : (acts : List ℕ) (n i k size : ℕ) → SizedSo acts n i k → i < n → size_at (drop (4 * i) acts) ≡ Some size → size ≤ 4
+pub sized_more : (acts : List ℕ) (n i k size : ℕ) → SizedSo acts n i k → i < n → size_at (drop (4 * i) acts) ≡ Some size
     → SizedSo acts n (i + 1) (k + size)
-sized_more acts n i k size w h e few =
+sized_more acts n i k size w h e =
     let bs : List ℕ = drop (4 * i) acts in
     let o = one_held bs size e in
     let t = length_turn n i acts bs h refl in
     record {
       within = omega arith;
-      most = omega (arith, w.most);
       held = held_turn acts i w.held o.0;
       long = omega (arith, w.long, t, o.1);
     }
@@ -145,33 +154,28 @@ moves_few acts (suc n) = go (eqb (get_or acts (action_size * n) 0) 1) (moves_few
 pub few_enough : (acts : List ℕ) (n most : ℕ) → n ≤ most → false ≡ ltb most (moves_by_kind acts n)
 few_enough acts n most h = sym (le-ltb most (moves_by_kind acts n) (omega (arith, moves_few acts n)))
 
--- the loop that counts them: k of the first i
-pub record KindsSo (acts : List ℕ) (n i k : ℕ) : Type 0 where
-  pub within : i ≤ n
-  pub most : k ≤ i
-  pub counted : k ≡ moves_by_kind acts i
-
-pub kinds_none : (acts : List ℕ) (n : ℕ) → KindsSo acts n 0 0
-unfolding moves_by_kind
-kinds_none acts n = record { within = omega arith; most = omega arith; counted = refl }
-
+-- the loop that counts them
 pub one_or_none : (t : Bool) → bool_byte t ≡ cond t 1 0
 one_or_none true = refl
 one_or_none false = refl
 
-one_most : (t : Bool) → cond t 1 0 ≤ 1
+pub one_most : (t : Bool) → cond t 1 0 ≤ 1
 one_most true = omega arith
 one_most false = omega arith
 
-pub kinds_more : (acts : List ℕ) (n i k one : ℕ) → KindsSo acts n i k → i < n → one ≡ cond (eqb (get_or acts (action_size * i) 0) 1) 1 0
-    → KindsSo acts n (i + 1) (k + one)
-kinds_more acts n i k one w h e =
+pub kinds_none : (acts : List ℕ) → 0 ≡ moves_by_kind acts 0
+unfolding moves_by_kind
+kinds_none acts = refl
+
+pub kinds_more : (actions : List (List ℕ)) (acts : List ℕ) (first : are_first actions acts) (i k one : ℕ) (d : List ℕ) → k ≡ moves_by_kind acts i
+    → i < length actions → one ≡ bool_byte (eqb (kind_at (get_or actions i d)) 1) → k + one ≡ moves_by_kind acts (i + 1)
+kinds_more actions acts first i k one d w h e =
     let next : i + 1 ≡ suc i = omega arith in
-    record {
-      within = omega arith;
-      most = omega (arith, w.most, e, one_most (eqb (get_or acts (action_size * i) 0) 1));
-      counted = omega (arith, w.counted, e, by_kind_turn acts i, ap (moves_by_kind acts) next);
-    }
+    let here : action_size * i + 0 ≡ action_size * i = omega arith in
+    let kind : kind_at (get_or actions i d) ≡ get_or acts (action_size * i) 0 =
+    ap kind_at (item_there actions acts first i d h) ∙ sym (of_item acts 4 i 0 (omega arith)) ∙ ap (λ (j : ℕ). get_or acts j 0) here in
+    let counts = e ∙ one_or_none _ ∙ ap (λ (j : ℕ). cond (eqb j 1) 1 0) kind in
+    omega (arith, w, counts, by_kind_turn acts i, ap (moves_by_kind acts) next)
 
 -- ---- bounds
 
@@ -182,9 +186,6 @@ small_number n h = go (ltb n 128) (ltb n 16384) refl refl
     go true u e f = omega (arith, one_byte n (ltb-true n 128 e))
     go false true e f = omega (arith, two_bytes n (ltb-false n 128 e) (ltb-true n 16384 f))
     go false false e f = omega (arith, three_bytes n (ltb-false n 16384 f) h)
-
-pub four_there : (acts : List ℕ) (at : ℕ) → at + 4 ≤ length acts → action_size ≤ length (drop at acts)
-four_there acts at h = rw (length-drop at acts) (omega arith)
 
 -- ---- what the measuring answers
 

@@ -1,6 +1,7 @@
 -- How many bytes an action takes in a roll, by one look at its four bytes: none where they hold no action in range.
 -- Assumes nothing.
-use Rattle.std.specs.Prelude.{ℕ, ◌+◌, ◌≤◌, ◌<◌, ◌≡◌, cond, List, ◌++◌, eqb, length, take, Option, Some, None, Result, Ok, Err}
+use Rattle.std.specs.Prelude.{ℕ, ◌+◌, ◌≤◌, ◌<◌, ◌≡◌, cond, List, [], ◌∷◌, ◌++◌, eqb, length, take, Option, Some, None, Result, Ok, Err}
+use Rattle.std.specs.Simd.{first_chunks}
 use Rattle.board_builder.specs.declared.BoardBuilder.{BoardBuilder}
 use Rattle.board_builder.specs.BoardBuilder.{record_size, numbers}
 use Rattle.action.specs.Layout.{action_size, moves_here, action_of}
@@ -25,6 +26,15 @@ plain_size bytes = cond (is_held (action_of bytes)) (Some 1) None
 -- for the action at the front of some bytes
 unfoldable pub size_at : List ℕ → Option ℕ
 size_at bs = cond (is_held (action_of (take action_size bs))) (Some (length (action_text (kind_at bs) (colour_at bs) (move_number_at bs)))) None
+
+-- the text of some actions, one after the other
+unfoldable pub text_of : List (List ℕ) → List ℕ
+text_of [] = []
+text_of (a ∷ more) = action_text (kind_at a) (colour_at a) (move_number_at a) ++ text_of more
+
+-- they are the first of a part
+abbrev pub are_first : List (List ℕ) → List ℕ → Type 0
+are_first actions part = actions ≡ first_chunks action_size (length actions) part
 
 -- the length of the text of the first n, or none if one of them is not an action in range
 unfoldable pub actions_size : ℕ → List ℕ → Option ℕ

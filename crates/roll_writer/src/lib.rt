@@ -1,21 +1,19 @@
 // Writes a game roll (document 02, orders 1 and 12).
 #![tactic(auto)]
 
-ghost use Rattle.std.specs.Prelude.{◌≡◌, true, cond, ◌+◌, ◌*◌, ◌≤◌, ◌<◌, eqb, ltb, length, drop, IfSome};
+ghost use Rattle.std.specs.Prelude.{◌≡◌, true, cond, ◌+◌, ◌*◌, ◌≤◌, ◌<◌, eqb, ltb, length, IfSome, ℕ, List};
 ghost use Rattle.answer.specs.Answer.{write_answer, write_bytes};
 ghost use Rattle.answer.specs.Parts.{written};
 ghost use Rattle.chess_move.specs.Number.{of_bytes};
 ghost use Rattle.board_builder.specs.BoardBuilder.{in_range};
 ghost use Rattle.game_rules.specs.Limits.{limits};
 ghost use Rattle.roll_text.specs.Number.{most_groups, reach, groups, number_text};
-ghost use Rattle.roll_text.specs.Roll.{code_of, action_text, actions_text};
+ghost use Rattle.roll_text.specs.Roll.{code_of, action_text};
 ghost use Rattle.roll_text.specs.Calls.{fields_at, moves_by_kind, write_check, game_text};
-ghost use Rattle.roll_writer.specs.CodeSizes.{Short, start_text, start_most, move_size, plain_size, size_at, actions_size, measured};
+ghost use Rattle.roll_writer.specs.CodeSizes.{Short, start_text, start_most, move_size, plain_size, size_at, actions_size, measured, text_of, are_first};
 
 use action::ACTION_SIZE;
-use answer::{
-    Answer, BAD_ROLL, LOG_FULL, OUT_OF_RANGE, OUTPUT_TOO_SHORT, PART_TOO_SHORT, front, rest,
-};
+use answer::{Answer, BAD_ROLL, LOG_FULL, OUT_OF_RANGE, OUTPUT_TOO_SHORT, PART_TOO_SHORT};
 use board_builder::{BoardBuilder, RECORD_SIZE};
 use chess_move::LAST_MOVE;
 use game_rules::{ACTIONS_LENGTH, MAX_ACTIONS, MAX_MOVES};
@@ -61,15 +59,22 @@ fn number_length(n: u64) -> usize
     3
 }
 
-// The action that begins at `at`.
-fn fields_at(acts: &[u8], at: usize) -> Fields
-    requires { at + 4 ≤ length acts.now }
-    ensures { result ≡ fields_at (drop at acts.now) }
+// The first `n` actions of the part, each an array from here on. What is asked is asked here alone: a host lends `acts` and says `n` (C interface).
+fn first_actions(acts: &[u8], n: usize) -> &[[u8; ACTION_SIZE]]
+    requires { 4 * n ≤ length acts.now }
+    ensures { are_first result.now acts.now × (length result.now ≡ n) }
 {
+    &acts.as_chunks::<ACTION_SIZE>().0[..n]
+}
+
+fn fields_of(action: &[u8; ACTION_SIZE]) -> Fields
+    ensures { result ≡ fields_at action.now }
+{
+    let [kind, colour, low, high] = *action;
     Fields {
-        kind: acts[at],
-        colour: acts[at + 1],
-        number: u16::from_le_bytes([acts[at + 2], acts[at + 3]]),
+        kind,
+        colour,
+        number: u16::from_le_bytes([low, high]),
     }
 }
 
@@ -98,28 +103,27 @@ fn plain_size(bytes: &[u8]) -> Option<usize>
     Some(1)
 }
 
-// How many bytes the text of the action that begins at `at` has, if it is an action in range.
-fn action_size(acts: &[u8], at: usize) -> Option<usize>
-    requires { at + 4 ≤ length acts.now }
-    ensures size { result ≡ size_at (drop at acts.now) }
+// How many bytes an action's text has, if it is an action in range.
+fn action_size(action: &[u8; ACTION_SIZE]) -> Option<usize>
+    ensures size { result ≡ size_at action.now }
     ensures most { IfSome result (λ k. k ≤ 4) }
 {
-    let f = fields_at(acts, at);
+    let f = fields_of(action);
     if f.kind == 1 {
         return move_size(f.colour, f.number);
     }
-    plain_size(front(rest(acts, at), ACTION_SIZE))
+    plain_size(action)
 }
 
-// The length of the text of `n` actions, if each of them is an action in range.
-fn actions_size(acts: &[u8], n: usize) -> Option<usize>
-    requires { (4 * n ≤ length acts.now) × (n ≤ limits.most_actions) }
-    ensures size { result ≡ actions_size n acts.now }
-    ensures most { IfSome result (λ k. k ≤ 4 * n) }
+// The length of the actions' text, if each of them is an action in range.
+fn actions_size(actions: &[[u8; ACTION_SIZE]]) -> Option<usize>
+    requires { length actions.now ≤ limits.most_actions }
+    ensures size { (acts : List ℕ) → are_first actions.now acts → result ≡ actions_size (length actions.now) acts }
+    ensures most { IfSome result (λ k. k ≤ 4 * length actions.now) }
 {
     let mut k: usize = 0;
-    for i in 0..n {
-        k += action_size(acts, ACTION_SIZE * i)?;
+    for action in actions {
+        k += action_size(action)?;
     }
     Some(k)
 }
@@ -160,35 +164,33 @@ fn put_text(out: &mut [u8], at: usize, f: Fields) -> usize
     put_number(out, at, code_of(f.kind, f.colour))
 }
 
-// That the part has `n` actions is asked here and of three functions more: `acts` and `n` are what a host lends and says (C interface).
-fn put_actions(acts: &[u8], n: usize, out: &mut [u8], from: usize)
-    requires { (4 * n ≤ length acts.now) × (from + length (actions_text n acts.now) ≤ length out.old) }
-    ensures { out.new ≡ written out.old from (actions_text n acts.now) }
+// Writes the actions' text, one right behind the other.
+fn put_actions(actions: &[[u8; ACTION_SIZE]], out: &mut [u8], from: usize)
+    requires { from + length (text_of actions.now) ≤ length out.old }
+    ensures { out.new ≡ written out.old from (text_of actions.now) }
 {
     let mut at = from;
-    for i in 0..n {
-        at = put_text(out, at, fields_at(acts, ACTION_SIZE * i));
+    for action in actions {
+        at = put_text(out, at, fields_of(action));
     }
 }
 
-// How many of the first `n` actions are of kind 1, whatever else their bytes say: 13 comes before 17.
-fn moves_by_kind(acts: &[u8], n: usize) -> usize
-    requires { 4 * n ≤ length acts.now }
-    ensures { result ≡ moves_by_kind acts.now n }
+// How many of the actions are of kind 1, whatever else their bytes say: 13 comes before 17.
+fn moves_by_kind(actions: &[[u8; ACTION_SIZE]]) -> usize
+    ensures { (acts : List ℕ) → are_first actions.now acts → result ≡ moves_by_kind acts (length actions.now) }
 {
     let mut k: usize = 0;
-    for i in 0..n {
-        k += usize::from(acts[ACTION_SIZE * i] == 1);
+    for action in actions {
+        k += usize::from(action[0] == 1);
     }
     k
 }
 
 // Up to as many actions as there may be moves, nothing needs to be counted.
-fn too_many_moves(acts: &[u8], n: usize) -> bool
-    requires { 4 * n ≤ length acts.now }
-    ensures { result ≡ ltb limits.most_moves (moves_by_kind acts.now n) }
+fn too_many_moves(actions: &[[u8; ACTION_SIZE]]) -> bool
+    ensures { (acts : List ℕ) → are_first actions.now acts → result ≡ ltb limits.most_moves (moves_by_kind acts (length actions.now)) }
 {
-    MAX_MOVES < n && MAX_MOVES < moves_by_kind(acts, n)
+    MAX_MOVES < actions.len() && MAX_MOVES < moves_by_kind(actions)
 }
 
 // How many bytes the text of a start has: one for each of 68 numbers, then the counters.
@@ -228,11 +230,11 @@ fn measure(b: BoardBuilder, acts: &[u8], n: u64) -> Result<u64, u64>
     if (MAX_ACTIONS as u64) < n {
         return Err(LOG_FULL);
     }
-    let count = n as usize;
-    if too_many_moves(acts, count) {
+    let actions = first_actions(acts, n as usize);
+    if too_many_moves(actions) {
         return Err(LOG_FULL);
     }
-    let size = actions_size(acts, count).ok_or(BAD_ROLL)?;
+    let size = actions_size(actions).ok_or(BAD_ROLL)?;
     Ok((start_size(b) + number_length(n) + size) as u64)
 }
 
@@ -243,7 +245,7 @@ fn put(b: BoardBuilder, acts: &[u8], n: usize, out: &mut [u8])
 {
     let behind = put_start(b, out);
     let at = put_number(out, behind, n as u64);
-    put_actions(acts, n, out, at);
+    put_actions(first_actions(acts, n), out, at);
 }
 
 // Writes the roll of a start and its first `n` actions to the front of `out`. Checks 16, 5, 13, 17, then 7.

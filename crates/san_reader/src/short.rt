@@ -1,10 +1,9 @@
 // Reads the commonest texts by their length: a square, with at most two bytes before it and at most a check sign behind it. Such a text needs no
 // reading from left to right, and so only few branches; any other is left to text.rt.
 ghost use Rattle.std.specs.Prelude.{◌≡◌, ◌≤◌, length};
-ghost use Rattle.san_text.specs.Place.{file_place, rank_place, square_at};
 ghost use Rattle.san_reader.specs.CodeShort.{short_two, short_three, pawn_takes, short_four, short_of, short_text};
 
-use crate::text::{is_check, piece_kind, place_from};
+use crate::text::{is_check, piece_kind, place_from, square_of};
 
 // What such a text says. Its square counts from 1; 0 says nothing about the text, as FormsAgree of specs/Promises.antt has it: no Option.
 #[derive(Clone, Copy)]
@@ -14,19 +13,6 @@ pub struct Short {
     pub rank: u8,
     pub takes: bool,
     pub square: u8,
-}
-
-// The square of two bytes, counted from 1, or 0 if they are not one, as `square_at` of san_text has it.
-fn square_of(a: u8, b: u8) -> u8
-    ensures { result ≡ square_at (file_place a) (rank_place b) }
-{
-    match a {
-        b'a'..=b'h' => match b {
-            b'1'..=b'8' => (b - b'1') * 8 + (a - b'a') + 1,
-            _ => 0,
-        },
-        _ => 0,
-    }
 }
 
 const NOTHING: Short = Short {

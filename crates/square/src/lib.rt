@@ -109,7 +109,7 @@ pub fn to_string(square: u8, out: &mut [u8]) -> Answer
     answer::write_text(&text, out)
 }
 
-// The FEN letter of a piece code of 1 to 12, 0 for any other number.
+// The FEN letter of a piece code of 1 to 12, 0 for any other number, as the definition `letter_of` has it.
 pub fn letter_of_piece(piece: u8) -> u8
     ensures { result ≡ letter_of piece }
 {
@@ -130,7 +130,8 @@ pub fn letter_of_piece(piece: u8) -> u8
     }
 }
 
-// The kind of man of a piece code, 1 to 6 whatever its colour, 0 for an empty square.
+// The kind of man of a piece code, 1 to 6 whatever its colour, 0 for an empty square. No `min` and no subtraction that stops: a black
+// man's code is 6 over its kind.
 pub fn kind_of(code: u8) -> u8
     ensures { result ≡ kind_of code }
 {

@@ -23,9 +23,6 @@ abbrev pub behind : ℕ → ℕ
 behind block = moves_at + 2 * (block - 1)
 
 -- the start of the loop over the first k entries, an iteration, and its end
-pub range_start : (n : ℕ) (s : List ℕ) (k : ℕ) → all_at_most n (moves_left s k 0) ≡ all_at_most n (moves_from s moves_at k)
-range_start n s k = let e : k - 0 ≡ k = omega arith in rw e
-
 pub range_turn : (n : ℕ) (s : List ℕ) (k a i : ℕ) → i < k
     → eqb (bit_or a (move_here s i - n)) 0 && all_at_most n (moves_left s k (i + 1)) ≡ eqb a 0 && all_at_most n (moves_left s k i)
 unfolding all_at_most
@@ -142,9 +139,6 @@ block_lists m s k block h n fits =
     block_among m s k block h n (both_left (all_at_most 0 (drop (moves_at + 2 * k) s)) _ fits) ∙ by_among s k m fits
 
 -- the start of the loop that looks for a move among the first k entries, an iteration, and its end
-pub look_start : (s : List ℕ) (m k : ℕ) → among m (moves_left s k 0) ≡ among m (moves_from s moves_at k)
-look_start s m k = let e : k - 0 ≡ k = omega arith in rw e
-
 pub look_turn : (s : List ℕ) (m k i : ℕ) (found : Bool) → i < k
     → (found || eqb (move_here s i) m) || among m (moves_left s k (i + 1)) ≡ found || among m (moves_left s k i)
 unfolding among

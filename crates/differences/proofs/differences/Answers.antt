@@ -1,11 +1,8 @@
 -- `differences` of lib.rt meets its contract: r ≡ differences_answer limits (now first.entry) (now second.entry) (length (now out.entry)); now (out
 -- .exit) ≡ differences_room limits (now first.entry) (now second.entry) (now out.entry).
 use Rattle.std.proofs.Common.{rules}
-use mathlib.Core.Path.{refl, sym, ◌∙◌}
-use lib.ListN.{replicate}
-use Rattle.answer.proofs.Pushes.{whole_count, whole_within}
-use Rattle.differences_text.specs.Promises.{longest}
-use Rattle.differences.proofs.Whole.{number_told, known, two_groups_lem, starts_asked, counters_asked, start_put, action_asked, both_put, whole_answer}
+use mathlib.Core.Path.{sym, ◌∙◌}
+use Rattle.differences.proofs.Whole.{number_told, known, two_groups_lem, starts_asked, long_enough, few, counters_asked, start_put, action_asked, whole_answer}
 use Rattle.differences.proofs.Whole.{same_answer, first_refused, second_refused}
 use Rattle.differences.proofs.differences.Goals as goal
 
@@ -38,85 +35,63 @@ returns-then-other-ne-ACCEPTED c =
     c.refused-then-other-ne-ACCEPTED.ensures at-if3.true (number_told a.first.now at-check.result at-check.ensures) at-if1.false
     (number_told a.second.now at-check2.result at-check2.ensures) in record { answer = whole.0; bytes = whole.1 }
 
-pub push_starts-numbers-requires : goal.push_starts-numbers-requires
-push_starts-numbers-requires c =
+pub push_starts-requires : goal.push_starts-requires
+push_starts-requires c =
     let a = c.args in
-    let at-check = c.check-game in
-    let at-if1 = c.if-game-ne-ACCEPTED in
-    let at-check2 = c.check-other in
-    let at-if3 = c.if-other-ne-ACCEPTED in
-    let one = known a.first.now at-check.result at-check.ensures (λ j. search rules) at-if1.false in
-    let two = known a.second.now at-check2.result at-check2.ensures (λ j. search rules) at-if3.false in
-    let whole = starts_asked a.first.now a.second.now at-check.result at-check2.result one two (replicate longest 0) refl in
-    record { record_size_in_bounds = whole.0; second_in_bounds = whole.1 }
+    let g = c.check-game in
+    let h = c.check-other in
+    let one = known a.first.now g.result g.ensures (λ j. search rules) c.if-game-ne-ACCEPTED.false in
+    let two = known a.second.now h.result h.ensures (λ j. search rules) c.if-other-ne-ACCEPTED.false in
+    record {
+      record_size_in_bounds = long_enough a.first.now a.second.now g.result h.result one two;
+      text_in_bounds = starts_asked a.first.now a.second.now g.result h.result one two _ c.new-text.ensures;
+    }
 
-pub push_counters-start-requires : goal.push_counters-start-requires
-push_counters-start-requires c =
+pub push_counters-requires : goal.push_counters-requires
+push_counters-requires c =
     let a = c.args in
-    let at-check = c.check-game in
-    let at-if1 = c.if-game-ne-ACCEPTED in
-    let at-check2 = c.check-other in
-    let at-if3 = c.if-other-ne-ACCEPTED in
-    let at-push-starts = c.push_starts-numbers in
-    let one = known a.first.now at-check.result at-check.ensures (λ j. search rules) at-if1.false in
-    let two = known a.second.now at-check2.result at-check2.ensures (λ j. search rules) at-if3.false in
-    counters_asked a.first.now a.second.now at-check.result at-check2.result one two (replicate longest 0) at-push-starts.new.bytes
-    at-push-starts.result refl at-push-starts.ensures
+    let g = c.check-game in
+    let h = c.check-other in
+    let one = known a.first.now g.result g.ensures (λ j. search rules) c.if-game-ne-ACCEPTED.false in
+    let two = known a.second.now h.result h.ensures (λ j. search rules) c.if-other-ne-ACCEPTED.false in
+    counters_asked a.first.now a.second.now g.result h.result one two _ _ c.new-text.ensures c.push_starts.ensures
 
 pub actions_text-requires : goal.actions_text-requires
 actions_text-requires c =
     let a = c.args in
-    let at-check = c.check-game in
-    let at-if1 = c.if-game-ne-ACCEPTED in
-    two_groups_lem a.first.now at-check.result
-    (known a.first.now at-check.result at-check.ensures (λ j. search rules) at-if1.false)
+    let g = c.check-game in
+    two_groups_lem a.first.now g.result (known a.first.now g.result g.ensures (λ j. search rules) c.if-game-ne-ACCEPTED.false)
 
 pub actions_text-requires-2 : goal.actions_text-requires-2
 actions_text-requires-2 c =
     let a = c.args in
-    let at-check2 = c.check-other in
-    let at-if3 = c.if-other-ne-ACCEPTED in
-    two_groups_lem a.second.now at-check2.result
-    (known a.second.now at-check2.result at-check2.ensures (λ j. search rules) at-if3.false)
+    let h = c.check-other in
+    two_groups_lem a.second.now h.result (known a.second.now h.result h.ensures (λ j. search rules) c.if-other-ne-ACCEPTED.false)
 
-pub push_actions-all-requires : goal.push_actions-all-requires
-push_actions-all-requires c =
+pub push_actions-requires : goal.push_actions-requires
+push_actions-requires c =
     let a = c.args in
-    let at-check = c.check-game in
-    let at-if1 = c.if-game-ne-ACCEPTED in
-    let at-check2 = c.check-other in
-    let at-if3 = c.if-other-ne-ACCEPTED in
-    let at-push-starts = c.push_starts-numbers in
-    let at-push-counters = c.push_counters-start in
-    let at-actions-text = c.actions_text in
-    let one = known a.first.now at-check.result at-check.ensures (λ j. search rules) at-if1.false in
-    let two = known a.second.now at-check2.result at-check2.ensures (λ j. search rules) at-if3.false in
-    let begun = start_put a.first.now a.second.now at-check.result at-check2.result one two (replicate longest 0)
-    at-push-starts.new.bytes at-push-starts.result refl at-push-starts.ensures at-push-counters.new.bytes at-push-counters.result
-    at-push-counters.ensures in
-    let whole = action_asked a.first.now a.second.now at-check.result at-check2.result one two _ _ at-actions-text.ensures c.actions_text-2.ensures
-    (replicate longest 0) at-push-counters.new.bytes at-push-counters.result refl begun in record { counted_bound = whole.0; second_in_bounds = whole.1 }
+    let g = c.check-game in
+    let h = c.check-other in
+    let one = known a.first.now g.result g.ensures (λ j. search rules) c.if-game-ne-ACCEPTED.false in
+    let two = known a.second.now h.result h.ensures (λ j. search rules) c.if-other-ne-ACCEPTED.false in
+    let begun = start_put a.first.now a.second.now g.result h.result one two _ _ c.new-text.ensures c.push_starts.ensures _ c.push_counters.ensures in
+    record {
+      counted_bound = few a.first.now a.second.now g.result h.result one two;
+      text_in_bounds =
+          action_asked a.first.now a.second.now g.result h.result one two _ _ c.actions_text.ensures c.actions_text-2.ensures _ begun;
+    }
 
 pub returns : goal.returns
 returns c =
     let a = c.args in
-    let at-check = c.check-game in
-    let at-if1 = c.if-game-ne-ACCEPTED in
-    let at-check2 = c.check-other in
-    let at-if3 = c.if-other-ne-ACCEPTED in
-    let at-push-starts = c.push_starts-numbers in
-    let at-push-counters = c.push_counters-start in
-    let at-actions-text = c.actions_text in
-    let at-actions-text2 = c.actions_text-2 in
-    let at-push-actions = c.push_actions-all in
-    let at-write-text = c.write_text in
-    let one = known a.first.now at-check.result at-check.ensures (λ j. search rules) at-if1.false in
-    let two = known a.second.now at-check2.result at-check2.ensures (λ j. search rules) at-if3.false in
-    let begun = start_put a.first.now a.second.now at-check.result at-check2.result one two (replicate longest 0)
-    at-push-starts.new.bytes at-push-starts.result refl at-push-starts.ensures at-push-counters.new.bytes at-push-counters.result
-    at-push-counters.ensures in
-    let whole = whole_answer a.first.now a.second.now at-check.result at-check2.result one two _ _ at-actions-text.ensures at-actions-text2.ensures
-    (replicate longest 0) at-push-counters.new.bytes at-push-counters.result refl begun at-push-actions.new.bytes at-push-actions.result
-    at-push-actions.ensures (sym (number_told a.first.now at-check.result at-check.ensures) ∙ at-if1.false)
-    (sym (number_told a.second.now at-check2.result at-check2.ensures) ∙ at-if3.false) a.out.now at-write-text.new.out
-    at-write-text.result at-write-text.ensures.answer at-write-text.ensures.bytes in record { answer = whole.0; bytes = whole.1 }
+    let g = c.check-game in
+    let h = c.check-other in
+    let one = known a.first.now g.result g.ensures (λ j. search rules) c.if-game-ne-ACCEPTED.false in
+    let two = known a.second.now h.result h.ensures (λ j. search rules) c.if-other-ne-ACCEPTED.false in
+    let begun = start_put a.first.now a.second.now g.result h.result one two _ _ c.new-text.ensures c.push_starts.ensures _ c.push_counters.ensures in
+    let written = c.write_text in
+    let whole = whole_answer a.first.now a.second.now g.result h.result one two _ _ c.actions_text.ensures c.actions_text-2.ensures _ begun
+    _ (c.as_bytes.ensures ∙ c.push_actions.ensures) (sym (number_told a.first.now g.result g.ensures) ∙ c.if-game-ne-ACCEPTED.false)
+    (sym (number_told a.second.now h.result h.ensures) ∙ c.if-other-ne-ACCEPTED.false) a.out.now written.new.out written.result
+    written.ensures.answer written.ensures.bytes in record { answer = whole.0; bytes = whole.1 }

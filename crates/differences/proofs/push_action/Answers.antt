@@ -1,35 +1,33 @@
--- `push_action` of lib.rt meets its contract: PutIn (now bytes.entry) n (line_text (difference (action_key i) x y)) (now bytes.exit) r.
-use Rattle.differences.proofs.Pushing.{word_fits, index_fits, numbers_fit, whole_action}
+-- `push_action` of lib.rt meets its contract.
+use mathlib.Core.Path.{sym}
+use mathlib.Core.List.{◌++◌}
+use Rattle.decimal.specs.Decimal.{decimal}
+use Rattle.differences_text.specs.Differences.{pair_text}
+use Rattle.differences_text.specs.Promises.{longest}
+use Rattle.differences.proofs.Keys.{fits_as}
+use Rattle.differences.proofs.Pushing.{put_as, part_fits, rest_fits, parts_put, word, action_line_lem}
 use Rattle.differences.proofs.push_action.Goals as goal
 
-pub push_word-a-requires : goal.push_word-a-requires
-push_word-a-requires c =
+pub push-requires : goal.push-requires
+push-requires c =
     let a = c.args in
-    let at_pre = c.requires in
-    word_fits a.bytes.now a.n a.i a.x a.y (at_pre)
+    part_fits a.text.now word (decimal a.i ++ pair_text a.x a.y) longest (fits_as _ longest (action_line_lem a.i a.x a.y) c.requires)
 
-pub push_number-b-requires : goal.push_number-b-requires
-push_number-b-requires c =
+pub push_number-requires : goal.push_number-requires
+push_number-requires c =
     let a = c.args in
-    let at_pre = c.requires in
-    let at-push-word = c.push_word-a in
-    index_fits a.bytes.now a.n a.i a.x a.y (at_pre) at-push-word.new.bytes at-push-word.result at-push-word.ensures
+    part_fits _ (decimal a.i) (pair_text a.x a.y) longest
+    (rest_fits a.text.now word (decimal a.i ++ pair_text a.x a.y) longest (fits_as _ longest (action_line_lem a.i a.x a.y) c.requires) _ c.push.ensures)
 
 pub push_pair-requires : goal.push_pair-requires
 push_pair-requires c =
     let a = c.args in
-    let at_pre = c.requires in
-    let at-push-word = c.push_word-a in
-    let at-push-number = c.push_number-b in
-    numbers_fit a.bytes.now a.n a.i a.x a.y (at_pre) at-push-word.new.bytes at-push-word.result at-push-word.ensures
-    at-push-number.new.bytes at-push-number.result at-push-number.ensures
+    rest_fits _ (decimal a.i) (pair_text a.x a.y) longest
+    (rest_fits a.text.now word (decimal a.i ++ pair_text a.x a.y) longest (fits_as _ longest (action_line_lem a.i a.x a.y) c.requires) _ c.push.ensures)
+    _ c.push_number.ensures
 
 pub returns : goal.returns
 returns c =
     let a = c.args in
-    let at_pre = c.requires in
-    let at-push-word = c.push_word-a in
-    let at-push-number = c.push_number-b in
-    let at-push-pair = c.push_pair in
-    whole_action a.bytes.now a.n a.i a.x a.y (at_pre) at-push-word.new.bytes at-push-word.result at-push-word.ensures
-    at-push-number.new.bytes at-push-number.result at-push-number.ensures at-push-pair.new.bytes at-push-pair.result at-push-pair.ensures
+    put_as _ _ (sym (action_line_lem a.i a.x a.y)) (parts_put a.text.now word (decimal a.i ++ pair_text a.x a.y) c.push.ensures
+    (parts_put _ (decimal a.i) (pair_text a.x a.y) c.push_number.ensures c.push_pair.ensures))

@@ -1,9 +1,7 @@
 -- `can_declare_draw` of lib.rt meets its contract: r ≡ claim_answer limits (now acts.entry) (now ps.entry) n m.
 use mathlib.Core.Path.{sym, ◌∙◌}
 use mathlib.Core.Bool.{true, false}
-use Rattle.answer.specs.Answer.{accepted}
 use Rattle.game_rules.specs.Limits.{limits}
-use Rattle.game_rules.specs.Rules.{result}
 use Rattle.game_rules.specs.Calls.{log_check, claim_answer}
 use Rattle.game.proofs.Ways as ways
 use Rattle.game.proofs.can_declare_draw.Goals as goal

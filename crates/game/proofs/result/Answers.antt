@@ -1,5 +1,4 @@
 -- `result` of lib.rt meets its contract: r ≡ result_answer limits (now acts.entry) (now ps.entry) n m.
-use Rattle.answer.specs.Answer.{accepted}
 use Rattle.game_rules.specs.Limits.{limits}
 use Rattle.game_rules.specs.Rules.{result}
 use Rattle.game_rules.specs.Good.{history_of}

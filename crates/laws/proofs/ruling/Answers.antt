@@ -1,5 +1,5 @@
 -- `ruling` of lib.rt meets its contract: r ≡ ruling_answer limits (now acts.entry) (now ps.entry) n m.
-use mathlib.Core.Path.{sym, ◌∙◌}
+use mathlib.Core.Path.{◌∙◌}
 use Rattle.laws.proofs.Shown.{ruling_refused, ruling_given}
 use Rattle.laws.proofs.ruling.Goals as goal
 

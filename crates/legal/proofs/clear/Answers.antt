@@ -1,9 +1,8 @@
 -- `clear` of lib.rt meets its contract: r ≡ clear (now squares.entry) s t.
-use mathlib.Core.Path.{◌≡◌, ◌∙◌}
+use mathlib.Core.Path.{◌∙◌}
 use native.Mathlib.Omega.{arith}
-use Prim.Native.Nat.{◌/◌}
 use Rattle.move_laws.specs.Apart.{line_step, clear}
-use Rattle.legal.proofs.Lines.{some_distance, step_under, between_by, lower_by, upper_by}
+use Rattle.legal.proofs.Lines.{some_distance, between_by, lower_by, upper_by}
 use Rattle.legal.proofs.clear.Goals as goal
 
 pub nonzero_div-step : goal.nonzero_div-step

@@ -3,7 +3,7 @@ use mathlib.Core.Path.{◌≡◌, ◌∙◌}
 use native.Mathlib.Omega.{arith}
 use Prim.Native.Nat.{◌%◌}
 use Rattle.move_laws.specs.Legal.{legal_moves}
-use Rattle.legal.proofs.Room.{count_last, room_last, count_start, room_start, counted_under}
+use Rattle.legal.proofs.Room.{count_last, room_last, counted_under}
 use Rattle.legal.proofs.Skipping.{count_skip, room_skip}
 use Rattle.legal.specs.CodeList.{count_from, filled_from}
 use Rattle.legal.proofs.gather.Goals as goal

@@ -5,7 +5,7 @@ use mathlib.Core.Path.{refl, sym, ◌∙◌}
 use lib.ListN.{length}
 use Rattle.answer.specs.Answer.{write_answer, write_bytes}
 use Rattle.move_laws.specs.Legal.{legal_moves, list_check}
-use Rattle.legal.proofs.Listing.{few, many, front, front_length, check_range, check_many, check_few, answer_5, answer_6, bytes_5, bytes_6, answer_0, bytes_0}
+use Rattle.legal.proofs.Listing.{few, many, front, check_range, check_many, check_few, answer_5, answer_6, bytes_5, bytes_6, answer_0, bytes_0}
 use Rattle.legal.proofs.legal_list.Goals as goal
 
 pub returns-then-not-in_range : goal.returns-then-not-in_range

@@ -1,12 +1,11 @@
 -- `put_text` of lib.rt meets its contract: r ≡ at + length (action_text kind colour number); now out.exit ≡ written (now out.entry) at (action_text
 -- kind colour number).
-use mathlib.Core.Path.{refl, ap, ap₂, sym, ◌∙◌}
+use mathlib.Core.Path.{ap, ◌∙◌}
 use native.Mathlib.Omega.{arith}
 use Prim.Native.Nat.{ℕ, ◌+◌}
 use mathlib.Core.List.{List}
 use lib.ListN.{length}
 use Rattle.answer.specs.Parts.{written}
-use Rattle.roll_text.specs.Roll.{action_text}
 use Rattle.roll_text.proofs.Entries.{reach_five}
 use Rattle.roll_writer.proofs.Counting.{code_fits, number_fits, move_end, move_put, plain_is, plain_fits}
 use Rattle.roll_writer.proofs.put_text.Goals as goal

@@ -1,6 +1,6 @@
 -- `is_castling` of text.rt meets its contract: r ≡ castling_in standard (now s.entry) (now castling.entry).
 use mathlib.Core.Path.{◌∙◌}
-use Rattle.san_reader.proofs.Fronts.{castling_paper, castling_split}
+use Rattle.san_reader.proofs.Fronts.{castling_split}
 use Rattle.san_reader.proofs.text.is_castling.Goals as goal
 
 pub returns : goal.returns

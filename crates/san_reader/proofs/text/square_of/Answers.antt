@@ -1,6 +1,6 @@
--- `square_of` of short.rt meets its contract: r ≡ square_at (file_place a) (rank_place b).
+-- `square_of` of text.rt meets its contract: r ≡ square_at (file_place a) (rank_place b).
 use Rattle.san_reader.proofs.Shorts.{square_here, file_low, file_past, rank_low, rank_past}
-use Rattle.san_reader.proofs.short.square_of.Goals as goal
+use Rattle.san_reader.proofs.text.square_of.Goals as goal
 
 pub returns-in-49-to-56 : goal.returns-in-49-to-56
 returns-in-49-to-56 c =
