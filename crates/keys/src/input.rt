@@ -1,5 +1,5 @@
 // Inputs, read page by page and split into lines.
-ghost use Rattle.std.specs.Prelude.{◌+◌, ◌<◌, ◌≤◌, IfSome, length};
+ghost use Rattle.std.specs.Prelude.{◌≡◌, ◌+◌, ◌<◌, ◌≤◌, IfSome, length};
 
 use crate::output::Output;
 use crate::tell;
@@ -89,7 +89,9 @@ impl Pages {
         name: &[u8],
         lines: u64,
         out: &Output<impl Print, impl Print>,
-    ) {
+    )
+        ensures { self.new.held ≡ 0 }
+    {
         let is_cut = self.long || 0 < self.held;
         tell::failed(out.err, name, error);
         tell::stopped(out.err, name, lines, is_cut);
@@ -108,6 +110,14 @@ impl Pages {
         out.flush();
     }
 
+    // What an input before left behind is no part of this one.
+    fn begin(&mut self)
+        ensures { self.new.held ≡ 0 }
+    {
+        self.held = 0; // no byte of this one has come
+        self.long = false;
+    }
+
     // Every line of one input. A proved loop ends, and nothing says that an input does: there are more turns than any input uses up.
     pub(crate) fn put_all(
         &mut self,
@@ -115,8 +125,7 @@ impl Pages {
         name: &[u8],
         out: &mut Output<impl Print, impl Print>,
     ) {
-        self.held = 0;
-        self.long = false;
+        self.begin();
         let before = out.counts().lines();
         for _ in 0..u64::MAX {
             match source.read(&mut self.room[self.held..]) {

@@ -1,5 +1,5 @@
 // The lines that wait for standard output, and the counts of them.
-ghost use Rattle.std.specs.Prelude.{◌+◌, ◌≤◌, length};
+ghost use Rattle.std.specs.Prelude.{◌≡◌, ◌+◌, ◌≤◌, IfErr, length};
 
 use crate::tell;
 use key_line::LONGEST;
@@ -123,7 +123,9 @@ impl<'a, R: Print, E: Print> Output<'a, R, E> {
     }
 
     // Writes what waits: not all of it is taken only if a write failed.
-    fn write_ready(&self) -> Result<(), Cut> {
+    fn write_ready(&self) -> Result<(), Cut>
+        ensures { IfErr result (λ cut. cut.done ≤ self.now.ready) }
+    {
         let mut done: usize = 0;
         // a cursor: each write takes as many bytes as it likes
         while done < self.ready {
@@ -140,7 +142,9 @@ impl<'a, R: Print, E: Print> Output<'a, R, E> {
     }
 
     // Writes what waits, and forgets it.
-    pub(crate) fn flush(&mut self) {
+    pub(crate) fn flush(&mut self)
+        ensures { self.new.ready ≡ 0 }
+    {
         if self.is_open() {
             if let Err(cut) = self.write_ready() {
                 self.fail(cut);

@@ -2,10 +2,15 @@
 -- Assumes nothing.
 use mathlib.Core.Path.{sym, ◌∙◌}
 use Rattle.answer.specs.Determined.{OneAnswer}
+use Rattle.move_list.proofs.over.Reads as over
+use Rattle.move_list.proofs.over.Kinds as over·k
 use Rattle.move_list.proofs.in_range.Reads as in_range_lem
 use Rattle.move_list.proofs.in_range.Kinds as in-range·k
 use Rattle.move_list.proofs.is_listed.Reads as is-listed
 use Rattle.move_list.proofs.is_listed.Kinds as is-listed·k
+
+pub over_answer : OneAnswer over·k.ps over·k.r over.Learnt
+over_answer κs a x y e f p q = p ∙ sym q
 
 pub in_range_answer : OneAnswer in-range·k.ps in-range·k.r in_range_lem.Learnt
 in_range_answer κs a x y e f p q = p ∙ sym q

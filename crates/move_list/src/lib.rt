@@ -3,10 +3,17 @@
 
 ghost use Rattle.std.specs.Prelude.{◌≡◌};
 ghost use Rattle.answer.specs.Numbers.{among};
-ghost use Rattle.move_list.specs.MoveList.{list_in_range};
+ghost use Rattle.move_list.specs.MoveList.{over, list_in_range};
 
 // The most entries that a list may have.
 pub const LONGEST_LIST: usize = 255;
+
+// By how much an entry is over a bound, 0 if it is not.
+pub fn over(x: u16, most: u16) -> u16
+    ensures { result ≡ over x most }
+{
+    x.saturating_sub(most)
+}
 
 // At most 255 entries, each a move's number.
 pub fn in_range(moves: &[u16]) -> bool

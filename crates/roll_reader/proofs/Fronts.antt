@@ -18,7 +18,8 @@ use Rattle.answer.proofs.Bounds.{bound_at}
 use Rattle.board_builder.specs.BoardBuilder.{numbers_in_range}
 use Rattle.roll_text.specs.Number.{Number, read_number}
 use Rattle.roll_text.specs.Roll.{Front, stopped, front, largest_numbers, numbers_text, put_number, one_number, read_numbers}
-use Rattle.roll_reader.specs.CodeWalk.{front_check}
+use Rattle.roll_text.specs.Calls.{front_number}
+use Rattle.roll_reader.specs.CodeWalk.{front_check, stage_number}
 use Rattle.roll_text.proofs.Numbers.{small_one}
 use Rattle.roll_text.proofs.Back.{numbers_back, small_bounds}
 use Rattle.roll_text.proofs.Plain.{start_numbers_lem}
@@ -55,6 +56,12 @@ number_stopped k = refl
 
 err_not_ok : {k : ℕ} → ◌≡◌ {A = Result (Unit {0}) ℕ} (Err k) (Ok tt) → ⊥
 err_not_ok e = let z : ◌≡◌ {A = ℕ} 0 1 = cc in omega arith
+
+-- the number that the calls tell is the stage's own
+pub front_told : (r : Result (Unit {0}) ℕ) (f : Front) → r ≡ front_check f → (r ≡ front_check f) × (stage_number r ≡ front_number f)
+unfolding front_check front_number
+front_told r (stopped k) e = (e, ap stage_number e)
+front_told r (front xs s) e = (e, ap stage_number e)
 
 -- ---- an iteration of the loop over the numbers
 

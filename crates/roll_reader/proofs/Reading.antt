@@ -17,7 +17,8 @@ use Rattle.roll_text.specs.declared.Entry.{Entry}
 use Rattle.roll_text.specs.declared.Entry.TheVariants.{Move, Plain}
 use Rattle.roll_text.specs.Number.{Number, read_number}
 use Rattle.roll_text.specs.Roll.{is_code, moved_by, coded, read_entry, Acts, halted, acts, put_action, next_action, read_actions}
-use Rattle.roll_reader.specs.CodeWalk.{acts_check}
+use Rattle.roll_text.specs.Calls.{acts_number}
+use Rattle.roll_reader.specs.CodeWalk.{acts_check, stage_number}
 use Rattle.roll_text.proofs.Numbers.{number_within}
 use Rattle.roll_text.proofs.Entries.{coded_plain, coded_bad, coded_full, coded_move, moved_small, moved_over, next_move_lem, next_plain}
 use Rattle.roll_text.proofs.Forth as forth
@@ -163,6 +164,12 @@ number_halted k = refl
 pub number_acts : (bs : List ℕ) → acts_check (acts bs) ≡ Ok tt
 unfolding acts_check
 number_acts bs = refl
+
+-- the number that the calls tell is the stage's own
+pub acts_told : (r : Result (Unit {0}) ℕ) (x : Acts) → r ≡ acts_check x → (r ≡ acts_check x) × (stage_number r ≡ acts_number x)
+unfolding acts_check acts_number
+acts_told r (halted k) e = (e, ap stage_number e)
+acts_told r (acts bs) e = (e, ap stage_number e)
 
 -- the first pass, one iteration further
 pub judged_move : (total : Result (Unit {0}) ℕ) (n i left at : ℕ) (s : List ℕ) (move size : ℕ) → MoveTurn (n - i) left at s move size

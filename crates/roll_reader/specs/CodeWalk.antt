@@ -14,6 +14,11 @@ unfoldable pub acts_check : Acts → Result (Unit {0}) ℕ
 acts_check (halted k) = Err k
 acts_check (acts bs) = Ok tt
 
+-- what a stage answers as a number: 0, or its refusal
+abbrev pub stage_number : Result (Unit {0}) ℕ → ℕ
+stage_number (Ok u) = 0
+stage_number (Err k) = k
+
 -- the start with its counters
 abbrev pub start_with : List ℕ → ℕ → ℕ → Start
 start_with s half full = record { numbers = take record_size s; half = half; full = full }

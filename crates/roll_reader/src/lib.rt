@@ -11,8 +11,8 @@ ghost use Rattle.roll_text.specs.Roll.{largest_numbers, read_numbers, read_count
 ghost use Rattle.roll_reader.specs.Checked.{checked};
 ghost use Rattle.roll_reader.specs.CodeShort.{ShortMove};
 ghost use Rattle.roll_reader.specs.CodeStart.{Started};
-ghost use Rattle.roll_reader.specs.CodeWalk.{acts_check, front_check, Accepted};
-ghost use Rattle.roll_text.specs.Calls.{acts_over, is_acts, roll_answer, roll_over, judged_by, judged, judged_old};
+ghost use Rattle.roll_reader.specs.CodeWalk.{acts_check, front_check, stage_number, Accepted};
+ghost use Rattle.roll_text.specs.Calls.{front_number, acts_number, acts_over, is_acts, roll_answer, roll_over, judged_by, judged, judged_old};
 
 use action::ACTION_SIZE;
 use actions::NO_MOVE;
@@ -124,7 +124,8 @@ fn short_move(s: &[u8], at: usize, left: usize) -> u64
 
 // The first pass: what is wrong with the text of `n` actions, if anything is.
 fn judge_actions(s: &[u8], n: usize, most: usize) -> Result<(), u64>
-    ensures { result ≡ acts_check (read_actions n most s.now) }
+    ensures check { result ≡ acts_check (read_actions n most s.now) }
+    ensures number { stage_number result ≡ acts_number (read_actions n most s.now) }
 {
     let mut at: usize = 0;
     let mut left = most;
@@ -210,7 +211,8 @@ fn largest_at(i: usize) -> u64
 
 // What is wrong with a text's record numbers, from the left, if anything is.
 fn judge_numbers(s: &[u8]) -> Result<(), u64>
-    ensures { result ≡ front_check (read_numbers largest_numbers s.now) }
+    ensures check { result ≡ front_check (read_numbers largest_numbers s.now) }
+    ensures number { stage_number result ≡ front_number (read_numbers largest_numbers s.now) }
 {
     for i in 0..RECORD_SIZE {
         let (n, _) = read_number(rest(s, i)).ok_or(BAD_ROLL)?;
@@ -223,7 +225,8 @@ fn judge_numbers(s: &[u8]) -> Result<(), u64>
 
 // The same, in one step if all is well: the numbers of a record in range are one byte each.
 fn judge_record(s: &[u8]) -> Result<(), u64>
-    ensures { result ≡ front_check (read_numbers largest_numbers s.now) }
+    ensures check { result ≡ front_check (read_numbers largest_numbers s.now) }
+    ensures number { stage_number result ≡ front_number (read_numbers largest_numbers s.now) }
 {
     if board_builder::numbers_in_range(front(s, RECORD_SIZE)) {
         return Ok(());

@@ -5,7 +5,7 @@ use mathlib.Core.Path.{◌≡◌, refl, ap, ◌∙◌}
 use mathlib.Core.Bool.{Bool, true, false, cond, not, ◌&&◌, ◌||◌}
 use mathlib.Core.List.{List}
 use native.Mathlib.Omega.{arith}
-use lib.Dec.{eqb}
+use lib.Dec.{eqb, ltb}
 use borrow.Author.Tests.{eq-eqb, ne_eqb, eqb-true}
 use Rattle.std.specs.Prelude.{Some, None}
 use Rattle.board_builder.specs.declared.BoardBuilder.{BoardBuilder}
@@ -22,7 +22,7 @@ use Rattle.san_text.specs.Form.{castled, resolved}
 use Rattle.san_text.specs.Standard.{standard_captures, standard_castles}
 use Rattle.san_text.specs.Forms.{form_of}
 use Rattle.san.specs.CodeFitting.{board_with}
-use Rattle.san.specs.CodeGathered.{kind_fits}
+use Rattle.san.specs.CodeGathered.{number_if, kind_fits, passing, passed}
 
 -- ---- the rules, over what they look at: the form, `x` and the mark in the text; whether the destination is empty, the man a pawn, its file kept; and
 -- whether the text has a file
@@ -96,6 +96,27 @@ unfolding kind_fits
 kind_here pieces t d source e =
     let s : source_of (d * 64 + source % 64) ≡ source_of source = omega arith in
     rw s (eqb-true _ _ e)
+
+-- of up to three sources, the only one that passes
+pub sole_passes : (f : ℕ → Bool) (n x y z : ℕ) → passing f n x y z ≡ 1 → f (passed f n x y z) ≡ true
+sole_passes f n x y z e =
+    go (ltb 0 n && f x) (ltb 1 n && f y) (ltb 2 n && f z) (right (ltb 0 n) (f x)) (right (ltb 1 n) (f y)) (right (ltb 2 n) (f z)) e
+  where
+    right : (a b : Bool) → a && b ≡ true → b ≡ true
+    right true b k = k
+    right false b k =
+        let n : ◌≡◌ {A = ℕ} 0 1 = cc in
+        absurd (omega arith)
+
+    go : (a b c : Bool) → (a ≡ true → f x ≡ true) → (b ≡ true → f y ≡ true) → (c ≡ true → f z ≡ true)
+        → number_if a 1 + number_if b 1 + number_if c 1 ≡ 1 → f (number_if a x + number_if b y + number_if c z) ≡ true
+    go true false false p q r k = let s : x + 0 + 0 ≡ x = omega arith in rw s (p refl)
+    go false true false p q r k = let s : 0 + y + 0 ≡ y = omega arith in rw s (q refl)
+    go false false true p q r k = let s : 0 + 0 + z ≡ z = omega arith in rw s (r refl)
+    go true true c p q r k = absurd (omega arith)
+    go true false true p q r k = absurd (omega arith)
+    go false true true p q r k = absurd (omega arith)
+    go false false false p q r k = absurd (omega arith)
 
 -- ---- of a record only its side and its squares count
 

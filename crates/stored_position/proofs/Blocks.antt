@@ -33,8 +33,8 @@ unfolding all_at_most moves_from
 range_end n s k i h = let e : k - i ≡ 0 = omega arith in rw e
 
 -- the part that a slice from a place on is
-pub part_to_end : (s : List ℕ) (at : ℕ) → length s ≡ position_size → take (position_size - at) (drop at s) ≡ drop at s
-part_to_end s at long = take_all (position_size - at) (drop at s) (rw (length-drop at s) (omega arith))
+pub part_to_end : {n : ℕ} (s : List ℕ) (at : ℕ) → length s ≡ n → take (n - at) (drop at s) ≡ drop at s
+part_to_end {n} s at long = take_all (n - at) (drop at s) (rw (length-drop at s) (omega arith))
 
 -- a list does not fit if what is past it is not 0, and otherwise its moves decide
 module _ (s : List ℕ) (entries : ℕ) where

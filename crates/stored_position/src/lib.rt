@@ -123,7 +123,7 @@ fn moves_in_range(s: &[u8; POSITION_SIZE], entries: usize) -> bool
 {
     let mut above: u16 = 0;
     for i in 0..entries {
-        above |= entry(s, i).saturating_sub(LAST_MOVE as u16);
+        above |= move_list::over(entry(s, i), LAST_MOVE as u16);
     }
     above == 0
 }

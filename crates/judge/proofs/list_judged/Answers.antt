@@ -95,10 +95,11 @@ returns c =
     let few = owed_few at-args.b at-legal-list.result ok at-legal-list.ensures.answer at-if4.false in
     let long : at-legal-list.result.value ≡ length (legal_moves at-args.b) =
     ap (λ (a : Answer). a.value) (owed_answer at-args.b at-legal-list.result ok at-legal-list.ensures.answer few) in
+    let whole : c.min-entries.result ≡ length (legal_moves at-args.b) = omega (arith, c.min-entries.ensures, few, long) in
     rw c.from.ensures at c.judge.ensures
     ∙ ap₂ (λ (x : ℕ) (l : List ℕ). judgement x at-args.in_check l at-args.list.now)
     (owed_byte at-args.b at-in-check.result ok at-in-check.ensures)
-    (owed_room at-args.b _ _ at-legal-list.result.value ok refl few at-legal-list.ensures.bytes long)
+    (owed_room at-args.b _ _ c.min-entries.result ok refl few at-legal-list.ensures.bytes whole)
     ∙ simp (
       ok,
       le-leb _ _ at-if2.false,

@@ -1,11 +1,12 @@
 use mathlib.Core.Path.{◌≡◌, ap, sym, ◌∙◌}
 use native.Mathlib.Omega.{arith}
 use Prim.Native.Nat.{◌-◌}
-use Rattle.std.specs.Prelude.{Ok}
+use Rattle.std.specs.Prelude.{Ok, Err}
 use Rattle.std.proofs.lemmas.Result.{err_from_is_err_and}
 use Rattle.roll_text.specs.Roll.{read_actions}
 use Rattle.roll_reader.specs.CodeWalk.{acts_check}
 use Rattle.roll_reader.proofs.Reading.{move_turn, plain_turn, stop_turn, short_turn, judged_move, judged_plain, judged_end, judged_long, number_halted}
+use Rattle.roll_reader.proofs.Reading.{acts_told}
 use Rattle.roll_reader.proofs.judge_actions.Goals as goal
 use Rattle.roll_reader.proofs.judge_actions.Goals.{in-Move, in-Plain}
 
@@ -69,16 +70,22 @@ returns-in_err-size c =
     let p = err_from_is_err_and c.from_residual.result c.from_residual.ensures.1 in
     let stop = stop_turn (c.args.n - l.counter) l.left l.at c.args.s.now _ _ (omega (arith, c.loop-test.true)) l.invariant.0 c.rest.ensures
     c.read_entry.ensures _ c.in_err-size.was in
-    rw (p.1, p.2) (sym (l.invariant.1 ∙ ap acts_check stop ∙ number_halted _))
+    let a = c.args in
+    let t = acts_told (Err _) (read_actions a.n a.most a.s.now) (sym (l.invariant.1 ∙ ap acts_check stop ∙ number_halted _)) in
+    rw (p.1, p.2) (record { check = t.0; number = t.1 })
 
 pub returns-then-at-s : goal.returns-then-at-s
 returns-then-at-s c =
     let a = c.args in
     let l = c.loop in
-    judged_long (acts_check (read_actions a.n a.most a.s.now)) a.n l.counter l.left l.at a.s.now c.loop-test.false c.if-at-s.true l.invariant.1
+    let x = read_actions a.n a.most a.s.now in
+    let t = acts_told _ x (judged_long (acts_check x) a.n l.counter l.left l.at a.s.now c.loop-test.false c.if-at-s.true l.invariant.1) in
+    record { check = t.0; number = t.1 }
 
 pub returns : goal.returns
 returns c =
     let a = c.args in
     let l = c.loop in
-    judged_end (acts_check (read_actions a.n a.most a.s.now)) a.n l.counter l.left l.at a.s.now c.loop-test.false c.if-at-s.false l.invariant.1
+    let x = read_actions a.n a.most a.s.now in
+    let t = acts_told _ x (judged_end (acts_check x) a.n l.counter l.left l.at a.s.now c.loop-test.false c.if-at-s.false l.invariant.1) in
+    record { check = t.0; number = t.1 }

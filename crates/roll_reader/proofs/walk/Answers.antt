@@ -30,7 +30,7 @@ returns-in_err-judge_actions-clause-refused c =
     let p = err_from_is_err_and c.from_residual-in_err-judge_actions.result c.from_residual-in_err-judge_actions.ensures.1 in
     let j = at_actions a.counted a.s.now _ _ _ _ _ _ _ c.read_start.ensures c.in_ok-half.was c.rest.ensures c.rest-behind.ensures
     c.read_number.ensures _ _ _ c.in_ok-actions.ensures.ok_part c.if-actions.false c.rest-text.ensures in
-    rw (p.1, p.2) (bad_actions _ _ _ _ _ j (sym c.judge_actions.ensures ∙ c.in_err-judge_actions.was))
+    rw (p.1, p.2) (bad_actions _ _ _ _ _ j (sym c.judge_actions.ensures.check ∙ c.in_err-judge_actions.was))
 
 pub returns-clause-accepted : goal.returns-clause-accepted
 returns-clause-accepted c =
@@ -41,5 +41,5 @@ returns-clause-accepted c =
       few = c.if-actions.false;
       reads = at_actions a.counted a.s.now _ _ _ _ _ _ _ c.read_start.ensures c.in_ok-half.was c.rest.ensures c.rest-behind.ensures
           c.read_number.ensures _ _ _ c.in_ok-actions.ensures.ok_part c.if-actions.false c.rest-text.ensures;
-      actions = good_actions _ (sym c.judge_actions.ensures ∙ c.in_ok-judge_actions.was);
+      actions = good_actions _ (sym c.judge_actions.ensures.check ∙ c.in_ok-judge_actions.was);
     }

@@ -17,7 +17,7 @@ loop-i-preserved c =
     let i = c.loop-i.i in
     let above = c.loop-i.above in
     let left = all_at_most last_move (moves_left s entries (i + 1)) in
-    ap (λ (x : ℕ). eqb (bit_or above x) 0 && left) (c.saturating_sub-above.ensures ∙ ap (λ (x : ℕ). x - last_move) c.entry.ensures)
+    ap (λ (x : ℕ). eqb (bit_or above x) 0 && left) (c.over-above.ensures ∙ ap (λ (x : ℕ). x - last_move) c.entry.ensures)
     ∙ range_turn last_move s entries above i c.loop-i-test.true
     ∙ c.loop-i.invariant
 

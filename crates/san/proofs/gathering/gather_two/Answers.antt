@@ -6,8 +6,8 @@ pub returns : goal.returns
 unfolding gather_two
 returns c =
     simp (
-      c.saturating_sub.ensures,
-      c.saturating_sub-2.ensures,
+      c.over.ensures,
+      c.over-2.ensures,
       c.choose-source.ensures,
       c.choose-other.ensures,
       c.choose.ensures,
